@@ -1,0 +1,2 @@
+pub mod HeadBytes
+pub mod EndSteps

@@ -1,0 +1,58 @@
+use Rattle.records.specs.Plan.{planned}
+use Rattle.records.specs.PlanLaws.{limited-long, limited-whole}
+use Rattle.records.specs.Emitted.{emitted-short, emitted-long, emitted-whole, put-record}
+use borrow.Author.Needs.{needs}
+use Rattle.records.proofs.plan.emit_plan.Statement.{statement}
+use Rattle.records.proofs.plan.emit_plan.Tie as tie
+
+returns : tie.Need-returns
+returns c = emitted-short (c .if1 .taken)
+
+measure-plan-requires : tie.Need-measure-plan-requires
+measure-plan-requires c κs = search needs
+
+returns-2 : tie.Need-returns-2
+returns-2 c =
+    let start = c .before .before .before .before .before .before .before in
+    emitted-long (c .before .before .if1 .left) (limited-long (start .pre) (c .before .measure-plan .ensures) (c .if2 .taken))
+
+sub-put-word : tie.Need-sub-put-word
+sub-put-word c = search needs
+
+put-word-requires : tie.Need-put-word-requires
+put-word-requires c κs = search needs
+
+put-byte-requires : tie.Need-put-byte-requires
+put-byte-requires c κs = search needs
+
+put-body-requires : tie.Need-put-body-requires
+put-body-requires c κs = search needs
+
+same-length : tie.Need-same-length
+same-length c = search needs
+
+returns-3 : tie.Need-returns-3
+unfolding planned
+returns-3 c =
+    let body = c .before .before in
+    let version = body .before .before .before .before in
+    let field = version .before .before .before .before in
+    let fits = field .before .before in
+    let start = fits .before .before .before .before .before .before .before in
+    let e = limited-whole (start .pre) (fits .before .measure-plan .ensures) (fits .if2 .left) in
+    let put = put-record e (field .put-word .ensures) (version .put-byte .ensures) (body .put-body .ensures) in
+    emitted-whole (fits .before .before .if1 .left) (rw e at (fits .if2 .left)) put
+
+pub emit-plan-spec : {M : Type 1} → statement M
+emit-plan-spec =
+    tie.close
+    (tie.spec
+    returns
+    measure-plan-requires
+    returns-2
+    sub-put-word
+    put-word-requires
+    put-byte-requires
+    put-body-requires
+    same-length
+    returns-3)

@@ -1,0 +1,19 @@
+use native.Mathlib.Omega.{arith}
+use Rattle.records.specs.Range.{size}
+use borrow.Author.Needs.{needs}
+use Rattle.records.proofs.plan.measure_range.Statement.{statement}
+use Rattle.records.proofs.plan.measure_range.Tie as tie
+
+limit-requires : tie.Need-limit-requires
+limit-requires c κs = search needs
+
+returns : tie.Need-returns
+unfolding size
+returns c = omega arith
+
+returns-2 : tie.Need-returns-2
+unfolding size
+returns-2 c = omega arith
+
+pub measure-range-spec : {M : Type 1} → statement M
+measure-range-spec = tie.close (tie.spec limit-requires returns returns-2)

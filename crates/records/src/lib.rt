@@ -1,0 +1,6 @@
+// Records: what the desk's bytes say, and how they are written.
+pub mod ends;
+pub mod gate;
+pub mod heads;
+pub mod plan;
+pub mod put;

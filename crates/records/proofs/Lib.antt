@@ -1,2 +1,3 @@
 pub mod HeadBytes
 pub mod EndSteps
+pub mod WalkArms

@@ -23,3 +23,4 @@ pub mod Range
 pub mod Plan
 pub mod Emitted
 pub mod PlanLaws
+pub mod Steps

@@ -4,3 +4,4 @@ pub mod gate;
 pub mod heads;
 pub mod plan;
 pub mod put;
+pub mod walk;

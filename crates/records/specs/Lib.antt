@@ -24,3 +24,4 @@ pub mod Plan
 pub mod Emitted
 pub mod PlanLaws
 pub mod Steps
+pub mod Stands

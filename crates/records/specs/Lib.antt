@@ -25,3 +25,12 @@ pub mod Emitted
 pub mod PlanLaws
 pub mod Steps
 pub mod Stands
+pub mod Bools
+pub mod Top
+pub mod Sets
+pub mod SetLaws
+pub mod MarkLaws
+pub mod VariableLaws
+pub mod Rows
+pub mod Kept
+pub mod ItemsKept

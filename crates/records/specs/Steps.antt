@@ -120,6 +120,36 @@ pub ended-before : (x : Node) (w : Walk) → ended (before x w) ≡ ended w
 ended-before x off = refl
 ended-before x (on l e) = refl
 
+-- what a step does to the walk from c on
+module _ (s : List ℕ) (known : Known s) (c : Cursor) (h : On (walk-from s c)) {r : Step} (is : r ≡ next-step s (c .pos) (c .terms) (c .goals)) where
+  pub record To (d : Cursor) : Type 0 where
+    pub through : On (walk-from s d)
+    pub end : ended (walk-from s c) ≡ ended (walk-from s d)
+    pub forth : c .pos < d .pos
+    pub within : d .pos ≤ length s
+
+  reaches : (x : Node) (d : Cursor) → walk-from s c ≡ before x (walk-from s d) → c .pos < d .pos → To d
+  reaches x d e z =
+      let y : On (walk-from s d) = on-before x (walk-from s d) (rw e at h) in
+      let q : ended (walk-from s c) ≡ ended (walk-from s d) = ap ended e ∙ ended-before x (walk-from s d) in
+      let b = on-bound s known (d .pos) (d .terms) (d .goals) y in
+      let b′ = on-bound s known (c .pos) (c .terms) (c .goals) h in
+      record { through = y; end = q; forth = z; within = omega arith }
+
+  pub to-variable : {v : ℕ} {d : Cursor} → r ≡ Met v d → To d × (met (walk-from s c) ≡ v ∷ met (walk-from s d)) × (v < 65536)
+  to-variable {v} {d} e =
+      let y = goes s known (c .pos) (c .terms) (c .goals) h is (Met v d) e in
+      let t = reaches (variable v) d (y .0) (y .1) in
+      (t, ap met (y .0) ∙ met-variable v (walk-from s d) (t .through), y .2)
+
+  pub to-other : {d : Cursor} → r ≡ Other d → To d × (met (walk-from s c) ≡ met (walk-from s d))
+  to-other {d} e =
+      let y = goes s known (c .pos) (c .terms) (c .goals) h is (Other d) e in
+      (reaches (other (y .0 .0)) d (y .0 .1) (y .1), ap met (y .0 .1) ∙ met-other (y .0 .0) (walk-from s d))
+
+  pub to-end : r ≡ Done → (met (walk-from s c) ≡ []) × (ended (walk-from s c) ≡ c .pos)
+  to-end e = let y = goes s known (c .pos) (c .terms) (c .goals) h is Done e in (ap met y, ap ended y)
+
 -- the laws of a walker with an accumulator: `along f a l` is what becomes of a over the variables of l
 abbrev pub along : {A : Type 0} → (A → ℕ → A) → A → List ℕ → A
 along f a [] = a
@@ -136,48 +166,19 @@ underway-start f s c a h = record { through = h; same-end = refl; same-value = r
 
 module _ {A : Type 0} {f : A → ℕ → A} (s : List ℕ) (known : Known s) {w : Walk} {a₀ : A} {c : Cursor} {a : A} (u : Underway f s w a₀ c a) {r : Step} (is : r ≡ next-step s (c .pos) (c .terms) (c .goals)) where
   pub underway-variable : {v : ℕ} {d : Cursor} → r ≡ Met v d → Underway f s w a₀ d (f a v)
-  underway-variable {v} {d} e =
-      let y = goes s known (c .pos) (c .terms) (c .goals) (u .through) is (Met v d) e in
-      let h : On (walk-from s d) = on-before (variable v) (walk-from s d) (rw (y .0) at (u .through)) in
-      record {
-        through = h;
-        same-end = u .same-end ∙ ap ended (y .0) ∙ ended-before (variable v) (walk-from s d);
-        same-value = u .same-value ∙ ap (λ (x : Walk). along f a (met x)) (y .0) ∙ ap (along f a) (met-variable v (walk-from s d) h);
-      }
+  underway-variable e =
+      let y = to-variable s known c (u .through) is e in
+      record { through = y .0 .through; same-end = u .same-end ∙ y .0 .end; same-value = u .same-value ∙ ap (along f a) (y .1) }
 
   pub underway-other : {d : Cursor} → r ≡ Other d → Underway f s w a₀ d a
-  underway-other {d} e =
-      let y = goes s known (c .pos) (c .terms) (c .goals) (u .through) is (Other d) e in
-      let x = y .0 .0 in
-      record {
-        through = on-before (other x) (walk-from s d) (rw (y .0 .1) at (u .through));
-        same-end = u .same-end ∙ ap ended (y .0 .1) ∙ ended-before (other x) (walk-from s d);
-        same-value = u .same-value ∙ ap (λ (z : Walk). along f a (met z)) (y .0 .1) ∙ ap (along f a) (met-other x (walk-from s d));
-      }
+  underway-other e =
+      let y = to-other s known c (u .through) is e in
+      record { through = y .0 .through; same-end = u .same-end ∙ y .0 .end; same-value = u .same-value ∙ ap (along f a) (y .1) }
 
   pub underway-done : r ≡ Done → (along f a₀ (met w) ≡ a) × (ended w ≡ c .pos)
   underway-done e =
-      let y = goes s known (c .pos) (c .terms) (c .goals) (u .through) is Done e in
-      (u .same-value ∙ ap (λ (z : Walk). along f a (met z)) y, u .same-end ∙ ap ended y)
-
-  -- the bytes left fall
-  pub underway-less : {v : ℕ} {d : Cursor} → r ≡ Met v d → (c .pos < d .pos) × (d .pos ≤ length s) × (v < 65536)
-  underway-less {v} {d} e =
-      let y = goes s known (c .pos) (c .terms) (c .goals) (u .through) is (Met v d) e in
-      let h : On (walk-from s d) = on-before (variable v) (walk-from s d) (rw (y .0) at (u .through)) in
-      let b = on-bound s known (d .pos) (d .terms) (d .goals) h in
-      let b′ = on-bound s known (c .pos) (c .terms) (c .goals) (u .through) in
-      let x : ended (walk-from s c) ≡ ended (walk-from s d) = ap ended (y .0) ∙ ended-before (variable v) (walk-from s d) in
-      (y .1, omega arith, y .2)
-
-  pub underway-less-other : {d : Cursor} → r ≡ Other d → (c .pos < d .pos) × (d .pos ≤ length s)
-  underway-less-other {d} e =
-      let y = goes s known (c .pos) (c .terms) (c .goals) (u .through) is (Other d) e in
-      let h : On (walk-from s d) = on-before (other (y .0 .0)) (walk-from s d) (rw (y .0 .1) at (u .through)) in
-      let b = on-bound s known (d .pos) (d .terms) (d .goals) h in
-      let b′ = on-bound s known (c .pos) (c .terms) (c .goals) (u .through) in
-      let x : ended (walk-from s c) ≡ ended (walk-from s d) = ap ended (y .0 .1) ∙ ended-before (other (y .0 .0)) (walk-from s d) in
-      (y .1, omega arith)
+      let y = to-end s known c (u .through) is e in
+      (u .same-value ∙ ap (along f a) (y .0), u .same-end ∙ y .1)
 
 -- one more than the greatest variable, or 0
 abbrev pub raised : ℕ → ℕ → ℕ

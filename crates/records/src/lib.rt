@@ -4,4 +4,6 @@ pub mod gate;
 pub mod heads;
 pub mod plan;
 pub mod put;
+pub mod rules;
+pub mod sets;
 pub mod walk;

@@ -1,4 +1,4 @@
-use Rattle.records.specs.Steps.{Underway, raised, walk-from, underway-start, underway-variable, underway-other, underway-done, underway-less, underway-less-other}
+use Rattle.records.specs.Steps.{Underway, raised, walk-from, underway-start, underway-variable, underway-other, underway-done, to-variable, to-other}
 use lib.ListN.{length}
 use mathlib.Core.Path.{sym}
 use native.Mathlib.Omega.{arith}
@@ -31,11 +31,11 @@ enum-known-v c = search needs
 
 -- src/walk.rt:117:17
 raise-requires : tie.Need-raise-requires Inv-loop μ-loop
-raise-requires c κs = underway-less _ (c .before .before .before .before .before .shared-slice-known .given) (c .before .before .before .before .loop .inv) (c .before .before .before .walk-step .ensures) (c .before .v .given .1) .2
+raise-requires c κs = to-variable _ (c .before .before .before .before .before .shared-slice-known .given) _ (c .before .before .before .before .loop .inv .through) (c .before .before .before .walk-step .ensures) (c .before .v .given .1) .2
 
 -- src/walk.rt:114:5
 loop-less : tie.Need-loop-less Inv-loop μ-loop
-loop-less c = omega (arith, underway-less _ (c .before .before .before .before .before .before .shared-slice-known .given) (c .before .before .before .before .before .loop .inv) (c .before .before .before .before .walk-step .ensures) (c .before .before .v .given .1))
+loop-less c = omega (arith, to-variable _ (c .before .before .before .before .before .before .shared-slice-known .given) _ (c .before .before .before .before .before .loop .inv .through) (c .before .before .before .before .walk-step .ensures) (c .before .before .v .given .1) .0)
 
 -- src/walk.rt:114:5
 loop-again : tie.Need-loop-again Inv-loop μ-loop
@@ -47,7 +47,7 @@ enum-known-d c = search needs
 
 -- src/walk.rt:114:5
 loop-less-2 : tie.Need-loop-less-2 Inv-loop μ-loop
-loop-less-2 c = omega (arith, underway-less-other _ (c .before .before .before .before .before .shared-slice-known .given) (c .before .before .before .before .loop .inv) (c .before .before .before .walk-step .ensures) (c .before .d .given .1))
+loop-less-2 c = omega (arith, to-other _ (c .before .before .before .before .before .shared-slice-known .given) _ (c .before .before .before .before .loop .inv .through) (c .before .before .before .walk-step .ensures) (c .before .d .given .1) .0)
 
 -- src/walk.rt:114:5
 loop-again-2 : tie.Need-loop-again-2 Inv-loop μ-loop

@@ -1,0 +1,17 @@
+use mathlib.Core.Path.{ap}
+use lib.Bits.{bitOr}
+use borrow.Author.Needs.{needs}
+use Rattle.records.specs.Sets.{with-variable}
+use Rattle.records.specs.SetLaws.{one-shl}
+use Rattle.records.proofs.sets.with_variable.Statement.{statement}
+use Rattle.records.proofs.sets.with_variable.Tie as tie
+
+shl-result : tie.Need-shl-result
+shl-result c = search needs
+
+returns : tie.Need-returns
+unfolding with-variable
+returns c = ap (bitOr (c .args .set)) (one-shl (c .args .x) (c .pre))
+
+pub with-variable-spec : {M : Type 1} → statement M
+with-variable-spec = tie.close (tie.spec shl-result returns)

@@ -136,6 +136,7 @@ module _ (s : List ℕ) (at : ℕ) where
         moved : (ts : Terms) (k : ℕ) (o : Read Parts) → e ≡ at + k → place at (also (with-terms ts) k o) ≡ place e o
         moved ts k unread h = refl
         moved ts k (found p m) h = ap At (omega arith)
+
         go : (p : Parts) (m : ℕ) → e ≡ at + m → Sound (drop at s) t zero p m → place at (read (drop at s) (t + n) g) ≡ place e (read (drop e s) n g)
         go (parts ts (a ∷ gs)) m h v = absurd (omega (arith, v .goals))
         go (parts ts []) m h v =
@@ -153,10 +154,10 @@ module _ (s : List ℕ) (at : ℕ) where
             let v = sound (drop at s) (t + n) g p m h in
             let f = formed-split t (terms-of p) (v .formed bytes-at .0) in
             let b : drop at s ≡ terms-bytes (front t (terms-of p)) ++ (terms-bytes (back t (terms-of p)) ++ (each goal-bytes (goals-of p) ++ drop m (drop at s))) =
-                v .bytes bytes-at ∙ rw (bytes-split t (terms-of p)) (simp append-assoc) in
+            v .bytes bytes-at ∙ rw (bytes-split t (terms-of p)) (simp append-assoc) in
             let c = complete-terms (front t (terms-of p)) (f .0) zero zero (terms-bytes (back t (terms-of p)) ++ (each goal-bytes (goals-of p) ++ drop m (drop at s))) in
             let r : read (drop at s) t zero ≡ also (with-terms (front t (terms-of p))) (length (terms-bytes (front t (terms-of p)))) (found (parts nil []) 0) =
-                rw (b) (rw (front-arity t n (terms-of p) (v .terms), add-zero, read-done) at c) in
+            rw (b) (rw (front-arity t n (terms-of p) (v .terms), add-zero, read-done) at c) in
             no-place (sym q ∙ end-read s at t zero ∙ ap (place at) r)
 
 -- what follows a goal's own head and terms: from where on, and how many goals the head announced

@@ -65,15 +65,18 @@ port-exact = record { complete = whole; sound = λ l b p n e. back l p n e }
     whole exit h s = refl
     whole fail h s = refl
     whole redo h s = refl
+
     of : (b : ℕ) (l : List ℕ) (q p : Port) (n : ℕ) → b ≡ port-byte q → found q 1 ≡ found p n → Laid port-bytes (λ _. Unit {0}) (b ∷ l) p n
     of b l q p n e z =
         let a1 : q ≡ p = cc in
         let a2 : 1 ≡ n = cc in
         rw (← a1, ← a2) (record { formed = tt; size = refl; front = ap (λ (c : ℕ). c ∷ l) e })
+
     test : (b k : ℕ) (l : List ℕ) (q : Port) (o : Read Port) (p : Port) (n : ℕ) → port-byte q ≡ k → (o ≡ found p n → Laid port-bytes (λ _. Unit {0}) (b ∷ l) p n)
         → pick (eqb b k) (found q 1) o ≡ found p n → Laid port-bytes (λ _. Unit {0}) (b ∷ l) p n
     test b k l q o p n h f =
         by-test (λ r. r ≡ found p n → Laid port-bytes (λ _. Unit {0}) (b ∷ l) p n) (eqb b k) (found q 1) o (λ e. of b l q p n (eqb-true b k e ∙ sym h)) (λ _. f)
+
     back : (l : List ℕ) (p : Port) (n : ℕ) → read-port l ≡ found p n → Laid port-bytes (λ _. Unit {0}) l p n
     back [] p n e = nothing e
     back (b ∷ l) p n e = test b 1 l call _ p n refl (test b 2 l exit _ p n refl (test b 3 l fail _ p n refl (test b 4 l redo unread p n refl nothing))) e
@@ -87,5 +90,6 @@ event-exact = record {
   where
     made : (p : Port) (f : Frame) → Unit {0} → FrameFormed f → (event-bytes (with-port p f) ≡ port-bytes p ++ frame-bytes f) × EventFormed (with-port p f)
     made p (frame g (stacks u s)) x h = (refl, (h .0, h .1 .0, h .1 .1))
+
     whole : (a : Event) → EventFormed a → (s : List ℕ) → read-event-bytes (event-bytes a ++ s) ≡ found a (length (event-bytes a))
     whole (event p g u v) h s = after-complete with-port read-port read-frame port-exact frame-exact p (frame g (stacks u v)) tt (h .0, (h .1, h .2)) (event-bytes (event p g u v)) refl s

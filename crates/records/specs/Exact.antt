@@ -103,6 +103,7 @@ ancestor-exact = record { complete = whole; sound = λ l b a n e. back l b (ance
         rw (tag-is d, half-tag d, read-on 0 2 (parts nil (x ∷ y ∷ [])) s (goal-bytes x ++ goal-bytes y) (refl, refl, tt, (h .0, (h .1, tt))) (simp append-nil)) (ap (found (in-conj d x y)) (omega arith))
     whole (in-disj d x y) h s =
         rw (tag-is d, half-tag d, read-on 0 2 (parts nil (x ∷ y ∷ [])) s (goal-bytes x ++ goal-bytes y) (refl, refl, tt, (h .0, (h .1, tt))) (simp append-nil)) (ap (found (in-disj d x y)) (omega arith))
+
     back : (l : List ℕ) → Bytes l → (i : AncestorHead) → AncestorLead l i → (a : Ancestor) (n : ℕ) → ancestor-by i l ≡ found a n → Laid ancestor-bytes AncestorFormed l a n
     back l b (Called p k) q =
         also-laid (0x15 ∷ (word p ++ (k ∷ []))) (λ w. called p (terms-of w)) (λ m. read m k 0) l (q .0) (parts-exact k 0) b
@@ -122,6 +123,7 @@ binding-exact = record { complete = whole; sound = λ l b a n e. back l b (word-
     whole : (a : Binding) → BindingFormed a → (s : List ℕ) → read-binding (binding-bytes a ++ s) ≡ found a (length (binding-bytes a))
     whole (bind v t) h s =
         rw (joined-word v (h .0), read-on 1 0 (parts (cons t nil) []) s (term-bytes t) (refl, refl, (h .1, tt), tt) (simp append-nil)) (ap (found (bind v t)) (omega arith))
+
     back : (l : List ℕ) → Bytes l → (i : Word) → WordLead l i → (a : Binding) (n : ℕ) → binding-by i l ≡ found a n → Laid binding-bytes BindingFormed l a n
     back l b (Number v) q =
         also-laid (word v) (λ w. bind v (first-term w)) (λ m. read m 1 0) l (q .0) (parts-exact 1 0) b (λ w h. let u = one-term w h in (ap (λ (x : List ℕ). word v ++ x) (sym (u .0)), (q .1, u .1)))
@@ -135,6 +137,7 @@ bet-exact = record { complete = whole; sound = λ l b a n e. back l b (bet-head 
     whole (unifier bs) h s = rw (joined-word (length bs) (h .0), many-exact binding-exact (length bs) .complete bs (refl, h .1) s) (ap (found (unifier bs)) (omega arith))
     whole (or d) h s = rw (tag-is d, half-tag d)
     whole (by g) h s = rw (read-on 0 1 (parts nil (g ∷ [])) s (goal-bytes g) (refl, refl, tt, (h, tt)) (simp append-nil)) (ap (found (by g)) (omega arith))
+
     back : (l : List ℕ) → Bytes l → (i : BetHead) → BetLead l i → (a : Bet) (n : ℕ) → bet-by i l ≡ found a n → Laid bet-bytes BetFormed l a n
     back l b (Unifier n) q =
         also-laid (0x20 ∷ word n) unifier (many read-binding n) l (q .0) (many-exact binding-exact n) b
@@ -154,6 +157,7 @@ definition-exact = record { complete = whole; sound = λ l b a n e. back l b (de
     whole : (a : Definition) → DefinitionFormed a → (s : List ℕ) → read-definition (definition-bytes a ++ s) ≡ found a (length (definition-bytes a))
     whole (definition p k n g) h s =
         rw (le-leb k 16 (h .1), joined-word p (h .0), read-on 0 1 (parts nil (g ∷ [])) s (goal-bytes g) (refl, refl, tt, (h .3, tt)) (simp append-nil)) (ap (found (definition p k n g)) (omega arith))
+
     back : (l : List ℕ) → Bytes l → (i : Signature) → DefinitionLead l i → (a : Definition) (n : ℕ) → definition-by i l ≡ found a n → Laid definition-bytes DefinitionFormed l a n
     back l b (Predicate p k n) q =
         also-laid (word p ++ (k ∷ (n ∷ []))) (λ w. definition p k n (first-goal w)) (λ m. read m 0 1) l (q .0) (parts-exact 0 1) b
@@ -168,10 +172,12 @@ clause-exact = record { complete = whole; sound = λ l b a n e. back l b (clause
     whole (clause p v ts g) h s =
         rw (le-leb (arity ts) 16 (h .1), le-leb v 64 (h .2), joined-word p (h .0), read-on (arity ts) 1 (parts ts (g ∷ [])) s (terms-bytes ts ++ goal-bytes g) (refl, refl, h .3, (h .4, tt)) (simp append-nil))
         (ap (found (clause p v ts g)) (omega arith))
+
     back : (l : List ℕ) → Bytes l → (i : Signature) → ClauseLead l i → (a : Clause) (n : ℕ) → clause-by i l ≡ found a n → Laid clause-bytes ClauseFormed l a n
     back l b (Predicate p k v) q =
         also-laid (word p ++ (k ∷ (v ∷ []))) (λ w. clause p v (terms-of w) (first-goal w)) (λ m. read m k 1) l (q .0) (parts-exact k 1) b
-        (λ w h. let u = one-goal k w h in
-            (ap (λ (n : ℕ). word p ++ (n ∷ (v ∷ (terms-bytes (terms-of w) ++ goal-bytes (first-goal w))))) (h .0) ∙ ap (λ (x : List ℕ). word p ++ (k ∷ (v ∷ x))) (sym (u .0)),
-            (q .1, rw (h .0) (q .2), q .3, h .2, u .1)))
+        (λ w h. let u = one-goal k w h in (
+          ap (λ (n : ℕ). word p ++ (n ∷ (v ∷ (terms-bytes (terms-of w) ++ goal-bytes (first-goal w))))) (h .0) ∙ ap (λ (x : List ℕ). word p ++ (k ∷ (v ∷ x))) (sym (u .0)),
+          (q .1, rw (h .0) (q .2), q .3, h .2, u .1),
+        ))
     back l b NoPredicate q = λ a n e. nothing e

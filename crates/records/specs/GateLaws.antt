@@ -53,9 +53,11 @@ frame-of (x ∷ []) h p q = let y : _≡_ {A = ℕ} 0 1 = cc in absurd (omega ar
 frame-of (x ∷ y ∷ []) h p q = let y : _≡_ {A = ℕ} 0 1 = cc in absurd (omega arith)
 frame-of (x ∷ y ∷ z ∷ l) h p q =
     let w = both (leb (length (x ∷ y ∷ z ∷ l)) 32768) (eqb (joined x y) (length (z ∷ l))) p in
-    let e : joined x y ≡ length (x ∷ y ∷ z ∷ l) - 2 = omega (arith, eqb-true (joined x y) (length (z ∷ l)) (w .1)) in
-    (word-joined x y (h .0) (h .1 .0) (z ∷ l) ∙ ap (λ (n : ℕ). word n ++ (z ∷ l)) e ∙ ap (λ (v : ℕ). word (length (x ∷ y ∷ z ∷ l) - 2) ++ (v ∷ l)) (eqb-true z 1 q),
-    omega arith, leb-true _ _ (w .0))
+    let e : joined x y ≡ length (x ∷ y ∷ z ∷ l) - 2 = omega (arith, eqb-true (joined x y) (length (z ∷ l)) (w .1)) in (
+      word-joined x y (h .0) (h .1 .0) (z ∷ l) ∙ ap (λ (n : ℕ). word n ++ (z ∷ l)) e ∙ ap (λ (v : ℕ). word (length (x ∷ y ∷ z ∷ l) - 2) ++ (v ∷ l)) (eqb-true z 1 q),
+      omega arith,
+      leb-true _ _ (w .0),
+    )
 
 module _ {A : Type 0} {bytes : A → List ℕ} {Formed : A → Type 0} {r : Reader A} (w : Exact bytes Formed r) (kept : A → Bool) where
   judged-tree : (s : List ℕ) → Bytes s → (s ≡ word (length s - 2) ++ (1 ∷ drop 3 s)) × (3 ≤ length s) × (length s ≤ 32768) → (o : Read A) → r (drop 3 s) ≡ o

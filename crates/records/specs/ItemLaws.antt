@@ -50,6 +50,7 @@ parts-exact t g = record { complete = whole; sound = λ l b p n e. back l b p n 
     whole (parts ts gs) h s =
         rw (append-assoc, ← h .0, ← h .1, ← add-zero (arity ts), complete-terms ts (h .2) zero (length gs) (each goal-bytes gs ++ s), goals-complete gs (h .3) s, join-nil ts gs)
         (ap (found (parts ts gs)) (sym (length-append (terms-bytes ts) (each goal-bytes gs))))
+
     back : (l : List ℕ) → Bytes l → (p : Parts) (n : ℕ) → Sound l t g p n → Laid parts-bytes (PartsFormed t g) l p n
     back l b p n s = record { formed = (s .terms, s .goals, s .formed b .0, s .formed b .1); size = s .size; front = s .bytes b }
 
@@ -109,6 +110,7 @@ module _ {A : Type 0} {bytes : A → List ℕ} {Formed : A → Type 0} {r : Read
       none-complete : (xs : List A) → Row Formed 0 xs → (s : List ℕ) → many r 0 (each bytes xs ++ s) ≡ found xs (length (each bytes xs))
       none-complete [] h s = refl
       none-complete (a ∷ xs) h s = absurd (omega (arith, h .0))
+
       none-sound : (l : List ℕ) (xs : List A) (n : ℕ) → found [] 0 ≡ found xs n → Laid (each bytes) (Row Formed 0) l xs n
       none-sound l xs n e =
           let p : _≡_ {A = List A} [] xs = cc in
@@ -126,6 +128,7 @@ module _ {A : Type 0} {bytes : A → List ℕ} {Formed : A → Type 0} {r : Read
     where
       whole : (xs : List A) → Counted Formed xs → (s : List ℕ) → read-counted r (counted bytes xs ++ s) ≡ found xs (length (counted bytes xs))
       whole xs h s = rw (joined-word (length xs) (h .0), many-exact (length xs) .complete xs (refl, h .1) s) (ap (found xs) (omega arith))
+
       back : (l : List ℕ) → Bytes l → (k : Word) → WordLead l k → (xs : List A) (m : ℕ) → counted-by r k l ≡ found xs m → Laid (counted bytes) (Counted Formed) l xs m
       back l h (Number n) q xs m e =
           also-laid (word n) (λ x. x) (many r n) l (q .0) (many-exact n) h (λ b v. (ap (λ (k : ℕ). word k ++ each bytes b) (v .0), (rw (v .0) (q .1), v .1))) xs m e
@@ -138,6 +141,7 @@ term-exact = record { complete = λ t h s. whole t h s; sound = λ l b t n e. ba
   where
     whole : (t : Term) → TermFormed t → (s : List ℕ) → read-term (term-bytes t ++ s) ≡ found t (length (term-bytes t))
     whole t h s = rw (complete-term t h 0 0 s, read-done) (ap (found t) (omega arith))
+
     back : (l : List ℕ) → Bytes l → (o : Read Parts) → read l 1 0 ≡ o → (t : Term) (n : ℕ) → made first-term o ≡ found t n → Laid term-bytes TermFormed l t n
     back l b unread p t n e = let y : _≡_ {A = ℕ} 0 1 = cc in absurd (omega arith)
     back l b (found (parts nil gs) m) p t n e = absurd (omega (arith, sound l 1 0 (parts nil gs) m p .terms))
@@ -155,6 +159,7 @@ goal-exact = record { complete = λ a h s. whole a h s; sound = λ l b a n e. ba
   where
     whole : (a : Goal) → GoalFormed a → (s : List ℕ) → read-goal (goal-bytes a ++ s) ≡ found a (length (goal-bytes a))
     whole a h s = rw (complete-goal a h 0 s, read-done) (ap (found a) (omega arith))
+
     back : (l : List ℕ) → Bytes l → (o : Read Parts) → read l 0 1 ≡ o → (a : Goal) (n : ℕ) → made first-goal o ≡ found a n → Laid goal-bytes GoalFormed l a n
     back l b unread p a n e = let y : _≡_ {A = ℕ} 0 1 = cc in absurd (omega arith)
     back l b (found (parts (cons t ts) gs) m) p a n e = absurd (omega (arith, sound l 0 1 (parts (cons t ts) gs) m p .terms))

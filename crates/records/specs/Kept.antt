@@ -174,6 +174,7 @@ module _ (s : List ℕ) (at : ℕ) where
       by-goal : (o : Read Parts) → holds bet-rules (also (λ q. Bet.by (first-goal q)) 1 o) ≡ true
       by-goal unread = refl
       by-goal (found p m) = refl
+
       go : (j : BetHead) → ((n : ℕ) → j ≡ Unifier n → ⊥) → holds bet-rules (bet-by j (drop at s)) ≡ true
       go (Unifier n) h = absurd (h n refl)
       go (Or k) h = refl

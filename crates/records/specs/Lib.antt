@@ -34,3 +34,4 @@ pub mod VariableLaws
 pub mod Rows
 pub mod Kept
 pub mod ItemsKept
+pub mod GateEnds

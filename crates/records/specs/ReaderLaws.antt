@@ -106,7 +106,7 @@ complete-goal truth h n s = read-node (0x10 ∷ s) zero (suc n)
 complete-goal failure h n s = read-node (0x11 ∷ s) zero (suc n)
 complete-goal (equal t u) h n s =
     let e : read ((term-bytes t ++ term-bytes u) ++ s) 2 n ≡ also (with-terms (cons t (cons u nil))) (length (term-bytes t) + length (term-bytes u)) (read s zero n) =
-        rw (append-assoc, complete-term t (h .0) 1 n (term-bytes u ++ s), complete-term u (h .1) 0 n s) (also-twice _ _ _ _ _ _ refl (λ p. refl) (read s zero n)) in
+    rw (append-assoc, complete-term t (h .0) 1 n (term-bytes u ++ s), complete-term u (h .1) 0 n s) (also-twice _ _ _ _ _ _ refl (λ p. refl) (read s zero n)) in
     rw (read-node, e) (also-twice _ _ _ 1 _ _ (simp length-append (omega arith)) (equal-over t u) (read s zero n))
 complete-goal (conj a b) h n s =
     rw (read-node, append-assoc, complete-goal a (h .0) (suc n) (goal-bytes b ++ s), complete-goal b (h .1) n s) (pair-read conj a b 0x13 (read s zero n))

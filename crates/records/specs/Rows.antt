@@ -115,6 +115,7 @@ kept-after f ra rb kept second s at e q h = go (ra (drop at s)) h
     step : (a : _) (n : ℕ) (o : Read _) → holds kept (also (f a) n o) ≡ holds second o
     step a n unread = refl
     step a n (found b m) = q a b
+
     go : (o : Read _) → place at o ≡ At e → holds kept (after f o rb (drop at s)) ≡ holds second (rb (drop e s))
     go unread x = let y : _≡_ {A = ℕ} 0 1 = cc in absurd (omega arith)
     go (found a n) x =

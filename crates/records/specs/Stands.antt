@@ -105,8 +105,8 @@ pub walk-terms : {s : List ℕ} {at e : ℕ} (ts : Terms) → TermsFormed ts →
 unfolding walk
 walk-terms {s} {at} {e} ts f h =
     let r : read (drop at s) (arity ts) 0 ≡ found (parts ts []) (length (terms-bytes ts)) =
-        ap (λ (l : List ℕ). read l (arity ts) 0) (h .bytes ∙ ap (λ (x : List ℕ). x ++ drop e s) (sym (append-nil (terms-bytes ts))))
-        ∙ parts-exact (arity ts) 0 .complete (parts ts []) (refl, refl, f, tt) (drop e s) ∙ ap (λ (x : List ℕ). found (parts ts []) (length x)) (append-nil (terms-bytes ts)) in
+    ap (λ (l : List ℕ). read l (arity ts) 0) (h .bytes ∙ ap (λ (x : List ℕ). x ++ drop e s) (sym (append-nil (terms-bytes ts))))
+    ∙ parts-exact (arity ts) 0 .complete (parts ts []) (refl, refl, f, tt) (drop e s) ∙ ap (λ (x : List ℕ). found (parts ts []) (length x)) (append-nil (terms-bytes ts)) in
     rw r (ap (on (terms-nodes ts ++ [])) (sym (h .end)) ∙ ap (λ (l : List _). on l e) (append-nil (terms-nodes ts)))
 
 pub walk-term : {s : List ℕ} {at e : ℕ} (t : Term) → TermFormed t → Stands s at (term-bytes t) e → walk s at 1 0 ≡ on (term-nodes t) e
@@ -117,8 +117,8 @@ pub walk-goal : {s : List ℕ} {at e : ℕ} (g : Goal) → GoalFormed g → Stan
 unfolding walk
 walk-goal {s} {at} {e} g f h =
     let r : read (drop at s) 0 1 ≡ found (parts nil (g ∷ [])) (length (goal-bytes g)) =
-        ap (λ (l : List ℕ). read l 0 1) (h .bytes ∙ ap (λ (x : List ℕ). x ++ drop e s) (sym (append-nil (goal-bytes g))))
-        ∙ parts-exact 0 1 .complete (parts nil (g ∷ [])) (refl, refl, tt, (f, tt)) (drop e s) ∙ ap (λ (x : List ℕ). found (parts nil (g ∷ [])) (length x)) (append-nil (goal-bytes g)) in
+    ap (λ (l : List ℕ). read l 0 1) (h .bytes ∙ ap (λ (x : List ℕ). x ++ drop e s) (sym (append-nil (goal-bytes g))))
+    ∙ parts-exact 0 1 .complete (parts nil (g ∷ [])) (refl, refl, tt, (f, tt)) (drop e s) ∙ ap (λ (x : List ℕ). found (parts nil (g ∷ [])) (length x)) (append-nil (goal-bytes g)) in
     rw r (ap (on (goal-nodes g ++ [])) (sym (h .end)) ∙ ap (λ (l : List _). on l e) (append-nil (goal-nodes g)))
 
 -- the head of a tree

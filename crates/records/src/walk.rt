@@ -121,10 +121,7 @@ pub fn variables_top(s: &[u8], start: Cursor) -> Top
                 c = d;
             }
             Step::Done => {
-                return Top {
-                    top: m,
-                    end: c.pos,
-                };
+                return Top { top: m, end: c.pos };
             }
         }
     }

@@ -38,7 +38,6 @@ abbrev term-end-below : ℕ → In 1 term-end-kinds.ps
 term-end-below t =
     and 1 term-end-kinds.ps (falls 1 term-end-kinds.ps _<_ μ-term-end t) term-end.Pre
 
--- src/ends.rt:42:9
 args-end-returns : (t : ℕ) → args-end-lts.Need-returns (
   term-end-below t,
   term-end.Post,
@@ -47,7 +46,6 @@ args-end-returns : (t : ℕ) → args-end-lts.Need-returns (
 ) (args-end-at t) args-end.Post
 args-end-returns t c = no-args _ _ _ (c .if1 .taken)
 
--- src/ends.rt:44:11
 args-end-term-end-requires : (t : ℕ) → args-end-lts.Need-term-end-requires (
   term-end-below t,
   term-end.Post,
@@ -56,7 +54,6 @@ args-end-term-end-requires : (t : ℕ) → args-end-lts.Need-term-end-requires (
 ) (args-end-at t) args-end.Post
 args-end-term-end-requires t c κs = (omega arith, tt)
 
--- src/ends.rt:45:19
 args-end-enum-known-e : (t : ℕ) → args-end-lts.Need-enum-known-e (
   term-end-below t,
   term-end.Post,
@@ -65,7 +62,6 @@ args-end-enum-known-e : (t : ℕ) → args-end-lts.Need-enum-known-e (
 ) (args-end-at t) args-end.Post
 args-end-enum-known-e t c = search needs
 
--- src/ends.rt:45:40
 args-end-sub-args-end : (t : ℕ) → args-end-lts.Need-sub-args-end (
   term-end-below t,
   term-end.Post,
@@ -74,7 +70,6 @@ args-end-sub-args-end : (t : ℕ) → args-end-lts.Need-sub-args-end (
 ) (args-end-at t) args-end.Post
 args-end-sub-args-end t c = omega arith
 
--- src/ends.rt:45:25
 args-end-args-end-requires : (t : ℕ) → args-end-lts.Need-args-end-requires (
   term-end-below t,
   term-end.Post,
@@ -83,7 +78,6 @@ args-end-args-end-requires : (t : ℕ) → args-end-lts.Need-args-end-requires (
 ) (args-end-at t) args-end.Post
 args-end-args-end-requires t c κs = (omega (arith, args-bound _ _ (c .before .before .before .before .before .shared-slice-known .given) (c .before .before .before .term-end .ensures) (c .before .e .given .1)), tt)
 
--- src/ends.rt:46:27
 args-end-enum-told : (t : ℕ) → args-end-lts.Need-enum-told (
   term-end-below t,
   term-end.Post,
@@ -92,7 +86,6 @@ args-end-enum-told : (t : ℕ) → args-end-lts.Need-enum-told (
 ) (args-end-at t) args-end.Post
 args-end-enum-told t c = search needs
 
--- src/ends.rt:38:1
 args-end-returns-2 : (t : ℕ) → args-end-lts.Need-returns-2 (
   term-end-below t,
   term-end.Post,
@@ -101,7 +94,6 @@ args-end-returns-2 : (t : ℕ) → args-end-lts.Need-returns-2 (
 ) (args-end-at t) args-end.Post
 args-end-returns-2 t c = args-more _ _ (c .before .before .before .before .before .before .shared-slice-known .given) (c .before .before .before .before .term-end .ensures) _ (c .before .before .e .given .1) (omega arith) (c .args-end .ensures)
 
--- src/ends.rt:38:1
 args-end-returns-3 : (t : ℕ) → args-end-lts.Need-returns-3 (
   term-end-below t,
   term-end.Post,
@@ -110,7 +102,6 @@ args-end-returns-3 : (t : ℕ) → args-end-lts.Need-returns-3 (
 ) (args-end-at t) args-end.Post
 args-end-returns-3 t c = args-stop _ _ (c .before .before .before .before .shared-slice-known .given) (c .before .before .term-end .ensures) _ (c .enum-told .given .1) (omega arith)
 
--- src/ends.rt:30:11
 term-end-term-head-requires : (t : ℕ) → term-end-lts.Need-term-head-requires (
   term-head-reads.Asked,
   term-head-reads.Learnt,
@@ -119,7 +110,6 @@ term-end-term-head-requires : (t : ℕ) → term-end-lts.Need-term-head-requires
 ) (term-end-at t) term-end.Post
 term-end-term-head-requires t c κs = tt
 
--- src/ends.rt:31:44
 term-end-enum-told : (t : ℕ) → term-end-lts.Need-enum-told (
   term-head-reads.Asked,
   term-head-reads.Learnt,
@@ -128,7 +118,6 @@ term-end-enum-told : (t : ℕ) → term-end-lts.Need-enum-told (
 ) (term-end-at t) term-end.Post
 term-end-enum-told t c = search needs
 
--- src/ends.rt:31:44
 term-end-add-t6 : (t : ℕ) → term-end-lts.Need-add-t6 (
   term-head-reads.Asked,
   term-head-reads.Learnt,
@@ -137,7 +126,6 @@ term-end-add-t6 : (t : ℕ) → term-end-lts.Need-add-t6 (
 ) (term-end-at t) term-end.Post
 term-end-add-t6 t c = omega (arith, term-room _ _ (c .before .before .before .shared-slice-known .given) (c .before .before .term-head .ensures) (Variable _) (c .enum-told .given .1))
 
--- src/ends.rt:32:29
 term-end-enum-known-k : (t : ℕ) → term-end-lts.Need-enum-known-k (
   term-head-reads.Asked,
   term-head-reads.Learnt,
@@ -146,7 +134,6 @@ term-end-enum-known-k : (t : ℕ) → term-end-lts.Need-enum-known-k (
 ) (term-end-at t) term-end.Post
 term-end-enum-known-k t c = search needs
 
--- src/ends.rt:32:47
 term-end-add-args-end : (t : ℕ) → term-end-lts.Need-add-args-end (
   term-head-reads.Asked,
   term-head-reads.Learnt,
@@ -155,7 +142,6 @@ term-end-add-args-end : (t : ℕ) → term-end-lts.Need-add-args-end (
 ) (term-end-at t) term-end.Post
 term-end-add-args-end t c = omega (arith, term-room _ _ (c .before .before .before .before .shared-slice-known .given) (c .before .before .before .term-head .ensures) (Symbol _ _) (c .before .k .given .1))
 
--- src/ends.rt:32:35
 term-end-args-end-requires : (t : ℕ) → term-end-lts.Need-args-end-requires (
   term-head-reads.Asked,
   term-head-reads.Learnt,
@@ -164,7 +150,6 @@ term-end-args-end-requires : (t : ℕ) → term-end-lts.Need-args-end-requires (
 ) (term-end-at t) term-end.Post
 term-end-args-end-requires t c κs = (omega (arith, term-room _ _ (c .before .before .before .before .shared-slice-known .given) (c .before .before .before .term-head .ensures) (Symbol _ _) (c .before .k .given .1)), tt)
 
--- src/ends.rt:33:29
 term-end-enum-told-2 : (t : ℕ) → term-end-lts.Need-enum-told-2 (
   term-head-reads.Asked,
   term-head-reads.Learnt,
@@ -173,7 +158,6 @@ term-end-enum-told-2 : (t : ℕ) → term-end-lts.Need-enum-told-2 (
 ) (term-end-at t) term-end.Post
 term-end-enum-told-2 t c = search needs
 
--- src/ends.rt:27:1
 term-end-returns : (t : ℕ) → term-end-lts.Need-returns (
   term-head-reads.Asked,
   term-head-reads.Learnt,
@@ -182,7 +166,6 @@ term-end-returns : (t : ℕ) → term-end-lts.Need-returns (
 ) (term-end-at t) term-end.Post
 term-end-returns t c = variable-end _ _ (c .before .before .term-head .ensures) (c .enum-told .given .1)
 
--- src/ends.rt:27:1
 term-end-returns-2 : (t : ℕ) → term-end-lts.Need-returns-2 (
   term-head-reads.Asked,
   term-head-reads.Learnt,
@@ -191,7 +174,6 @@ term-end-returns-2 : (t : ℕ) → term-end-lts.Need-returns-2 (
 ) (term-end-at t) term-end.Post
 term-end-returns-2 t c = symbol-end _ _ (c .before .before .before .before .term-head .ensures) (c .before .before .k .given .1) (c .args-end .ensures)
 
--- src/ends.rt:27:1
 term-end-returns-3 : (t : ℕ) → term-end-lts.Need-returns-3 (
   term-head-reads.Asked,
   term-head-reads.Learnt,

@@ -6,69 +6,49 @@ use native.Mathlib.Omega.{arith}
 use borrow.Author.Needs.{needs}
 use Rattle.records.proofs.ends.ancestor_end.Statement.{statement}
 use Rattle.records.proofs.ends.ancestor_end.Tie as tie
-use Rattle.records.proofs.ends.ancestor_end.Reads as reads
-use Rattle.records.proofs.ends.ancestor_end.Lts as lts
-use Rattle.records.proofs.ends.args_end.Reads as args-end-reads
-use Rattle.records.proofs.ends.goals_end.Reads as goals-end-reads
-use Rattle.records.proofs.heads.ancestor_head.Reads as ancestor-head-reads
 
--- src/ends.rt:117:11
 ancestor-head-requires : tie.Need-ancestor-head-requires
 ancestor-head-requires c κs = search needs
 
--- src/ends.rt:118:33
 enum-known-k : tie.Need-enum-known-k
 enum-known-k c = search needs
 
--- src/ends.rt:118:51
 add-args-end : tie.Need-add-args-end
 add-args-end c = omega (arith, ancestor-room _ _ (c .before .before .before .before .shared-slice-known .given) (c .before .before .before .ancestor-head .ensures) (Called _ _) (c .before .k .given .1) .0)
 
--- src/ends.rt:118:39
 args-end-requires : tie.Need-args-end-requires
 args-end-requires c κs = search needs
 
--- src/ends.rt:119:49
 enum-told : tie.Need-enum-told
 enum-told c = search needs
 
--- src/ends.rt:119:49
 add-goals-end : tie.Need-add-goals-end
 add-goals-end c = omega (arith, ancestor-room _ _ (c .before .before .before .shared-slice-known .given) (c .before .before .ancestor-head .ensures) (InConj _) (c .enum-told .given .1) .0)
 
--- src/ends.rt:119:36
 goals-end-requires : tie.Need-goals-end-requires
 goals-end-requires c κs = search needs
 
--- src/ends.rt:120:49
 enum-told-2 : tie.Need-enum-told-2
 enum-told-2 c = search needs
 
--- src/ends.rt:120:49
 add-goals-end-2 : tie.Need-add-goals-end-2
 add-goals-end-2 c = omega (arith, ancestor-room _ _ (c .before .before .before .shared-slice-known .given) (c .before .before .ancestor-head .ensures) (InDisj _) (c .enum-told2 .given .1) .0)
 
--- src/ends.rt:120:36
 goals-end-requires-2 : tie.Need-goals-end-requires-2
 goals-end-requires-2 c κs = search needs
 
--- src/ends.rt:121:37
 enum-told-3 : tie.Need-enum-told-3
 enum-told-3 c = search needs
 
--- src/ends.rt:114:1
 returns : tie.Need-returns
 returns c = c .args-end .ensures ∙ ancestor-ends _ _ (c .before .before .before .before .ancestor-head .ensures) (Called _ _) (c .before .before .k .given .1)
 
--- src/ends.rt:114:1
 returns-2 : tie.Need-returns-2
 returns-2 c = c .goals-end .ensures ∙ ancestor-ends _ _ (c .before .before .before .ancestor-head .ensures) (InConj _) (c .before .enum-told .given .1)
 
--- src/ends.rt:114:1
 returns-3 : tie.Need-returns-3
 returns-3 c = c .goals-end2 .ensures ∙ ancestor-ends _ _ (c .before .before .before .ancestor-head .ensures) (InDisj _) (c .before .enum-told2 .given .1)
 
--- src/ends.rt:114:1
 returns-4 : tie.Need-returns-4
 returns-4 c = ancestor-ends _ _ (c .before .before .ancestor-head .ensures) NoAncestor (c .enum-told3 .given .1)
 

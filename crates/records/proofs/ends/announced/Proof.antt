@@ -3,22 +3,16 @@ use Rattle.records.specs.EndLaws.{announced}
 use borrow.Author.Needs.{needs}
 use Rattle.records.proofs.ends.announced.Statement.{statement}
 use Rattle.records.proofs.ends.announced.Tie as tie
-use Rattle.records.proofs.ends.announced.Reads as reads
-use Rattle.records.proofs.ends.announced.Lts as lts
 
--- src/ends.rt:60:19
 enum-known-f : tie.Need-enum-known-f
 enum-known-f c = search needs
 
--- src/ends.rt:61:27
 enum-told : tie.Need-enum-told
 enum-told c = search needs
 
--- src/ends.rt:56:1
 returns : tie.Need-returns
 returns c = sym (ap announced (c .before .f .given .1))
 
--- src/ends.rt:56:1
 returns-2 : tie.Need-returns-2
 returns-2 c = sym (ap announced (c .enum-told .given .1))
 

@@ -6,36 +6,25 @@ use native.Mathlib.Omega.{arith}
 use borrow.Author.Needs.{needs}
 use Rattle.records.proofs.ends.binding_end.Statement.{statement}
 use Rattle.records.proofs.ends.binding_end.Tie as tie
-use Rattle.records.proofs.ends.binding_end.Reads as reads
-use Rattle.records.proofs.ends.binding_end.Lts as lts
-use Rattle.records.proofs.ends.term_end.Reads as term-end-reads
-use Rattle.records.proofs.heads.word_at.Reads as word-at-reads
 
--- src/ends.rt:129:11
 word-at-requires : tie.Need-word-at-requires
 word-at-requires c κs = search needs
 
--- src/ends.rt:130:40
 enum-told : tie.Need-enum-told
 enum-told c = search needs
 
--- src/ends.rt:130:40
 add-term-end : tie.Need-add-term-end
 add-term-end c = omega (arith, word-room _ _ (c .before .before .before .shared-slice-known .given) (c .before .before .word-at .ensures) (Number _) (c .enum-told .given .1))
 
--- src/ends.rt:130:28
 term-end-requires : tie.Need-term-end-requires
 term-end-requires c κs = search needs
 
--- src/ends.rt:131:24
 enum-told-2 : tie.Need-enum-told-2
 enum-told-2 c = search needs
 
--- src/ends.rt:126:1
 returns : tie.Need-returns
 returns c = c .term-end .ensures ∙ binding-ends _ _ (c .before .before .before .word-at .ensures) (Number _) (c .before .enum-told .given .1)
 
--- src/ends.rt:126:1
 returns-2 : tie.Need-returns-2
 returns-2 c = binding-ends _ _ (c .before .before .word-at .ensures) Short (c .enum-told2 .given .1)
 

@@ -6,9 +6,6 @@ use native.Mathlib.Omega.{arith}
 use borrow.Author.Needs.{needs}
 use Rattle.records.proofs.ends.bindings_end.Statement.{statement}
 use Rattle.records.proofs.ends.bindings_end.Tie as tie
-use Rattle.records.proofs.ends.bindings_end.Reads as reads
-use Rattle.records.proofs.ends.bindings_end.Lts as lts
-use Rattle.records.proofs.ends.binding_end.Reads as binding-end-reads
 
 abbrev Inv-loop : tie.InvT-loop
 Inv-loop s at n pos₀ left₀ pos left = end-of (many read-binding n) s at ≡ end-of (many read-binding left) s pos
@@ -16,39 +13,30 @@ Inv-loop s at n pos₀ left₀ pos left = end-of (many read-binding n) s at ≡ 
 abbrev μ-loop : tie.MeasureT-loop
 μ-loop s at n pos₀ left₀ pos left = left
 
--- src/ends.rt:140:5
 loop-holds : tie.Need-loop-holds Inv-loop μ-loop
 loop-holds c = refl
 
--- src/ends.rt:141:15
 binding-end-requires : tie.Need-binding-end-requires Inv-loop μ-loop
 binding-end-requires c κs = search needs
 
--- src/ends.rt:142:23
 enum-known-e : tie.Need-enum-known-e Inv-loop μ-loop
 enum-known-e c = search needs
 
--- src/ends.rt:144:24
 sub-left : tie.Need-sub-left Inv-loop μ-loop
 sub-left c = search needs
 
--- src/ends.rt:140:5
 loop-less : tie.Need-loop-less Inv-loop μ-loop
 loop-less c = omega arith
 
--- src/ends.rt:140:5
 loop-again : tie.Need-loop-again Inv-loop μ-loop
 loop-again c = c .before .before .before .before .before .loop .inv ∙ more-ends read-binding _ _ _ (c .before .before .before .binding-end .ensures) (c .before .e .given .1) (c .before .before .before .before .loop-test .taken)
 
--- src/ends.rt:147:17
 enum-told : tie.Need-enum-told Inv-loop μ-loop
 enum-told c = search needs
 
--- src/ends.rt:147:17
 returns : tie.Need-returns Inv-loop μ-loop
 returns c = sym (c .before .before .before .before .loop .inv ∙ never-ends read-binding _ _ _ (c .before .before .binding-end .ensures) (c .enum-told .given .1) (c .before .before .before .loop-test .taken))
 
--- src/ends.rt:135:1
 returns-2 : tie.Need-returns-2 Inv-loop μ-loop
 returns-2 c = sym (c .before .loop .inv ∙ none-ends read-binding _ _ _ (omega arith))
 

@@ -6,36 +6,25 @@ use native.Mathlib.Omega.{arith}
 use borrow.Author.Needs.{needs}
 use Rattle.records.proofs.ends.definition_end.Statement.{statement}
 use Rattle.records.proofs.ends.definition_end.Tie as tie
-use Rattle.records.proofs.ends.definition_end.Reads as reads
-use Rattle.records.proofs.ends.definition_end.Lts as lts
-use Rattle.records.proofs.ends.goals_end.Reads as goals-end-reads
-use Rattle.records.proofs.heads.definition_head.Reads as definition-head-reads
 
--- src/ends.rt:168:11
 definition-head-requires : tie.Need-definition-head-requires
 definition-head-requires c κs = search needs
 
--- src/ends.rt:169:55
 enum-told : tie.Need-enum-told
 enum-told c = search needs
 
--- src/ends.rt:169:55
 add-goals-end : tie.Need-add-goals-end
 add-goals-end c = omega (arith, definition-room _ _ (c .before .before .before .shared-slice-known .given) (c .before .before .definition-head .ensures) (Predicate _ _ _) (c .enum-told .given .1))
 
--- src/ends.rt:169:42
 goals-end-requires : tie.Need-goals-end-requires
 goals-end-requires c κs = search needs
 
--- src/ends.rt:170:35
 enum-told-2 : tie.Need-enum-told-2
 enum-told-2 c = search needs
 
--- src/ends.rt:165:1
 returns : tie.Need-returns
 returns c = c .goals-end .ensures ∙ definition-ends _ _ (c .before .before .before .definition-head .ensures) (Predicate _ _ _) (c .before .enum-told .given .1)
 
--- src/ends.rt:165:1
 returns-2 : tie.Need-returns-2
 returns-2 c = definition-ends _ _ (c .before .before .definition-head .ensures) NoPredicate (c .enum-told2 .given .1)
 

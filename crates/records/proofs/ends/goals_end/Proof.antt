@@ -8,9 +8,6 @@ use Prim.Native.Nat.{_+_, _-_, _≤_, max}
 use borrow.Author.Needs.{needs}
 use Rattle.records.proofs.ends.goals_end.Statement.{statement}
 use Rattle.records.proofs.ends.goals_end.Tie as tie
-use Rattle.records.proofs.ends.goals_end.Reads as reads
-use Rattle.records.proofs.ends.goals_end.Lts as lts
-use Rattle.records.proofs.ends.next_goal.Reads as next-goal-reads
 
 abbrev Inv-loop : tie.InvT-loop
 Inv-loop s at g pos₀ left₀ pos left = (end-at s at 0 g ≡ end-at s pos 0 left) × (left + at ≤ pos + g) × (pos ≤ max (length s) at)
@@ -18,44 +15,34 @@ Inv-loop s at g pos₀ left₀ pos left = (end-at s at 0 g ≡ end-at s pos 0 le
 abbrev μ-loop : tie.MeasureT-loop
 μ-loop s at g pos₀ left₀ pos left = length s - pos
 
--- src/ends.rt:89:5
 loop-holds : tie.Need-loop-holds Inv-loop μ-loop
 loop-holds c = (refl, omega arith, omega arith)
 
--- src/ends.rt:90:15
 next-goal-requires : tie.Need-next-goal-requires Inv-loop μ-loop
 next-goal-requires c κs = search needs
 
--- src/ends.rt:91:24
 enum-known-e : tie.Need-enum-known-e Inv-loop μ-loop
 enum-known-e c = search needs
 
--- src/ends.rt:93:32
 sub-left : tie.Need-sub-left Inv-loop μ-loop
 sub-left c = search needs
 
--- src/ends.rt:93:24
 add-left : tie.Need-add-left Inv-loop μ-loop
 add-left c = omega (arith, next-bound _ _ (c .before .before .before .before .before .before .shared-slice-known .given) (c .before .before .before .next-goal .ensures) (c .before .e .given .1))
 
--- src/ends.rt:89:5
 loop-less : tie.Need-loop-less Inv-loop μ-loop
 loop-less c = omega (arith, next-bound _ _ (c .before .before .before .before .before .before .shared-slice-known .given) (c .before .before .before .next-goal .ensures) (c .before .e .given .1))
 
--- src/ends.rt:89:5
 loop-again : tie.Need-loop-again Inv-loop μ-loop
 loop-again c = let f = next-bound _ _ (c .before .before .before .before .before .before .shared-slice-known .given) (c .before .before .before .next-goal .ensures) (c .before .e .given .1) in
     (c .before .before .before .before .before .loop .inv .0 ∙ next-on _ _ (c .before .before .before .before .before .before .shared-slice-known .given) _ (c .before .before .before .next-goal .ensures) (c .before .e .given .1) (c .before .before .before .before .loop-test .taken), omega arith, omega arith)
 
--- src/ends.rt:96:17
 enum-told : tie.Need-enum-told Inv-loop μ-loop
 enum-told c = search needs
 
--- src/ends.rt:96:17
 returns : tie.Need-returns Inv-loop μ-loop
 returns c = sym (c .before .before .before .before .loop .inv .0 ∙ next-off _ _ (c .before .before .before .before .before .shared-slice-known .given) _ (c .before .before .next-goal .ensures) (c .enum-told .given .1) (c .before .before .before .loop-test .taken))
 
--- src/ends.rt:83:1
 returns-2 : tie.Need-returns-2 Inv-loop μ-loop
 returns-2 c = sym (c .before .loop .inv .0 ∙ no-goals _ _ _ (omega arith))
 

@@ -1,60 +1,41 @@
-use Rattle.records.specs.declared.ends.Item.the-variants.{Ancestor, Bet, Definition, Clause}
 use Rattle.records.specs.ItemEnds.{ancestor-item, bet-item, definition-item, clause-item}
 use borrow.Author.Needs.{needs}
 use Rattle.records.proofs.ends.item_end.Statement.{statement}
 use Rattle.records.proofs.ends.item_end.Tie as tie
-use Rattle.records.proofs.ends.item_end.Reads as reads
-use Rattle.records.proofs.ends.item_end.Lts as lts
-use Rattle.records.proofs.ends.ancestor_end.Reads as ancestor-end-reads
-use Rattle.records.proofs.ends.bet_end.Reads as bet-end-reads
-use Rattle.records.proofs.ends.clause_end.Reads as clause-end-reads
-use Rattle.records.proofs.ends.definition_end.Reads as definition-end-reads
 
--- src/ends.rt:195:27
 enum-told : tie.Need-enum-told
 enum-told c = search needs
 
--- src/ends.rt:195:27
 ancestor-end-requires : tie.Need-ancestor-end-requires
 ancestor-end-requires c κs = search needs
 
--- src/ends.rt:196:22
 enum-told-2 : tie.Need-enum-told-2
 enum-told-2 c = search needs
 
--- src/ends.rt:196:22
 bet-end-requires : tie.Need-bet-end-requires
 bet-end-requires c κs = search needs
 
--- src/ends.rt:197:29
 enum-told-3 : tie.Need-enum-told-3
 enum-told-3 c = search needs
 
--- src/ends.rt:197:29
 definition-end-requires : tie.Need-definition-end-requires
 definition-end-requires c κs = search needs
 
--- src/ends.rt:198:25
 enum-told-4 : tie.Need-enum-told-4
 enum-told-4 c = search needs
 
--- src/ends.rt:198:25
 clause-end-requires : tie.Need-clause-end-requires
 clause-end-requires c κs = search needs
 
--- src/ends.rt:191:1
 returns : tie.Need-returns
 returns c = ancestor-item _ _ (c .before .enum-told .given .1) (c .ancestor-end .ensures)
 
--- src/ends.rt:191:1
 returns-2 : tie.Need-returns-2
 returns-2 c = bet-item _ _ (c .before .enum-told2 .given .1) (c .bet-end .ensures)
 
--- src/ends.rt:191:1
 returns-3 : tie.Need-returns-3
 returns-3 c = definition-item _ _ (c .before .enum-told3 .given .1) (c .definition-end .ensures)
 
--- src/ends.rt:191:1
 returns-4 : tie.Need-returns-4
 returns-4 c = clause-item _ _ (c .before .enum-told4 .given .1) (c .clause-end .ensures)
 

@@ -4,9 +4,6 @@ use native.Mathlib.Omega.{arith}
 use borrow.Author.Needs.{needs}
 use Rattle.records.proofs.ends.items_end.Statement.{statement}
 use Rattle.records.proofs.ends.items_end.Tie as tie
-use Rattle.records.proofs.ends.items_end.Reads as reads
-use Rattle.records.proofs.ends.items_end.Lts as lts
-use Rattle.records.proofs.ends.item_end.Reads as item-end-reads
 
 abbrev Inv-loop : tie.InvT-loop
 Inv-loop s at item n pos₀ left₀ pos left = items-end item n s at ≡ items-end item left s pos
@@ -14,39 +11,30 @@ Inv-loop s at item n pos₀ left₀ pos left = items-end item n s at ≡ items-e
 abbrev μ-loop : tie.MeasureT-loop
 μ-loop s at item n pos₀ left₀ pos left = left
 
--- src/ends.rt:208:5
 loop-holds : tie.Need-loop-holds Inv-loop μ-loop
 loop-holds c = refl
 
--- src/ends.rt:209:15
 item-end-requires : tie.Need-item-end-requires Inv-loop μ-loop
 item-end-requires c κs = search needs
 
--- src/ends.rt:210:23
 enum-known-e : tie.Need-enum-known-e Inv-loop μ-loop
 enum-known-e c = search needs
 
--- src/ends.rt:212:24
 sub-left : tie.Need-sub-left Inv-loop μ-loop
 sub-left c = search needs
 
--- src/ends.rt:208:5
 loop-less : tie.Need-loop-less Inv-loop μ-loop
 loop-less c = omega arith
 
--- src/ends.rt:208:5
 loop-again : tie.Need-loop-again Inv-loop μ-loop
 loop-again c = c .before .before .before .before .before .loop .inv ∙ more-items _ _ _ _ (c .before .before .before .item-end .ensures) (c .before .e .given .1) (c .before .before .before .before .loop-test .taken)
 
--- src/ends.rt:215:17
 enum-told : tie.Need-enum-told Inv-loop μ-loop
 enum-told c = search needs
 
--- src/ends.rt:215:17
 returns : tie.Need-returns Inv-loop μ-loop
 returns c = sym (c .before .before .before .before .loop .inv ∙ never-items _ _ _ _ (c .before .before .item-end .ensures) (c .enum-told .given .1) (c .before .before .before .loop-test .taken))
 
--- src/ends.rt:203:1
 returns-2 : tie.Need-returns-2 Inv-loop μ-loop
 returns-2 c = sym (c .before .loop .inv ∙ no-items _ _ _ _ (omega arith))
 

@@ -6,109 +6,79 @@ use native.Mathlib.Omega.{arith}
 use borrow.Author.Needs.{needs}
 use Rattle.records.proofs.ends.next_goal.Statement.{statement}
 use Rattle.records.proofs.ends.next_goal.Tie as tie
-use Rattle.records.proofs.ends.next_goal.Reads as reads
-use Rattle.records.proofs.ends.next_goal.Lts as lts
-use Rattle.records.proofs.ends.announced.Reads as announced-reads
-use Rattle.records.proofs.ends.args_end.Reads as args-end-reads
-use Rattle.records.proofs.heads.goal_head.Reads as goal-head-reads
 
--- src/ends.rt:69:11
 goal-head-requires : tie.Need-goal-head-requires
 goal-head-requires c κs = search needs
 
--- src/ends.rt:70:39
 enum-told : tie.Need-enum-told
 enum-told c = search needs
 
--- src/ends.rt:70:39
 add-t6 : tie.Need-add-t6
 add-t6 c = omega (arith, goal-room _ _ (c .before .before .before .shared-slice-known .given) (c .before .before .goal-head .ensures) Truth (c .enum-told .given .1))
 
--- src/ends.rt:71:41
 enum-told-2 : tie.Need-enum-told-2
 enum-told-2 c = search needs
 
--- src/ends.rt:71:41
 add-t7 : tie.Need-add-t7
 add-t7 c = omega (arith, goal-room _ _ (c .before .before .before .shared-slice-known .given) (c .before .before .goal-head .ensures) Failure (c .enum-told2 .given .1))
 
--- src/ends.rt:72:50
 enum-told-3 : tie.Need-enum-told-3
 enum-told-3 c = search needs
 
--- src/ends.rt:72:50
 add-args-end : tie.Need-add-args-end
 add-args-end c = omega (arith, goal-room _ _ (c .before .before .before .shared-slice-known .given) (c .before .before .goal-head .ensures) Equal (c .enum-told3 .given .1))
 
--- src/ends.rt:72:38
 args-end-requires : tie.Need-args-end-requires
 args-end-requires c κs = search needs
 
--- src/ends.rt:72:28
 announced-requires : tie.Need-announced-requires
 announced-requires c κs = search needs
 
--- src/ends.rt:73:38
 enum-told-4 : tie.Need-enum-told-4
 enum-told-4 c = search needs
 
--- src/ends.rt:73:38
 add-t10 : tie.Need-add-t10
 add-t10 c = omega (arith, goal-room _ _ (c .before .before .before .shared-slice-known .given) (c .before .before .goal-head .ensures) Conj (c .enum-told4 .given .1))
 
--- src/ends.rt:74:38
 enum-told-5 : tie.Need-enum-told-5
 enum-told-5 c = search needs
 
--- src/ends.rt:74:38
 add-t11 : tie.Need-add-t11
 add-t11 c = omega (arith, goal-room _ _ (c .before .before .before .shared-slice-known .given) (c .before .before .goal-head .ensures) Disj (c .enum-told5 .given .1))
 
--- src/ends.rt:75:27
 enum-known-k : tie.Need-enum-known-k
 enum-known-k c = search needs
 
--- src/ends.rt:75:55
 add-args-end-2 : tie.Need-add-args-end-2
 add-args-end-2 c = omega (arith, goal-room _ _ (c .before .before .before .before .shared-slice-known .given) (c .before .before .before .goal-head .ensures) (Atom _ _) (c .before .k .given .1))
 
--- src/ends.rt:75:43
 args-end-requires-2 : tie.Need-args-end-requires-2
 args-end-requires-2 c κs = search needs
 
--- src/ends.rt:75:33
 announced-requires-2 : tie.Need-announced-requires-2
 announced-requires-2 c κs = search needs
 
--- src/ends.rt:76:29
 enum-told-6 : tie.Need-enum-told-6
 enum-told-6 c = search needs
 
--- src/ends.rt:66:1
 returns : tie.Need-returns
 returns c = next-arm _ _ (c .before .before .before .shared-slice-known .given) (c .before .before .goal-head .ensures) Truth (c .enum-told .given .1)
 
--- src/ends.rt:66:1
 returns-2 : tie.Need-returns-2
 returns-2 c = next-arm _ _ (c .before .before .before .shared-slice-known .given) (c .before .before .goal-head .ensures) Failure (c .enum-told2 .given .1)
 
--- src/ends.rt:66:1
 returns-3 : tie.Need-returns-3
 returns-3 c = c .announced .ensures ∙ ap announced (c .before .args-end .ensures) ∙ next-arm _ _ (c .before .before .before .before .before .shared-slice-known .given) (c .before .before .before .before .goal-head .ensures) Equal (c .before .before .enum-told3 .given .1)
 
--- src/ends.rt:66:1
 returns-4 : tie.Need-returns-4
 returns-4 c = next-arm _ _ (c .before .before .before .shared-slice-known .given) (c .before .before .goal-head .ensures) Conj (c .enum-told4 .given .1)
 
--- src/ends.rt:66:1
 returns-5 : tie.Need-returns-5
 returns-5 c = next-arm _ _ (c .before .before .before .shared-slice-known .given) (c .before .before .goal-head .ensures) Disj (c .enum-told5 .given .1)
 
--- src/ends.rt:66:1
 returns-6 : tie.Need-returns-6
 returns-6 c = c .announced2 .ensures ∙ ap announced (c .before .args-end2 .ensures) ∙ next-arm _ _ (c .before .before .before .before .before .before .shared-slice-known .given) (c .before .before .before .before .before .goal-head .ensures) (Atom _ _) (c .before .before .before .k .given .1)
 
--- src/ends.rt:66:1
 returns-7 : tie.Need-returns-7
 returns-7 c = next-arm _ _ (c .before .before .before .shared-slice-known .given) (c .before .before .goal-head .ensures) NoGoal (c .enum-told6 .given .1)
 

@@ -4,92 +4,67 @@ use Rattle.records.proofs.HeadBytes.{ancestor-arm}
 use borrow.Author.Needs.{needs}
 use Rattle.records.proofs.heads.ancestor_head.Statement.{statement}
 use Rattle.records.proofs.heads.ancestor_head.Tie as tie
-use Rattle.records.proofs.heads.ancestor_head.Reads as reads
-use Rattle.records.proofs.heads.ancestor_head.Lts as lts
-use Rattle.records.proofs.heads.goal_head.Reads as goal-head-reads
-use Rattle.records.proofs.heads.half_head.Reads as half-head-reads
 
--- src/heads.rt:163:11
 goal-head-requires : tie.Need-goal-head-requires
 goal-head-requires c κs = search needs
 
--- src/heads.rt:164:24
 enum-known-p : tie.Need-enum-known-p
 enum-known-p c = search needs
 
--- src/heads.rt:165:28
 enum-told : tie.Need-enum-told
 enum-told c = search needs
 
--- src/heads.rt:165:28
 half-head-requires : tie.Need-half-head-requires
 half-head-requires c κs = search needs
 
--- src/heads.rt:166:30
 enum-told-2 : tie.Need-enum-told-2
 enum-told-2 c = search needs
 
--- src/heads.rt:166:30
 half-head-requires-2 : tie.Need-half-head-requires-2
 half-head-requires-2 c κs = search needs
 
--- src/heads.rt:167:28
 enum-told-3 : tie.Need-enum-told-3
 enum-told-3 c = search needs
 
--- src/heads.rt:167:28
 half-head-requires-3 : tie.Need-half-head-requires-3
 half-head-requires-3 c κs = search needs
 
--- src/heads.rt:168:27
 enum-told-4 : tie.Need-enum-told-4
 enum-told-4 c = search needs
 
--- src/heads.rt:168:27
 half-head-requires-4 : tie.Need-half-head-requires-4
 half-head-requires-4 c κs = search needs
 
--- src/heads.rt:169:27
 enum-told-5 : tie.Need-enum-told-5
 enum-told-5 c = search needs
 
--- src/heads.rt:169:27
 half-head-requires-5 : tie.Need-half-head-requires-5
 half-head-requires-5 c κs = search needs
 
--- src/heads.rt:170:29
 enum-told-6 : tie.Need-enum-told-6
 enum-told-6 c = search needs
 
--- src/heads.rt:170:29
 half-head-requires-6 : tie.Need-half-head-requires-6
 half-head-requires-6 c κs = search needs
 
--- src/heads.rt:160:1
 returns : tie.Need-returns
 returns c = ancestor-arm _ _ (c .before .before .before .goal-head .ensures) refl (Atom _ _) (c .before .p .given .1)
 
--- src/heads.rt:160:1
 returns-2 : tie.Need-returns-2
 returns-2 c = c .half-head .ensures ∙ ancestor-arm _ _ (c .before .before .before .goal-head .ensures) refl Truth (c .before .enum-told .given .1)
 
--- src/heads.rt:160:1
 returns-3 : tie.Need-returns-3
 returns-3 c = c .half-head2 .ensures ∙ ancestor-arm _ _ (c .before .before .before .goal-head .ensures) refl Failure (c .before .enum-told2 .given .1)
 
--- src/heads.rt:160:1
 returns-4 : tie.Need-returns-4
 returns-4 c = c .half-head3 .ensures ∙ ancestor-arm _ _ (c .before .before .before .goal-head .ensures) refl Equal (c .before .enum-told3 .given .1)
 
--- src/heads.rt:160:1
 returns-5 : tie.Need-returns-5
 returns-5 c = c .half-head4 .ensures ∙ ancestor-arm _ _ (c .before .before .before .goal-head .ensures) refl Conj (c .before .enum-told4 .given .1)
 
--- src/heads.rt:160:1
 returns-6 : tie.Need-returns-6
 returns-6 c = c .half-head5 .ensures ∙ ancestor-arm _ _ (c .before .before .before .goal-head .ensures) refl Disj (c .before .enum-told5 .given .1)
 
--- src/heads.rt:160:1
 returns-7 : tie.Need-returns-7
 returns-7 c = c .half-head6 .ensures ∙ ancestor-arm _ _ (c .before .before .before .goal-head .ensures) refl NoGoal (c .before .enum-told6 .given .1)
 

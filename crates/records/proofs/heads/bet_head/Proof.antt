@@ -4,58 +4,40 @@ use mathlib.Core.Path.{_∙_}
 use borrow.Author.Needs.{needs}
 use Rattle.records.proofs.heads.bet_head.Statement.{statement}
 use Rattle.records.proofs.heads.bet_head.Tie as tie
-use Rattle.records.proofs.heads.bet_head.Reads as reads
-use Rattle.records.proofs.heads.bet_head.Lts as lts
-use Rattle.records.proofs.heads.or_head.Reads as or-head-reads
-use Rattle.records.proofs.heads.unifier_head.Reads as unifier-head-reads
-use Rattle.records.proofs.heads.wide.Reads as wide-reads
-use Rattle.records.proofs.heads.word_at.Reads as word-at-reads
 
--- src/heads.rt:209:9
 returns : tie.Need-returns
 returns c = past-bet _ _ (omega arith)
 
--- src/heads.rt:211:18
 shared-slice-read-wide : tie.Need-shared-slice-read-wide
 shared-slice-read-wide c = search needs
 
--- src/heads.rt:211:9
 wide-requires : tie.Need-wide-requires
 wide-requires c κs = search needs
 
--- src/heads.rt:213:41
 add-word-at : tie.Need-add-word-at
 add-word-at c = search needs
 
--- src/heads.rt:213:30
 word-at-requires : tie.Need-word-at-requires
 word-at-requires c κs = search needs
 
--- src/heads.rt:213:17
 unifier-head-requires : tie.Need-unifier-head-requires
 unifier-head-requires c κs = search needs
 
--- src/heads.rt:214:28
 add-or-head : tie.Need-add-or-head
 add-or-head c = search needs
 
--- src/heads.rt:214:17
 or-head-requires : tie.Need-or-head-requires
 or-head-requires c κs = search needs
 
--- src/heads.rt:205:1
 returns-2 : tie.Need-returns-2
 returns-2 c = c .unifier-head .ensures ∙ unifier-kind _ _ (omega arith) (omega arith) (c .before .word-at .ensures)
 
--- src/heads.rt:205:1
 returns-3 : tie.Need-returns-3
 returns-3 c = or-kind _ _ _ (omega arith) (omega arith) (c .or-head .ensures)
 
--- src/heads.rt:205:1
 returns-4 : tie.Need-returns-4
 returns-4 c = by-kind _ _ (omega arith) (omega arith)
 
--- src/heads.rt:205:1
 returns-5 : tie.Need-returns-5
 returns-5 c = no-bet _ _ (omega arith) (omega arith) (omega arith) (omega arith)
 

@@ -1,36 +1,25 @@
-use native.Mathlib.Omega.{arith}
 use Rattle.records.proofs.HeadBytes.{clause-at}
 use borrow.Author.Tests.{le-leb, lt-leb}
 use Rattle.records.specs.declared.heads.Signature.the-variants.{Predicate, NoPredicate}
-use mathlib.Core.Path.{refl, _∙_}
 use borrow.Author.Needs.{needs}
 use Rattle.records.proofs.heads.clause_head.Statement.{statement}
 use Rattle.records.proofs.heads.clause_head.Tie as tie
-use Rattle.records.proofs.heads.clause_head.Reads as reads
-use Rattle.records.proofs.heads.clause_head.Lts as lts
-use Rattle.records.proofs.heads.definition_head.Reads as definition-head-reads
 
--- src/heads.rt:238:11
 definition-head-requires : tie.Need-definition-head-requires
 definition-head-requires c κs = search needs
 
--- src/heads.rt:239:30
 enum-known-p : tie.Need-enum-known-p
 enum-known-p c = search needs
 
--- src/heads.rt:246:35
 enum-told : tie.Need-enum-told
 enum-told c = search needs
 
--- src/heads.rt:235:1
 returns : tie.Need-returns
 returns c = let w : _ = clause-at _ _ (c .before .before .before .before .definition-head .ensures) (Predicate _ _ _) (c .before .before .p .given .1) in rw (le-leb _ 64 (c .if1 .taken)) at w
 
--- src/heads.rt:235:1
 returns-2 : tie.Need-returns-2
 returns-2 c = let w : _ = clause-at _ _ (c .before .before .before .before .definition-head .ensures) (Predicate _ _ _) (c .before .before .p .given .1) in rw (lt-leb _ 64 (c .if1 .left)) at w
 
--- src/heads.rt:235:1
 returns-3 : tie.Need-returns-3
 returns-3 c = clause-at _ _ (c .before .before .definition-head .ensures) NoPredicate (c .enum-told .given .1)
 

@@ -3,53 +3,37 @@ use Rattle.records.proofs.HeadBytes.{short-definition, definition-at, l
 use borrow.Author.Needs.{needs}
 use Rattle.records.proofs.heads.definition_head.Statement.{statement}
 use Rattle.records.proofs.heads.definition_head.Tie as tie
-use Rattle.records.proofs.heads.definition_head.Reads as reads
-use Rattle.records.proofs.heads.definition_head.Lts as lts
-use Rattle.records.proofs.heads.room.Reads as room-reads
-use Rattle.records.proofs.heads.two_bytes.Reads as two-bytes-reads
-use Rattle.records.proofs.heads.wide.Reads as wide-reads
 
--- src/heads.rt:223:8
 room-requires : tie.Need-room-requires
 room-requires c κs = search needs
 
--- src/heads.rt:224:9
 returns : tie.Need-returns
 returns c = short-definition _ _ (omega arith)
 
--- src/heads.rt:226:9
 two-bytes-requires : tie.Need-two-bytes-requires
 two-bytes-requires c κs = search needs
 
--- src/heads.rt:227:20
 add-wide : tie.Need-add-wide
 add-wide c = search needs
 
--- src/heads.rt:227:18
 shared-slice-read-wide : tie.Need-shared-slice-read-wide
 shared-slice-read-wide c = search needs
 
--- src/heads.rt:227:9
 wide-requires : tie.Need-wide-requires
 wide-requires c κs = search needs
 
--- src/heads.rt:228:20
 add-wide-2 : tie.Need-add-wide-2
 add-wide-2 c = search needs
 
--- src/heads.rt:228:18
 shared-slice-read-wide-2 : tie.Need-shared-slice-read-wide-2
 shared-slice-read-wide-2 c = search needs
 
--- src/heads.rt:228:9
 wide-requires-2 : tie.Need-wide-requires-2
 wide-requires-2 c κs = search needs
 
--- src/heads.rt:230:9
 returns-2 : tie.Need-returns-2
 returns-2 c = definition-at _ _ _ _ _ (omega arith) (omega arith) (omega arith) (omega arith) (omega arith)
 
--- src/heads.rt:220:1
 returns-3 : tie.Need-returns-3
 returns-3 c = large-definition _ _ (omega arith) (omega arith)
 

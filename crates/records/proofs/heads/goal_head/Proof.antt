@@ -4,56 +4,40 @@ use mathlib.Core.Path.{refl}
 use borrow.Author.Needs.{needs}
 use Rattle.records.proofs.heads.goal_head.Statement.{statement}
 use Rattle.records.proofs.heads.goal_head.Tie as tie
-use Rattle.records.proofs.heads.goal_head.Reads as reads
-use Rattle.records.proofs.heads.goal_head.Lts as lts
-use Rattle.records.proofs.heads.atom_head.Reads as atom-head-reads
-use Rattle.records.proofs.heads.wide.Reads as wide-reads
 
--- src/heads.rt:119:9
 returns : tie.Need-returns
 returns c = past-goal _ _ (omega arith)
 
--- src/heads.rt:121:18
 shared-slice-read-wide : tie.Need-shared-slice-read-wide
 shared-slice-read-wide c = search needs
 
--- src/heads.rt:121:9
 wide-requires : tie.Need-wide-requires
 wide-requires c κs = search needs
 
--- src/heads.rt:128:30
 add-atom-head : tie.Need-add-atom-head
 add-atom-head c = search needs
 
--- src/heads.rt:128:17
 atom-head-requires : tie.Need-atom-head-requires
 atom-head-requires c κs = search needs
 
--- src/heads.rt:115:1
 returns-2 : tie.Need-returns-2
 returns-2 c = goal-kind _ _ _ 0x10 (λ l. refl) (omega arith) (omega arith)
 
--- src/heads.rt:115:1
 returns-3 : tie.Need-returns-3
 returns-3 c = goal-kind _ _ _ 0x11 (λ l. refl) (omega arith) (omega arith)
 
--- src/heads.rt:115:1
 returns-4 : tie.Need-returns-4
 returns-4 c = goal-kind _ _ _ 0x12 (λ l. refl) (omega arith) (omega arith)
 
--- src/heads.rt:115:1
 returns-5 : tie.Need-returns-5
 returns-5 c = goal-kind _ _ _ 0x13 (λ l. refl) (omega arith) (omega arith)
 
--- src/heads.rt:115:1
 returns-6 : tie.Need-returns-6
 returns-6 c = goal-kind _ _ _ 0x14 (λ l. refl) (omega arith) (omega arith)
 
--- src/heads.rt:115:1
 returns-7 : tie.Need-returns-7
 returns-7 c = atom-kind _ _ _ (omega arith) (omega arith) (c .atom-head .ensures)
 
--- src/heads.rt:115:1
 returns-8 : tie.Need-returns-8
 returns-8 c = no-goal _ _ (omega arith) (omega arith) (omega arith) (omega arith) (omega arith) (omega arith) (omega arith)
 

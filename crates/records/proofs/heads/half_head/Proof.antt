@@ -5,57 +5,40 @@ use mathlib.Core.Path.{sym, _∙_}
 use borrow.Author.Needs.{needs}
 use Rattle.records.proofs.heads.half_head.Statement.{statement}
 use Rattle.records.proofs.heads.half_head.Tie as tie
-use Rattle.records.proofs.heads.half_head.Reads as reads
-use Rattle.records.proofs.heads.half_head.Lts as lts
-use Rattle.records.proofs.heads.is_tag.Reads as is-tag-reads
-use Rattle.records.proofs.heads.room.Reads as room-reads
-use Rattle.records.proofs.heads.wide.Reads as wide-reads
 
--- src/heads.rt:137:8
 room-requires : tie.Need-room-requires
 room-requires c κs = search needs
 
--- src/heads.rt:138:9
 returns : tie.Need-returns
 returns c = short-half _ _ (omega arith)
 
--- src/heads.rt:140:18
 shared-slice-read-wide : tie.Need-shared-slice-read-wide
 shared-slice-read-wide c = search needs
 
--- src/heads.rt:140:9
 wide-requires : tie.Need-wide-requires
 wide-requires c κs = search needs
 
--- src/heads.rt:141:20
 add-wide : tie.Need-add-wide
 add-wide c = search needs
 
--- src/heads.rt:141:18
 shared-slice-read-wide-2 : tie.Need-shared-slice-read-wide-2
 shared-slice-read-wide-2 c = search needs
 
--- src/heads.rt:141:9
 wide-requires-2 : tie.Need-wide-requires-2
 wide-requires-2 c κs = search needs
 
--- src/heads.rt:142:9
 is-tag-requires : tie.Need-is-tag-requires
 is-tag-requires c κs = search needs
 
--- src/heads.rt:143:9
 returns-2 : tie.Need-returns-2
 returns-2 c = no-tag _ _ (c .before .before .wide2 .result) (omega arith) (omega arith) (sym (c .before .is-tag .ensures) ∙ not-true _ (c .if2 .taken))
 
--- src/heads.rt:146:9
 returns-3 : tie.Need-returns-3
 returns-3 c = conj-half _ _ _ (omega arith) (omega arith) (sym (c .before .before .is-tag .ensures) ∙ not-false _ (c .before .if2 .left)) (omega arith)
 
--- src/heads.rt:149:9
 returns-4 : tie.Need-returns-4
 returns-4 c = disj-half _ _ _ (omega arith) (omega arith) (sym (c .before .before .before .is-tag .ensures) ∙ not-false _ (c .before .before .if2 .left)) (omega arith)
 
--- src/heads.rt:134:1
 returns-5 : tie.Need-returns-5
 returns-5 c = other-half _ _ (c .before .before .before .before .wide2 .result) (omega arith) (omega arith) (sym (c .before .before .before .is-tag .ensures) ∙ not-false _ (c .before .before .if2 .left)) (omega arith) (omega arith)
 

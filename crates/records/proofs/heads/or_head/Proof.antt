@@ -4,32 +4,22 @@ use mathlib.Core.Path.{sym, _∙_}
 use borrow.Author.Needs.{needs}
 use Rattle.records.proofs.heads.or_head.Statement.{statement}
 use Rattle.records.proofs.heads.or_head.Tie as tie
-use Rattle.records.proofs.heads.or_head.Reads as reads
-use Rattle.records.proofs.heads.or_head.Lts as lts
-use Rattle.records.proofs.heads.is_tag.Reads as is-tag-reads
-use Rattle.records.proofs.heads.wide.Reads as wide-reads
 
--- src/heads.rt:196:9
 returns : tie.Need-returns
 returns c = past-or _ _ (omega arith)
 
--- src/heads.rt:198:18
 shared-slice-read-wide : tie.Need-shared-slice-read-wide
 shared-slice-read-wide c = search needs
 
--- src/heads.rt:198:9
 wide-requires : tie.Need-wide-requires
 wide-requires c κs = search needs
 
--- src/heads.rt:199:8
 is-tag-requires : tie.Need-is-tag-requires
 is-tag-requires c κs = search needs
 
--- src/heads.rt:200:9
 returns-2 : tie.Need-returns-2
 returns-2 c = or-at _ _ _ (omega arith) (omega arith) (sym (c .before .is-tag .ensures) ∙ c .if2 .taken)
 
--- src/heads.rt:192:1
 returns-3 : tie.Need-returns-3
 returns-3 c = not-or _ _ (c .before .before .wide .result) (omega arith) (omega arith) (sym (c .before .is-tag .ensures) ∙ c .if2 .left)
 

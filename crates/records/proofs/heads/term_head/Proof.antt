@@ -3,65 +3,46 @@ use Rattle.records.proofs.HeadBytes.{short-term, variable-at, other-kin
 use borrow.Author.Needs.{needs}
 use Rattle.records.proofs.heads.term_head.Statement.{statement}
 use Rattle.records.proofs.heads.term_head.Tie as tie
-use Rattle.records.proofs.heads.term_head.Reads as reads
-use Rattle.records.proofs.heads.term_head.Lts as lts
-use Rattle.records.proofs.heads.room.Reads as room-reads
-use Rattle.records.proofs.heads.two_bytes.Reads as two-bytes-reads
-use Rattle.records.proofs.heads.wide.Reads as wide-reads
 
--- src/heads.rt:78:9
 room-requires : tie.Need-room-requires
 room-requires c κs = search needs
 
--- src/heads.rt:80:9
 returns : tie.Need-returns
 returns c = short-term _ _ (omega arith)
 
--- src/heads.rt:82:18
 shared-slice-read-wide : tie.Need-shared-slice-read-wide
 shared-slice-read-wide c = search needs
 
--- src/heads.rt:82:9
 wide-requires : tie.Need-wide-requires
 wide-requires c κs = search needs
 
--- src/heads.rt:83:26
 add-two-bytes : tie.Need-add-two-bytes
 add-two-bytes c = search needs
 
--- src/heads.rt:83:9
 two-bytes-requires : tie.Need-two-bytes-requires
 two-bytes-requires c κs = search needs
 
--- src/heads.rt:85:9
 returns-2 : tie.Need-returns-2
 returns-2 c = variable-at _ _ _ (omega arith) (omega arith) (omega arith)
 
--- src/heads.rt:88:9
 returns-3 : tie.Need-returns-3
 returns-3 c = other-kind _ _ (omega arith) (omega arith) (omega arith)
 
--- src/heads.rt:91:9
 returns-4 : tie.Need-returns-4
 returns-4 c = short-symbol _ _ (omega arith) (omega arith) (omega arith)
 
--- src/heads.rt:93:20
 add-wide : tie.Need-add-wide
 add-wide c = search needs
 
--- src/heads.rt:93:18
 shared-slice-read-wide-2 : tie.Need-shared-slice-read-wide-2
 shared-slice-read-wide-2 c = search needs
 
--- src/heads.rt:93:9
 wide-requires-2 : tie.Need-wide-requires-2
 wide-requires-2 c κs = search needs
 
--- src/heads.rt:95:9
 returns-5 : tie.Need-returns-5
 returns-5 c = symbol-at _ _ _ _ (omega arith) (omega arith) (omega arith) (omega arith) (omega arith)
 
--- src/heads.rt:75:1
 returns-6 : tie.Need-returns-6
 returns-6 c = large-arity _ _ (omega arith) (omega arith) (omega arith)
 

@@ -3,22 +3,16 @@ use Rattle.records.specs.Heads.{unifier-head}
 use borrow.Author.Needs.{needs}
 use Rattle.records.proofs.heads.unifier_head.Statement.{statement}
 use Rattle.records.proofs.heads.unifier_head.Tie as tie
-use Rattle.records.proofs.heads.unifier_head.Reads as reads
-use Rattle.records.proofs.heads.unifier_head.Lts as lts
 
--- src/heads.rt:187:22
 enum-known-w : tie.Need-enum-known-w
 enum-known-w c = search needs
 
--- src/heads.rt:188:24
 enum-told : tie.Need-enum-told
 enum-told c = search needs
 
--- src/heads.rt:183:1
 returns : tie.Need-returns
 returns c = sym (ap unifier-head (c .before .w .given .1))
 
--- src/heads.rt:183:1
 returns-2 : tie.Need-returns-2
 returns-2 c = sym (ap unifier-head (c .enum-told .given .1))
 

@@ -3,24 +3,16 @@ use Rattle.records.proofs.HeadBytes.{short-word, number-at}
 use borrow.Author.Needs.{needs}
 use Rattle.records.proofs.heads.word_at.Statement.{statement}
 use Rattle.records.proofs.heads.word_at.Tie as tie
-use Rattle.records.proofs.heads.word_at.Reads as reads
-use Rattle.records.proofs.heads.word_at.Lts as lts
-use Rattle.records.proofs.heads.room.Reads as room-reads
-use Rattle.records.proofs.heads.two_bytes.Reads as two-bytes-reads
 
--- src/heads.rt:177:8
 room-requires : tie.Need-room-requires
 room-requires c κs = search needs
 
--- src/heads.rt:178:9
 returns : tie.Need-returns
 returns c = short-word _ _ (omega arith)
 
--- src/heads.rt:180:18
 two-bytes-requires : tie.Need-two-bytes-requires
 two-bytes-requires c κs = search needs
 
--- src/heads.rt:174:1
 returns-2 : tie.Need-returns-2
 returns-2 c = number-at _ _ _ (omega arith) (omega arith)
 

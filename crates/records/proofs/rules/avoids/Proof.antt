@@ -1,19 +1,13 @@
 use Rattle.records.proofs.RuleArms.{unmarked, met-marked, met-unmarked}
 use Rattle.records.specs.Steps.{On, met, walk-from, to-variable, to-other, to-end}
 use Rattle.records.specs.Sets.{is-marked}
-use Rattle.records.specs.RecordRules.{every}
 use lib.ListN.{length}
-use mathlib.Core.Bool.{not}
 use mathlib.Core.Path.{_≡_, refl, sym, ap, _∙_}
 use native.Mathlib.Omega.{arith}
 use Prim.Native.Nat.{_-_}
 use borrow.Author.Needs.{needs}
 use Rattle.records.proofs.rules.avoids.Statement.{statement}
 use Rattle.records.proofs.rules.avoids.Tie as tie
-use Rattle.records.proofs.rules.avoids.Reads as reads
-use Rattle.records.proofs.rules.avoids.Lts as lts
-use Rattle.records.proofs.sets.is_marked.Reads as is-marked-reads
-use Rattle.records.proofs.walk.walk_step.Reads as walk-step-reads
 
 abbrev Inv-loop : tie.InvT-loop
 Inv-loop s at marks c₀ c = On (walk-from s c) × (unmarked marks (met (walk-from s c₀)) ≡ unmarked marks (met (walk-from s c)))
@@ -21,53 +15,41 @@ Inv-loop s at marks c₀ c = On (walk-from s c) × (unmarked marks (met (walk-fr
 abbrev μ-loop : tie.MeasureT-loop
 μ-loop s at marks c₀ c = length s - c .pos
 
--- src/rules.rt:73:5
 loop-holds : tie.Need-loop-holds Inv-loop μ-loop
 loop-holds c = (c .before .before .pre .1, refl)
 
--- src/rules.rt:74:15
 walk-step-requires : tie.Need-walk-step-requires Inv-loop μ-loop
 walk-step-requires c κs = c .loop .inv .0
 
--- src/rules.rt:75:28
 enum-known-x : tie.Need-enum-known-x Inv-loop μ-loop
 enum-known-x c = search needs
 
--- src/rules.rt:76:20
 is-marked-requires : tie.Need-is-marked-requires Inv-loop μ-loop
 is-marked-requires c κs = (to-variable _ (c .before .before .before .before .before .before .shared-slice-known .given) _ (c .before .before .before .before .loop .inv .0) (c .before .before .before .walk-step .ensures) (c .before .x .given .1) .2, c .before .before .before .before .before .before .before .pre .0)
 
--- src/rules.rt:77:21
 returns : tie.Need-returns Inv-loop μ-loop
 returns c = sym (c .before .before .before .before .before .before .loop .inv .1 ∙ met-marked _ (to-variable _ (c .before .before .before .before .before .before .before .before .shared-slice-known .given) _ (c .before .before .before .before .before .before .loop .inv .0) (c .before .before .before .before .before .walk-step .ensures) (c .before .before .before .x .given .1) .1) (c .before .is-marked .ensures) (c .if1 .taken))
 
--- src/rules.rt:73:5
 loop-less : tie.Need-loop-less Inv-loop μ-loop
 loop-less c = omega (arith, to-variable _ (c .before .before .before .before .before .before .before .before .shared-slice-known .given) _ (c .before .before .before .before .before .before .loop .inv .0) (c .before .before .before .before .before .walk-step .ensures) (c .before .before .before .x .given .1) .0)
 
--- src/rules.rt:73:5
 loop-again : tie.Need-loop-again Inv-loop μ-loop
 loop-again c = let y = to-variable _ (c .before .before .before .before .before .before .before .before .shared-slice-known .given) _ (c .before .before .before .before .before .before .loop .inv .0) (c .before .before .before .before .before .walk-step .ensures) (c .before .before .before .x .given .1) in
     (y .0 .through, c .before .before .before .before .before .before .loop .inv .1 ∙ met-unmarked _ (y .1) (c .before .is-marked .ensures) (c .if1 .left))
 
--- src/rules.rt:81:25
 enum-known-d : tie.Need-enum-known-d Inv-loop μ-loop
 enum-known-d c = search needs
 
--- src/rules.rt:73:5
 loop-less-2 : tie.Need-loop-less-2 Inv-loop μ-loop
 loop-less-2 c = omega (arith, to-other _ (c .before .before .before .before .before .before .shared-slice-known .given) _ (c .before .before .before .before .loop .inv .0) (c .before .before .before .walk-step .ensures) (c .before .d .given .1) .0)
 
--- src/rules.rt:73:5
 loop-again-2 : tie.Need-loop-again-2 Inv-loop μ-loop
 loop-again-2 c = let y = to-other _ (c .before .before .before .before .before .before .shared-slice-known .given) _ (c .before .before .before .before .loop .inv .0) (c .before .before .before .walk-step .ensures) (c .before .d .given .1) in
     (y .0 .through, c .before .before .before .before .loop .inv .1 ∙ ap (unmarked _) (y .1))
 
--- src/rules.rt:85:17
 enum-told : tie.Need-enum-told Inv-loop μ-loop
 enum-told c = search needs
 
--- src/rules.rt:85:17
 returns-2 : tie.Need-returns-2 Inv-loop μ-loop
 returns-2 c = sym (c .before .before .before .loop .inv .1 ∙ ap (unmarked _) (to-end _ (c .before .before .before .before .before .shared-slice-known .given) _ (c .before .before .before .loop .inv .0) (c .before .before .walk-step .ensures) (c .enum-told .given .1) .0))
 

@@ -7,52 +7,37 @@ use native.Mathlib.Omega.{arith}
 use borrow.Author.Needs.{needs}
 use Rattle.records.proofs.rules.bet_kept.Statement.{statement}
 use Rattle.records.proofs.rules.bet_kept.Tie as tie
-use Rattle.records.proofs.rules.bet_kept.Reads as reads
-use Rattle.records.proofs.rules.bet_kept.Lts as lts
-use Rattle.records.proofs.heads.bet_head.Reads as bet-head-reads
-use Rattle.records.proofs.rules.unifier_kept.Reads as unifier-kept-reads
 
--- src/rules.rt:219:11
 bet-head-requires : tie.Need-bet-head-requires
 bet-head-requires c κs = tt
 
--- src/rules.rt:220:26
 enum-known-n : tie.Need-enum-known-n
 enum-known-n c = search needs
 
--- src/rules.rt:220:48
 add-unifier-kept : tie.Need-add-unifier-kept
 add-unifier-kept c = omega (arith, bet-room _ _ (c .before .before .before .before .shared-slice-known .given) (c .before .before .before .bet-head .ensures) (Unifier _) (c .before .n .given .1))
 
--- src/rules.rt:220:32
 unifier-kept-requires : tie.Need-unifier-kept-requires
 unifier-kept-requires c κs = unifier-through _ _ (c .before .before .before .bet-head .ensures) (c .before .n .given .1) (c .before .before .before .before .before .pre)
 
--- src/rules.rt:221:27
 enum-told : tie.Need-enum-told
 enum-told c = search needs
 
--- src/rules.rt:222:24
 enum-told-2 : tie.Need-enum-told-2
 enum-told-2 c = search needs
 
--- src/rules.rt:223:27
 enum-told-3 : tie.Need-enum-told-3
 enum-told-3 c = search needs
 
--- src/rules.rt:215:1
 returns : tie.Need-returns
 returns c = c .unifier-kept .ensures ∙ sym (unifier-kept _ _ (c .before .before .before .before .bet-head .ensures) (c .before .before .n .given .1))
 
--- src/rules.rt:215:1
 returns-2 : tie.Need-returns-2
 returns-2 c = sym (other-kept _ _ (c .before .before .bet-head .ensures) (Or _) (c .enum-told .given .1) or-other)
 
--- src/rules.rt:215:1
 returns-3 : tie.Need-returns-3
 returns-3 c = sym (other-kept _ _ (c .before .before .bet-head .ensures) By (c .enum-told2 .given .1) by-other)
 
--- src/rules.rt:215:1
 returns-4 : tie.Need-returns-4
 returns-4 c = sym (other-kept _ _ (c .before .before .bet-head .ensures) NoBet (c .enum-told3 .given .1) none-other)
 

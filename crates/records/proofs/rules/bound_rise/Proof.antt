@@ -10,10 +10,6 @@ use native.Mathlib.Omega.{arith}
 use borrow.Author.Needs.{needs}
 use Rattle.records.proofs.rules.bound_rise.Statement.{statement}
 use Rattle.records.proofs.rules.bound_rise.Tie as tie
-use Rattle.records.proofs.rules.bound_rise.Reads as reads
-use Rattle.records.proofs.rules.bound_rise.Lts as lts
-use Rattle.records.proofs.ends.binding_end.Reads as binding-end-reads
-use Rattle.records.proofs.heads.word_at.Reads as word-at-reads
 
 abbrev Inv-loop : tie.InvT-loop
 Inv-loop s at n pos₀ left₀ low₀ pos left low = (rising (bound (row-at read-binding n s at)) ≡ rising-from low (bound (row-at read-binding left s pos))) × Ends (end-of (many read-binding left) s pos)
@@ -21,63 +17,48 @@ Inv-loop s at n pos₀ left₀ low₀ pos left low = (rising (bound (row-at read
 abbrev μ-loop : tie.MeasureT-loop
 μ-loop s at n pos₀ left₀ low₀ pos left low = left
 
--- src/rules.rt:139:5
 loop-holds : tie.Need-loop-holds Inv-loop μ-loop
 loop-holds c = (refl, c .before .pre)
 
--- src/rules.rt:140:31
 word-at-requires : tie.Need-word-at-requires Inv-loop μ-loop
 word-at-requires c κs = tt
 
--- src/rules.rt:140:26
 enum-known-v : tie.Need-enum-known-v Inv-loop μ-loop
 enum-known-v c = search needs
 
--- src/rules.rt:141:13
 enum-told : tie.Need-enum-told Inv-loop μ-loop
 enum-told c = search needs
 
--- src/rules.rt:141:13
 returns : tie.Need-returns Inv-loop μ-loop
 returns c = no-pair _ _ _ (c .before .before .before .loop-test .taken) (c .before .before .before .before .loop .inv .1) (c .before .before .word-at .ensures) (c .enum-told .given .1)
 
--- src/rules.rt:143:28
 binding-end-requires : tie.Need-binding-end-requires Inv-loop μ-loop
 binding-end-requires c κs = tt
 
--- src/rules.rt:143:23
 enum-known-e : tie.Need-enum-known-e Inv-loop μ-loop
 enum-known-e c = search needs
 
--- src/rules.rt:144:13
 enum-told-2 : tie.Need-enum-told-2 Inv-loop μ-loop
 enum-told-2 c = search needs
 
--- src/rules.rt:144:13
 returns-2 : tie.Need-returns-2 Inv-loop μ-loop
 returns-2 c = no-break read-binding _ _ _ (c .before .before .before .before .before .before .before .loop-test .taken) (c .before .before .before .before .before .before .before .before .loop .inv .1) (c .before .before .binding-end .ensures) (c .enum-told2 .given .1)
 
--- src/rules.rt:147:13
 returns-3 : tie.Need-returns-3 Inv-loop μ-loop
 returns-3 c = falls ((pairs-next _ _ _ (c .before .before .before .before .before .before .before .before .before .loop-test .taken) (c .before .before .before .before .before .before .before .before .before .before .loop .inv .1) (c .before .before .before .before .before .before .before .before .word-at .ensures) (c .before .before .before .before .before .before .v .given .1) (c .before .before .before .before .binding-end .ensures) (c .before .before .e .given .1)) .bound-next) (c .if1 .taken) ∙ sym (c .before .before .before .before .before .before .before .before .before .before .loop .inv .0)
 
--- src/rules.rt:149:15
 add-low : tie.Need-add-low Inv-loop μ-loop
 add-low c = omega (arith, word-room _ _ (c .before .before .before .before .before .before .before .before .before .before .before .shared-slice-known .given) (c .before .before .before .before .before .before .before .before .word-at .ensures) (Number _) (c .before .before .before .before .before .before .v .given .1))
 
--- src/rules.rt:151:16
 sub-left : tie.Need-sub-left Inv-loop μ-loop
 sub-left c = search needs
 
--- src/rules.rt:139:5
 loop-less : tie.Need-loop-less Inv-loop μ-loop
 loop-less c = omega arith
 
--- src/rules.rt:139:5
 loop-again : tie.Need-loop-again Inv-loop μ-loop
 loop-again c = let p = (pairs-next _ _ _ (c .before .before .before .before .before .before .before .before .before .loop-test .taken) (c .before .before .before .before .before .before .before .before .before .before .loop .inv .1) (c .before .before .before .before .before .before .before .before .word-at .ensures) (c .before .before .before .before .before .before .v .given .1) (c .before .before .before .before .binding-end .ensures) (c .before .before .e .given .1)) in (c .before .before .before .before .before .before .before .before .before .before .loop .inv .0 ∙ rises (p .bound-next) (omega arith), p .rest)
 
--- src/rules.rt:132:1
 returns-4 : tie.Need-returns-4 Inv-loop μ-loop
 returns-4 c = risen _ (ap bound (row-none read-binding _ _ _ (omega arith))) ∙ sym (c .before .loop .inv .0)
 

@@ -7,36 +7,25 @@ use native.Mathlib.Omega.{arith}
 use borrow.Author.Needs.{needs}
 use Rattle.records.proofs.rules.clause_kept.Statement.{statement}
 use Rattle.records.proofs.rules.clause_kept.Tie as tie
-use Rattle.records.proofs.rules.clause_kept.Reads as reads
-use Rattle.records.proofs.rules.clause_kept.Lts as lts
-use Rattle.records.proofs.heads.clause_head.Reads as clause-head-reads
-use Rattle.records.proofs.rules.meets_exactly.Reads as meets-exactly-reads
 
--- src/rules.rt:117:11
 clause-head-requires : tie.Need-clause-head-requires
 clause-head-requires c κs = tt
 
--- src/rules.rt:118:33
 enum-known-k : tie.Need-enum-known-k
 enum-known-k c = search needs
 
--- src/rules.rt:121:22
 add-t7 : tie.Need-add-t7
 add-t7 c = omega (arith, clause-room _ _ (c .before .before .before .before .shared-slice-known .given) (c .before .before .before .clause-head .ensures) (Predicate _ _ _) (c .before .k .given .1))
 
--- src/rules.rt:118:42
 meets-exactly-requires : tie.Need-meets-exactly-requires
 meets-exactly-requires c κs = (clause-room _ _ (c .before .before .before .before .shared-slice-known .given) (c .before .before .before .clause-head .ensures) (Predicate _ _ _) (c .before .k .given .1) .3, clause-through _ _ (c .before .before .before .clause-head .ensures) (c .before .k .given .1) (c .before .before .before .before .before .pre))
 
--- src/rules.rt:127:35
 enum-told : tie.Need-enum-told
 enum-told c = search needs
 
--- src/rules.rt:113:1
 returns : tie.Need-returns
 returns c = c .meets-exactly .ensures ∙ sym (clause-kept _ _ (c .before .before .before .before .clause-head .ensures) (c .before .before .k .given .1) (c .before .before .before .before .before .before .pre))
 
--- src/rules.rt:113:1
 returns-2 : tie.Need-returns-2
 returns-2 c = no-clause _ _ (c .before .before .clause-head .ensures) (c .enum-told .given .1) (c .before .before .before .before .pre)
 

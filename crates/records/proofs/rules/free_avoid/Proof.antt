@@ -11,11 +11,6 @@ use native.Mathlib.Omega.{arith}
 use borrow.Author.Needs.{needs}
 use Rattle.records.proofs.rules.free_avoid.Statement.{statement}
 use Rattle.records.proofs.rules.free_avoid.Tie as tie
-use Rattle.records.proofs.rules.free_avoid.Reads as reads
-use Rattle.records.proofs.rules.free_avoid.Lts as lts
-use Rattle.records.proofs.ends.binding_end.Reads as binding-end-reads
-use Rattle.records.proofs.heads.word_at.Reads as word-at-reads
-use Rattle.records.proofs.rules.avoids.Reads as avoids-reads
 
 abbrev Inv-loop : tie.InvT-loop
 Inv-loop s at n marks pos₀ left₀ pos left = (unmarked marks (free (row-at read-binding n s at)) ≡ unmarked marks (free (row-at read-binding left s pos))) × Ends (end-of (many read-binding left) s pos)
@@ -23,66 +18,51 @@ Inv-loop s at n marks pos₀ left₀ pos left = (unmarked marks (free (row-at re
 abbrev μ-loop : tie.MeasureT-loop
 μ-loop s at n marks pos₀ left₀ pos left = left
 
--- src/rules.rt:185:5
 loop-holds : tie.Need-loop-holds Inv-loop μ-loop
 loop-holds c = (refl, c .before .before .pre .1)
 
--- src/rules.rt:186:31
 word-at-requires : tie.Need-word-at-requires Inv-loop μ-loop
 word-at-requires c κs = tt
 
 enum-told : tie.Need-enum-told Inv-loop μ-loop
 enum-told c = search needs
 
--- src/rules.rt:187:13
 enum-told-2 : tie.Need-enum-told-2 Inv-loop μ-loop
 enum-told-2 c = search needs
 
--- src/rules.rt:187:13
 returns : tie.Need-returns Inv-loop μ-loop
 returns c = no-pair _ _ _ (c .before .before .before .loop-test .taken) (c .before .before .before .before .loop .inv .1) (c .before .before .word-at .ensures) (c .enum-told2 .given .1)
 
--- src/rules.rt:189:28
 binding-end-requires : tie.Need-binding-end-requires Inv-loop μ-loop
 binding-end-requires c κs = tt
 
--- src/rules.rt:189:23
 enum-known-e : tie.Need-enum-known-e Inv-loop μ-loop
 enum-known-e c = search needs
 
--- src/rules.rt:190:13
 enum-told-3 : tie.Need-enum-told-3 Inv-loop μ-loop
 enum-told-3 c = search needs
 
--- src/rules.rt:190:13
 returns-2 : tie.Need-returns-2 Inv-loop μ-loop
 returns-2 c = no-break read-binding _ _ _ (c .before .before .before .before .before .before .loop-test .taken) (c .before .before .before .before .before .before .before .loop .inv .1) (c .before .before .binding-end .ensures) (c .enum-told3 .given .1)
 
--- src/rules.rt:192:23
 add-avoids : tie.Need-add-avoids Inv-loop μ-loop
 add-avoids c = omega (arith, word-room _ _ (c .before .before .before .before .before .before .before .before .before .before .shared-slice-known .given) (c .before .before .before .before .before .before .word-at .ensures) (Number _) (c .before .before .before .before .enum-told .given .1))
 
--- src/rules.rt:192:13
 avoids-requires : tie.Need-avoids-requires Inv-loop μ-loop
 avoids-requires c κs = (c .before .before .before .before .before .before .before .before .before .before .before .pre .0, (pairs-next _ _ _ (c .before .before .before .before .before .before .before .loop-test .taken) (c .before .before .before .before .before .before .before .before .loop .inv .1) (c .before .before .before .before .before .before .word-at .ensures) (c .before .before .before .before .enum-told .given .1) (c .before .before .before .binding-end .ensures) (c .before .e .given .1)) .through)
 
--- src/rules.rt:193:13
 returns-3 : tie.Need-returns-3 Inv-loop μ-loop
 returns-3 c = met-some (pairs-next _ _ _ (c .before .before .before .before .before .before .before .before .before .loop-test .taken) (c .before .before .before .before .before .before .before .before .before .before .loop .inv .1) (c .before .before .before .before .before .before .before .before .word-at .ensures) (c .before .before .before .before .before .before .enum-told .given .1) (c .before .before .before .before .before .binding-end .ensures) (c .before .before .before .e .given .1)) _ (c .before .avoids .ensures) (not-true _ (c .if1 .taken)) ∙ sym (c .before .before .before .before .before .before .before .before .before .before .loop .inv .0)
 
--- src/rules.rt:196:16
 sub-left : tie.Need-sub-left Inv-loop μ-loop
 sub-left c = search needs
 
--- src/rules.rt:185:5
 loop-less : tie.Need-loop-less Inv-loop μ-loop
 loop-less c = omega arith
 
--- src/rules.rt:185:5
 loop-again : tie.Need-loop-again Inv-loop μ-loop
 loop-again c = let p = (pairs-next _ _ _ (c .before .before .before .before .before .before .before .before .before .loop-test .taken) (c .before .before .before .before .before .before .before .before .before .before .loop .inv .1) (c .before .before .before .before .before .before .before .before .word-at .ensures) (c .before .before .before .before .before .before .enum-told .given .1) (c .before .before .before .before .before .binding-end .ensures) (c .before .before .before .e .given .1)) in (c .before .before .before .before .before .before .before .before .before .before .loop .inv .0 ∙ avoided p _ (c .before .avoids .ensures) (not-false _ (c .if1 .left)), p .rest)
 
--- src/rules.rt:178:1
 returns-4 : tie.Need-returns-4 Inv-loop μ-loop
 returns-4 c = none-met _ (ap free (row-none read-binding _ _ _ (omega arith))) ∙ sym (c .before .loop .inv .0)
 

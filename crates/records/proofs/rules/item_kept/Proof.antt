@@ -2,53 +2,37 @@ use Rattle.records.proofs.ItemArms.{ancestor-rules, bet-found, bet-kept
 use borrow.Author.Needs.{needs}
 use Rattle.records.proofs.rules.item_kept.Statement.{statement}
 use Rattle.records.proofs.rules.item_kept.Tie as tie
-use Rattle.records.proofs.rules.item_kept.Reads as reads
-use Rattle.records.proofs.rules.item_kept.Lts as lts
-use Rattle.records.proofs.rules.bet_kept.Reads as bet-kept-reads
-use Rattle.records.proofs.rules.clause_kept.Reads as clause-kept-reads
-use Rattle.records.proofs.rules.definition_kept.Reads as definition-kept-reads
 
--- src/rules.rt:232:27
 enum-told : tie.Need-enum-told
 enum-told c = search needs
 
--- src/rules.rt:233:22
 enum-told-2 : tie.Need-enum-told-2
 enum-told-2 c = search needs
 
--- src/rules.rt:233:22
 bet-kept-requires : tie.Need-bet-kept-requires
 bet-kept-requires c κs = bet-found _ _ (c .enum-told2 .given .1) (c .before .before .before .pre)
 
--- src/rules.rt:234:29
 enum-told-3 : tie.Need-enum-told-3
 enum-told-3 c = search needs
 
--- src/rules.rt:234:29
 definition-kept-requires : tie.Need-definition-kept-requires
 definition-kept-requires c κs = definition-found _ _ (c .enum-told3 .given .1) (c .before .before .before .pre)
 
--- src/rules.rt:235:25
 enum-told-4 : tie.Need-enum-told-4
 enum-told-4 c = search needs
 
--- src/rules.rt:235:25
 clause-kept-requires : tie.Need-clause-kept-requires
 clause-kept-requires c κs = clause-found _ _ (c .enum-told4 .given .1) (c .before .before .before .pre)
 
--- src/rules.rt:227:1
 returns : tie.Need-returns
 returns c = ancestor-rules _ _ (c .enum-told .given .1)
 
--- src/rules.rt:227:1
 returns-2 : tie.Need-returns-2
 returns-2 c = bet-kept _ _ (c .before .enum-told2 .given .1) (c .bet-kept .ensures)
 
--- src/rules.rt:227:1
 returns-3 : tie.Need-returns-3
 returns-3 c = definition-kept _ _ (c .before .enum-told3 .given .1) (c .definition-kept .ensures)
 
--- src/rules.rt:227:1
 returns-4 : tie.Need-returns-4
 returns-4 c = clause-kept _ _ (c .before .enum-told4 .given .1) (c .clause-kept .ensures)
 

@@ -8,10 +8,6 @@ use native.Mathlib.Omega.{arith}
 use borrow.Author.Needs.{needs}
 use Rattle.records.proofs.rules.items_kept.Statement.{statement}
 use Rattle.records.proofs.rules.items_kept.Tie as tie
-use Rattle.records.proofs.rules.items_kept.Reads as reads
-use Rattle.records.proofs.rules.items_kept.Lts as lts
-use Rattle.records.proofs.ends.item_end.Reads as item-end-reads
-use Rattle.records.proofs.rules.item_kept.Reads as item-kept-reads
 
 abbrev Inv-loop : tie.InvT-loop
 Inv-loop s at item n pos₀ left₀ pos left = (items-kept item n s at ≡ items-kept item left s pos) × Ends (items-end item left s pos)
@@ -19,48 +15,39 @@ Inv-loop s at item n pos₀ left₀ pos left = (items-kept item n s at ≡ items
 abbrev μ-loop : tie.MeasureT-loop
 μ-loop s at item n pos₀ left₀ pos left = left
 
--- src/rules.rt:246:5
 loop-holds : tie.Need-loop-holds Inv-loop μ-loop
 loop-holds c = (refl, c .before .pre)
 
--- src/rules.rt:247:13
 item-kept-requires : tie.Need-item-kept-requires Inv-loop μ-loop
 item-kept-requires c κs = items-first _ _ _ _ (c .loop-test .taken) (c .before .loop .inv .1)
 
--- src/rules.rt:248:13
 returns : tie.Need-returns Inv-loop μ-loop
 returns c = items-broken _ _ _ _ (c .before .before .loop-test .taken) (c .before .before .before .loop .inv .1) (c .before .item-kept .ensures) (not-true _ (c .if1 .taken)) ∙ sym (c .before .before .before .loop .inv .0)
 
--- src/rules.rt:250:28
 item-end-requires : tie.Need-item-end-requires Inv-loop μ-loop
 item-end-requires c κs = tt
 
--- src/rules.rt:250:23
 enum-known-e : tie.Need-enum-known-e Inv-loop μ-loop
 enum-known-e c = search needs
 
--- src/rules.rt:251:13
 enum-told : tie.Need-enum-told Inv-loop μ-loop
 enum-told c = search needs
 
--- src/rules.rt:251:13
 returns-2 : tie.Need-returns-2 Inv-loop μ-loop
 returns-2 c = items-break _ _ _ _ (c .before .before .before .before .before .loop-test .taken) (c .before .before .before .before .before .before .loop .inv .1) (c .before .before .item-end .ensures) (c .enum-told .given .1)
 
--- src/rules.rt:254:16
 sub-left : tie.Need-sub-left Inv-loop μ-loop
 sub-left c = search needs
 
--- src/rules.rt:246:5
 loop-less : tie.Need-loop-less Inv-loop μ-loop
 loop-less c = omega arith
 
--- src/rules.rt:246:5
 loop-again : tie.Need-loop-again Inv-loop μ-loop
-loop-again c = (c .before .before .before .before .before .before .before .loop .inv .0 ∙ items-more _ _ _ _ (c .before .before .before .before .before .before .loop-test .taken) (c .before .before .before .before .before .before .before .loop .inv .1) (c .before .before .before .item-end .ensures) (c .before .e .given .1) (c .before .before .before .before .before .item-kept .ensures) (not-false _ (c .before .before .before .before .if1 .left)),
-    items-rest _ _ _ _ (c .before .before .before .before .before .before .loop-test .taken) (c .before .before .before .before .before .before .before .loop .inv .1) (c .before .before .before .item-end .ensures) (c .before .e .given .1))
+loop-again c = (
+  c .before .before .before .before .before .before .before .loop .inv .0 ∙ items-more _ _ _ _ (c .before .before .before .before .before .before .loop-test .taken) (c .before .before .before .before .before .before .before .loop .inv .1) (c .before .before .before .item-end .ensures) (c .before .e .given .1) (c .before .before .before .before .before .item-kept .ensures) (not-false _ (c .before .before .before .before .if1 .left)),
+  items-rest _ _ _ _ (c .before .before .before .before .before .before .loop-test .taken) (c .before .before .before .before .before .before .before .loop .inv .1) (c .before .before .before .item-end .ensures) (c .before .e .given .1),
+)
 
--- src/rules.rt:240:1
 returns-3 : tie.Need-returns-3 Inv-loop μ-loop
 returns-3 c = items-none _ _ _ _ (omega arith) ∙ sym (c .before .loop .inv .0)
 

@@ -10,10 +10,6 @@ use native.Mathlib.Omega.{arith}
 use borrow.Author.Needs.{needs}
 use Rattle.records.proofs.rules.keys_rise.Statement.{statement}
 use Rattle.records.proofs.rules.keys_rise.Tie as tie
-use Rattle.records.proofs.rules.keys_rise.Reads as reads
-use Rattle.records.proofs.rules.keys_rise.Lts as lts
-use Rattle.records.proofs.ends.definition_end.Reads as definition-end-reads
-use Rattle.records.proofs.heads.definition_head.Reads as definition-head-reads
 
 abbrev Inv-loop : tie.InvT-loop
 Inv-loop s at n pos₀ left₀ low₀ pos left low = (rising (keys (row-at read-definition n s at)) ≡ rising-from low (keys (row-at read-definition left s pos))) × Ends (end-of (many read-definition left) s pos)
@@ -21,71 +17,54 @@ Inv-loop s at n pos₀ left₀ low₀ pos left low = (rising (keys (row-at read-
 abbrev μ-loop : tie.MeasureT-loop
 μ-loop s at n pos₀ left₀ low₀ pos left low = left
 
--- src/rules.rt:267:5
 loop-holds : tie.Need-loop-holds Inv-loop μ-loop
 loop-holds c = (refl, c .before .pre)
 
--- src/rules.rt:268:45
 definition-head-requires : tie.Need-definition-head-requires Inv-loop μ-loop
 definition-head-requires c κs = tt
 
--- src/rules.rt:268:34
 enum-known-p : tie.Need-enum-known-p Inv-loop μ-loop
 enum-known-p c = search needs
 
--- src/rules.rt:269:13
 enum-told : tie.Need-enum-told Inv-loop μ-loop
 enum-told c = search needs
 
--- src/rules.rt:269:13
 returns : tie.Need-returns Inv-loop μ-loop
 returns c = no-key _ _ _ (c .before .before .before .loop-test .taken) (c .before .before .before .before .loop .inv .1) (c .before .before .definition-head .ensures) (c .enum-told .given .1)
 
--- src/rules.rt:271:28
 definition-end-requires : tie.Need-definition-end-requires Inv-loop μ-loop
 definition-end-requires c κs = tt
 
--- src/rules.rt:271:23
 enum-known-e : tie.Need-enum-known-e Inv-loop μ-loop
 enum-known-e c = search needs
 
--- src/rules.rt:272:13
 enum-told-2 : tie.Need-enum-told-2 Inv-loop μ-loop
 enum-told-2 c = search needs
 
--- src/rules.rt:272:13
 returns-2 : tie.Need-returns-2 Inv-loop μ-loop
 returns-2 c = no-break read-definition _ _ _ (c .before .before .before .before .before .before .before .loop-test .taken) (c .before .before .before .before .before .before .before .before .loop .inv .1) (c .before .before .definition-end .ensures) (c .enum-told2 .given .1)
 
--- src/rules.rt:274:19
 mul-key : tie.Need-mul-key Inv-loop μ-loop
 mul-key c = omega (arith, definition-room _ _ (c .before .before .before .before .before .before .before .before .before .before .shared-slice-known .given) (c .before .before .before .before .before .before .before .definition-head .ensures) (Predicate _ _ _) (c .before .before .before .before .before .p .given .1))
 
--- src/rules.rt:274:19
 add-key : tie.Need-add-key Inv-loop μ-loop
 add-key c = omega (arith, definition-room _ _ (c .before .before .before .before .before .before .before .before .before .before .shared-slice-known .given) (c .before .before .before .before .before .before .before .definition-head .ensures) (Predicate _ _ _) (c .before .before .before .before .before .p .given .1))
 
--- src/rules.rt:276:13
 returns-3 : tie.Need-returns-3 Inv-loop μ-loop
 returns-3 c = falls ((keys-next _ _ _ (c .before .before .before .before .before .before .before .before .before .loop-test .taken) (c .before .before .before .before .before .before .before .before .before .before .loop .inv .1) (c .before .before .before .before .before .before .before .before .definition-head .ensures) (c .before .before .before .before .before .before .p .given .1) (c .before .before .before .before .definition-end .ensures) (c .before .before .e .given .1)) .0) (c .if1 .taken) ∙ sym (c .before .before .before .before .before .before .before .before .before .before .loop .inv .0)
 
--- src/rules.rt:278:15
 add-low : tie.Need-add-low Inv-loop μ-loop
 add-low c = omega (arith, definition-room _ _ (c .before .before .before .before .before .before .before .before .before .before .before .shared-slice-known .given) (c .before .before .before .before .before .before .before .before .definition-head .ensures) (Predicate _ _ _) (c .before .before .before .before .before .before .p .given .1))
 
--- src/rules.rt:280:16
 sub-left : tie.Need-sub-left Inv-loop μ-loop
 sub-left c = search needs
 
--- src/rules.rt:267:5
 loop-less : tie.Need-loop-less Inv-loop μ-loop
 loop-less c = omega arith
 
--- src/rules.rt:267:5
 loop-again : tie.Need-loop-again Inv-loop μ-loop
 loop-again c = let p = (keys-next _ _ _ (c .before .before .before .before .before .before .before .before .before .loop-test .taken) (c .before .before .before .before .before .before .before .before .before .before .loop .inv .1) (c .before .before .before .before .before .before .before .before .definition-head .ensures) (c .before .before .before .before .before .before .p .given .1) (c .before .before .before .before .definition-end .ensures) (c .before .before .e .given .1)) in (c .before .before .before .before .before .before .before .before .before .before .loop .inv .0 ∙ rises (p .0) (omega arith), p .1)
 
--- src/rules.rt:260:1
 returns-4 : tie.Need-returns-4 Inv-loop μ-loop
 returns-4 c = risen _ (ap keys (row-none read-definition _ _ _ (omega arith))) ∙ sym (c .before .loop .inv .0)
 

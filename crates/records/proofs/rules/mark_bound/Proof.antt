@@ -13,11 +13,6 @@ use native.Mathlib.Omega.{arith}
 use borrow.Author.Needs.{needs}
 use Rattle.records.proofs.rules.mark_bound.Statement.{statement}
 use Rattle.records.proofs.rules.mark_bound.Tie as tie
-use Rattle.records.proofs.rules.mark_bound.Reads as reads
-use Rattle.records.proofs.rules.mark_bound.Lts as lts
-use Rattle.records.proofs.ends.binding_end.Reads as binding-end-reads
-use Rattle.records.proofs.heads.word_at.Reads as word-at-reads
-use Rattle.records.proofs.sets.mark.Reads as mark-reads
 
 abbrev Inv-loop : tie.InvT-loop
 Inv-loop s at n marks₀ pos₀ left₀ marks pos left = Ends (end-of (many read-binding left) s pos) × (length marks ≡ 1024) × (all-marked marks₀ (bound (row-at read-binding n s at)) ≡ all-marked marks (bound (row-at read-binding left s pos)))
@@ -25,71 +20,54 @@ Inv-loop s at n marks₀ pos₀ left₀ marks pos left = Ends (end-of (many read
 abbrev μ-loop : tie.MeasureT-loop
 μ-loop s at n marks₀ pos₀ left₀ marks pos left = left
 
--- src/rules.rt:164:5
 loop-holds : tie.Need-loop-holds Inv-loop μ-loop
 loop-holds c = (c .before .before .pre .1, c .before .before .pre .0, refl)
 
--- src/rules.rt:165:31
 word-at-requires : tie.Need-word-at-requires Inv-loop μ-loop
 word-at-requires c κs = tt
 
--- src/rules.rt:165:26
 enum-known-v : tie.Need-enum-known-v Inv-loop μ-loop
 enum-known-v c = search needs
 
--- src/rules.rt:166:13
 enum-told : tie.Need-enum-told Inv-loop μ-loop
 enum-told c = search needs
 
--- src/rules.rt:166:13
 same-length : tie.Need-same-length Inv-loop μ-loop
 same-length c = no-pair _ _ _ (c .before .before .before .loop-test .taken) (c .before .before .before .before .loop .inv .0) (c .before .before .word-at .ensures) (c .enum-told .given .1)
 
--- src/rules.rt:166:13
 returns : tie.Need-returns Inv-loop μ-loop
 returns c = no-pair _ _ _ (c .before .before .before .loop-test .taken) (c .before .before .before .before .loop .inv .0) (c .before .before .word-at .ensures) (c .enum-told .given .1)
 
--- src/rules.rt:168:28
 binding-end-requires : tie.Need-binding-end-requires Inv-loop μ-loop
 binding-end-requires c κs = tt
 
--- src/rules.rt:168:23
 enum-known-e : tie.Need-enum-known-e Inv-loop μ-loop
 enum-known-e c = search needs
 
--- src/rules.rt:169:13
 enum-told-2 : tie.Need-enum-told-2 Inv-loop μ-loop
 enum-told-2 c = search needs
 
--- src/rules.rt:169:13
 same-length-2 : tie.Need-same-length-2 Inv-loop μ-loop
 same-length-2 c = no-break read-binding _ _ _ (c .before .before .before .before .before .before .before .loop-test .taken) (c .before .before .before .before .before .before .before .before .loop .inv .0) (c .before .before .binding-end .ensures) (c .enum-told2 .given .1)
 
--- src/rules.rt:169:13
 returns-2 : tie.Need-returns-2 Inv-loop μ-loop
 returns-2 c = no-break read-binding _ _ _ (c .before .before .before .before .before .before .before .loop-test .taken) (c .before .before .before .before .before .before .before .before .loop .inv .0) (c .before .before .binding-end .ensures) (c .enum-told2 .given .1)
 
--- src/rules.rt:171:9
 mark-requires : tie.Need-mark-requires Inv-loop μ-loop
 mark-requires c κs = (word-room _ _ (c .before .before .before .before .before .before .before .before .before .before .before .before .shared-slice-known .given) (c .before .before .before .before .before .before .before .before .word-at .ensures) (Number _) (c .before .before .before .before .before .before .v .given .1) .1, c .before .before .before .before .before .before .before .before .before .before .loop .inv .1)
 
--- src/rules.rt:173:16
 sub-left : tie.Need-sub-left Inv-loop μ-loop
 sub-left c = search needs
 
--- src/rules.rt:164:5
 loop-less : tie.Need-loop-less Inv-loop μ-loop
 loop-less c = omega arith
 
--- src/rules.rt:164:5
 loop-again : tie.Need-loop-again Inv-loop μ-loop
 loop-again c = let p = (pairs-next _ _ _ (c .before .before .before .before .before .before .before .before .before .before .before .before .loop-test .taken) (c .before .before .before .before .before .before .before .before .before .before .before .before .before .loop .inv .0) (c .before .before .before .before .before .before .before .before .before .before .before .word-at .ensures) (c .before .before .before .before .before .before .before .before .before .v .given .1) (c .before .before .before .before .before .before .before .binding-end .ensures) (c .before .before .before .before .before .e .given .1)) in (p .rest, ap length (c .before .before .mark .ensures) ∙ length-marked _ _ ∙ c .before .before .before .before .before .before .before .before .before .before .before .before .before .loop .inv .1, c .before .before .before .before .before .before .before .before .before .before .before .before .before .loop .inv .2 ∙ marks-next _ (p .bound-next) (c .before .before .mark .ensures))
 
--- src/rules.rt:157:1
 same-length-3 : tie.Need-same-length-3 Inv-loop μ-loop
 same-length-3 c = omega arith
 
--- src/rules.rt:157:1
 returns-3 : tie.Need-returns-3 Inv-loop μ-loop
 returns-3 c = marks-done _ (ap bound (row-none read-binding _ _ _ (omega arith))) ∙ sym (c .before .loop .inv .2)
 

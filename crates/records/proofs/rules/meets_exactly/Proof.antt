@@ -3,17 +3,12 @@ use Rattle.records.specs.SetLaws.{exactly-start, exactly-next, exactly-n
 use Rattle.records.specs.Sets.{exactly-from}
 use Rattle.records.specs.RecordRules.{exactly}
 use lib.ListN.{length}
-use mathlib.Core.Path.{_≡_, refl, sym, ap, _∙_}
+use mathlib.Core.Path.{_≡_, sym, ap, _∙_}
 use native.Mathlib.Omega.{arith}
 use Prim.Native.Nat.{_-_}
 use borrow.Author.Needs.{needs}
 use Rattle.records.proofs.rules.meets_exactly.Statement.{statement}
 use Rattle.records.proofs.rules.meets_exactly.Tie as tie
-use Rattle.records.proofs.rules.meets_exactly.Reads as reads
-use Rattle.records.proofs.rules.meets_exactly.Lts as lts
-use Rattle.records.proofs.sets.is_full.Reads as is-full-reads
-use Rattle.records.proofs.sets.with_variable.Reads as with-variable-reads
-use Rattle.records.proofs.walk.walk_step.Reads as walk-step-reads
 
 abbrev Inv-loop : tie.InvT-loop
 Inv-loop s v c₀ set₀ c set = On (walk-from s c) × (exactly v (met (walk-from s c₀)) ≡ exactly-from v set (met (walk-from s c)))
@@ -21,57 +16,44 @@ Inv-loop s v c₀ set₀ c set = On (walk-from s c) × (exactly v (met (walk-fro
 abbrev μ-loop : tie.MeasureT-loop
 μ-loop s v c₀ set₀ c set = length s - c .pos
 
--- src/rules.rt:43:5
 loop-holds : tie.Need-loop-holds Inv-loop μ-loop
 loop-holds c = (c .before .pre .1, sym (exactly-start _ _))
 
--- src/rules.rt:44:15
 walk-step-requires : tie.Need-walk-step-requires Inv-loop μ-loop
 walk-step-requires c κs = c .loop .inv .0
 
--- src/rules.rt:45:28
 enum-known-x : tie.Need-enum-known-x Inv-loop μ-loop
 enum-known-x c = search needs
 
--- src/rules.rt:47:21
 returns : tie.Need-returns Inv-loop μ-loop
 returns c = sym (c .before .before .before .before .before .loop .inv .1 ∙ ap (exactly-from _ _) (to-variable _ (c .before .before .before .before .before .before .shared-slice-known .given) _ (c .before .before .before .before .before .loop .inv .0) (c .before .before .before .before .walk-step .ensures) (c .before .before .x .given .1) .1) ∙ exactly-not _ _ _ _ (c .if1 .taken))
 
--- src/rules.rt:49:17
 with-variable-requires : tie.Need-with-variable-requires Inv-loop μ-loop
 with-variable-requires c κs = omega arith
 
--- src/rules.rt:43:5
 loop-less : tie.Need-loop-less Inv-loop μ-loop
 loop-less c = omega (arith, to-variable _ (c .before .before .before .before .before .before .before .shared-slice-known .given) _ (c .before .before .before .before .before .before .loop .inv .0) (c .before .before .before .before .before .walk-step .ensures) (c .before .before .before .x .given .1) .0)
 
--- src/rules.rt:43:5
 loop-again : tie.Need-loop-again Inv-loop μ-loop
 loop-again c = let y = to-variable _ (c .before .before .before .before .before .before .before .shared-slice-known .given) _ (c .before .before .before .before .before .before .loop .inv .0) (c .before .before .before .before .before .walk-step .ensures) (c .before .before .before .x .given .1) in
     (y .0 .through, c .before .before .before .before .before .before .loop .inv .1 ∙ ap (exactly-from _ _) (y .1) ∙ exactly-next _ _ _ _ (omega arith) ∙ rw (c .with-variable .ensures))
 
--- src/rules.rt:52:25
 enum-known-d : tie.Need-enum-known-d Inv-loop μ-loop
 enum-known-d c = search needs
 
--- src/rules.rt:43:5
 loop-less-2 : tie.Need-loop-less-2 Inv-loop μ-loop
 loop-less-2 c = omega (arith, to-other _ (c .before .before .before .before .before .shared-slice-known .given) _ (c .before .before .before .before .loop .inv .0) (c .before .before .before .walk-step .ensures) (c .before .d .given .1) .0)
 
--- src/rules.rt:43:5
 loop-again-2 : tie.Need-loop-again-2 Inv-loop μ-loop
 loop-again-2 c = let y = to-other _ (c .before .before .before .before .before .shared-slice-known .given) _ (c .before .before .before .before .loop .inv .0) (c .before .before .before .walk-step .ensures) (c .before .d .given .1) in
     (y .0 .through, c .before .before .before .before .loop .inv .1 ∙ ap (exactly-from _ _) (y .1))
 
--- src/rules.rt:56:17
 enum-told : tie.Need-enum-told Inv-loop μ-loop
 enum-told c = search needs
 
--- src/rules.rt:56:17
 is-full-requires : tie.Need-is-full-requires Inv-loop μ-loop
 is-full-requires c κs = c .before .before .before .before .before .pre .0
 
--- src/rules.rt:56:17
 returns-2 : tie.Need-returns-2 Inv-loop μ-loop
 returns-2 c = c .is-full .ensures ∙ sym (c .before .before .before .before .loop .inv .1 ∙ ap (exactly-from _ _) (to-end _ (c .before .before .before .before .before .shared-slice-known .given) _ (c .before .before .before .before .loop .inv .0) (c .before .before .before .walk-step .ensures) (c .before .enum-told .given .1) .0) ∙ exactly-end _ _)
 

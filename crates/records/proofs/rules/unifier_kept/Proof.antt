@@ -3,37 +3,25 @@ use borrow.Author.Tests.{not-true, not-false}
 use borrow.Author.Needs.{needs}
 use Rattle.records.proofs.rules.unifier_kept.Statement.{statement}
 use Rattle.records.proofs.rules.unifier_kept.Tie as tie
-use Rattle.records.proofs.rules.unifier_kept.Reads as reads
-use Rattle.records.proofs.rules.unifier_kept.Lts as lts
-use Rattle.records.proofs.rules.bound_rise.Reads as bound-rise-reads
-use Rattle.records.proofs.rules.free_avoid.Reads as free-avoid-reads
-use Rattle.records.proofs.rules.mark_bound.Reads as mark-bound-reads
 
--- src/rules.rt:206:9
 bound-rise-requires : tie.Need-bound-rise-requires
 bound-rise-requires c κs = search needs
 
--- src/rules.rt:207:9
 returns : tie.Need-returns
 returns c = falling-unifier _ _ _ (c .before .before .shared-slice-known .given) (c .before .before .before .pre) (c .before .bound-rise .ensures) (not-true _ (c .if1 .taken))
 
--- src/rules.rt:210:26
 slice-aggregate-mark-bound : tie.Need-slice-aggregate-mark-bound
 slice-aggregate-mark-bound c = search needs
 
--- src/rules.rt:210:5
 mark-bound-requires : tie.Need-mark-bound-requires
 mark-bound-requires c κs = search needs
 
--- src/rules.rt:211:26
 slice-aggregate-free-avoid : tie.Need-slice-aggregate-free-avoid
 slice-aggregate-free-avoid c = search needs
 
--- src/rules.rt:211:5
 free-avoid-requires : tie.Need-free-avoid-requires
 free-avoid-requires c κs = search needs
 
--- src/rules.rt:202:1
 returns-2 : tie.Need-returns-2
 returns-2 c = rising-unifier _ _ _ (c .before .before .before .before .before .before .before .shared-slice-known .given) (c .before .before .before .before .before .before .before .before .pre) (c .before .before .before .before .before .before .bound-rise .ensures) (not-false _ (c .before .before .before .before .before .if1 .left)) (c .before .before .before .mark-bound .ensures) (c .free-avoid .ensures)
 

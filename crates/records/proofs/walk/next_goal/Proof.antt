@@ -7,92 +7,67 @@ use native.Mathlib.Omega.{arith}
 use borrow.Author.Needs.{needs}
 use Rattle.records.proofs.walk.next_goal.Statement.{statement}
 use Rattle.records.proofs.walk.next_goal.Tie as tie
-use Rattle.records.proofs.walk.next_goal.Reads as reads
-use Rattle.records.proofs.walk.next_goal.Lts as lts
-use Rattle.records.proofs.heads.goal_head.Reads as goal-head-reads
-use Rattle.records.proofs.walk.after_goal.Reads as after-goal-reads
 
--- src/walk.rt:67:11
 goal-head-requires : tie.Need-goal-head-requires
 goal-head-requires c κs = search needs
 
--- src/walk.rt:68:28
 enum-told : tie.Need-enum-told
 enum-told c = search needs
 
--- src/walk.rt:68:28
 after-goal-requires : tie.Need-after-goal-requires
 after-goal-requires c κs = let r = goal-room _ _ (c .before .before .before .shared-slice-known .given) (c .before .before .goal-head .ensures) Truth (c .enum-told .given .1) in let b = on-bound _ (c .before .before .before .shared-slice-known .given) _ _ _ (c .before .before .before .before .pre .1) in omega arith
 
--- src/walk.rt:69:30
 enum-told-2 : tie.Need-enum-told-2
 enum-told-2 c = search needs
 
--- src/walk.rt:69:30
 after-goal-requires-2 : tie.Need-after-goal-requires-2
 after-goal-requires-2 c κs = let r = goal-room _ _ (c .before .before .before .shared-slice-known .given) (c .before .before .goal-head .ensures) Failure (c .enum-told2 .given .1) in let b = on-bound _ (c .before .before .before .shared-slice-known .given) _ _ _ (c .before .before .before .before .pre .1) in omega arith
 
--- src/walk.rt:70:28
 enum-told-3 : tie.Need-enum-told-3
 enum-told-3 c = search needs
 
--- src/walk.rt:70:28
 after-goal-requires-3 : tie.Need-after-goal-requires-3
 after-goal-requires-3 c κs = let r = goal-room _ _ (c .before .before .before .shared-slice-known .given) (c .before .before .goal-head .ensures) Equal (c .enum-told3 .given .1) in let b = on-bound _ (c .before .before .before .shared-slice-known .given) _ _ _ (c .before .before .before .before .pre .1) in omega arith
 
--- src/walk.rt:71:27
 enum-told-4 : tie.Need-enum-told-4
 enum-told-4 c = search needs
 
--- src/walk.rt:71:27
 after-goal-requires-4 : tie.Need-after-goal-requires-4
 after-goal-requires-4 c κs = let r = goal-room _ _ (c .before .before .before .shared-slice-known .given) (c .before .before .goal-head .ensures) Conj (c .enum-told4 .given .1) in let b = on-bound _ (c .before .before .before .shared-slice-known .given) _ _ _ (c .before .before .before .before .pre .1) in omega arith
 
--- src/walk.rt:72:27
 enum-told-5 : tie.Need-enum-told-5
 enum-told-5 c = search needs
 
--- src/walk.rt:72:27
 after-goal-requires-5 : tie.Need-after-goal-requires-5
 after-goal-requires-5 c κs = let r = goal-room _ _ (c .before .before .before .shared-slice-known .given) (c .before .before .goal-head .ensures) Disj (c .enum-told5 .given .1) in let b = on-bound _ (c .before .before .before .shared-slice-known .given) _ _ _ (c .before .before .before .before .pre .1) in omega arith
 
--- src/walk.rt:73:27
 enum-known-k : tie.Need-enum-known-k
 enum-known-k c = search needs
 
--- src/walk.rt:73:33
 after-goal-requires-6 : tie.Need-after-goal-requires-6
 after-goal-requires-6 c κs = let r = goal-room _ _ (c .before .before .before .before .shared-slice-known .given) (c .before .before .before .goal-head .ensures) (Atom _ _) (c .before .k .given .1) in let b = on-bound _ (c .before .before .before .before .shared-slice-known .given) _ _ _ (c .before .before .before .before .before .pre .1) in omega arith
 
--- src/walk.rt:74:29
 enum-told-6 : tie.Need-enum-told-6
 enum-told-6 c = search needs
 
--- src/walk.rt:62:1
 returns : tie.Need-returns
 returns c = c .after-goal .ensures ∙ goal-arm _ _ _ (c .before .before .before .before .before .pre .0) (c .before .before .before .goal-head .ensures) Truth (c .before .enum-told .given .1)
 
--- src/walk.rt:62:1
 returns-2 : tie.Need-returns-2
 returns-2 c = c .after-goal2 .ensures ∙ goal-arm _ _ _ (c .before .before .before .before .before .pre .0) (c .before .before .before .goal-head .ensures) Failure (c .before .enum-told2 .given .1)
 
--- src/walk.rt:62:1
 returns-3 : tie.Need-returns-3
 returns-3 c = c .after-goal3 .ensures ∙ goal-arm _ _ _ (c .before .before .before .before .before .pre .0) (c .before .before .before .goal-head .ensures) Equal (c .before .enum-told3 .given .1)
 
--- src/walk.rt:62:1
 returns-4 : tie.Need-returns-4
 returns-4 c = c .after-goal4 .ensures ∙ goal-arm _ _ _ (c .before .before .before .before .before .pre .0) (c .before .before .before .goal-head .ensures) Conj (c .before .enum-told4 .given .1)
 
--- src/walk.rt:62:1
 returns-5 : tie.Need-returns-5
 returns-5 c = c .after-goal5 .ensures ∙ goal-arm _ _ _ (c .before .before .before .before .before .pre .0) (c .before .before .before .goal-head .ensures) Disj (c .before .enum-told5 .given .1)
 
--- src/walk.rt:62:1
 returns-6 : tie.Need-returns-6
 returns-6 c = c .after-goal6 .ensures ∙ goal-arm _ _ _ (c .before .before .before .before .before .before .pre .0) (c .before .before .before .before .goal-head .ensures) (Atom _ _) (c .before .before .k .given .1)
 
--- src/walk.rt:62:1
 returns-7 : tie.Need-returns-7
 returns-7 c = goal-arm _ _ _ (c .before .before .before .before .pre .0) (c .before .before .goal-head .ensures) NoGoal (c .enum-told6 .given .1)
 

@@ -6,55 +6,40 @@ use native.Mathlib.Omega.{arith}
 use borrow.Author.Needs.{needs}
 use Rattle.records.proofs.walk.next_term.Statement.{statement}
 use Rattle.records.proofs.walk.next_term.Tie as tie
-use Rattle.records.proofs.walk.next_term.Reads as reads
-use Rattle.records.proofs.walk.next_term.Lts as lts
-use Rattle.records.proofs.heads.term_head.Reads as term-head-reads
 
--- src/walk.rt:30:11
 term-head-requires : tie.Need-term-head-requires
 term-head-requires c κs = search needs
 
--- src/walk.rt:31:28
 enum-known-v : tie.Need-enum-known-v
 enum-known-v c = search needs
 
--- src/walk.rt:34:22
 add-t9 : tie.Need-add-t9
 add-t9 c = omega (arith, term-room _ _ (c .before .before .before .before .shared-slice-known .given) (c .before .before .before .term-head .ensures) (Variable _) (c .before .v .given .1))
 
--- src/walk.rt:35:24
 sub-t10 : tie.Need-sub-t10
 sub-t10 c = search needs
 
--- src/walk.rt:39:29
 enum-known-k : tie.Need-enum-known-k
 enum-known-k c = search needs
 
--- src/walk.rt:40:18
 add-t12 : tie.Need-add-t12
 add-t12 c = omega (arith, term-room _ _ (c .before .before .before .before .shared-slice-known .given) (c .before .before .before .term-head .ensures) (Symbol _ _) (c .before .k .given .1))
 
--- src/walk.rt:41:25
 sub-t13 : tie.Need-sub-t13
 sub-t13 c = search needs
 
--- src/walk.rt:41:20
 add-t14 : tie.Need-add-t14
 add-t14 c = omega (arith, term-room _ _ (c .before .before .before .before .shared-slice-known .given) (c .before .before .before .term-head .ensures) (Symbol _ _) (c .before .k .given .1), on-bound _ (c .before .before .before .before .shared-slice-known .given) _ _ _ (c .before .before .before .before .before .pre .1))
 
--- src/walk.rt:44:29
 enum-told : tie.Need-enum-told
 enum-told c = search needs
 
--- src/walk.rt:25:1
 returns : tie.Need-returns
 returns c = term-arm _ _ _ _ (c .before .before .before .before .before .pre .0) (c .before .before .before .term-head .ensures) (Variable _) (c .before .v .given .1)
 
--- src/walk.rt:25:1
 returns-2 : tie.Need-returns-2
 returns-2 c = term-arm _ _ _ _ (c .before .before .before .before .before .pre .0) (c .before .before .before .term-head .ensures) (Symbol _ _) (c .before .k .given .1)
 
--- src/walk.rt:25:1
 returns-3 : tie.Need-returns-3
 returns-3 c = term-arm _ _ _ _ (c .before .before .before .before .pre .0) (c .before .before .term-head .ensures) NoTerm (c .enum-told .given .1)
 

@@ -6,10 +6,6 @@ use Prim.Native.Nat.{_-_}
 use borrow.Author.Needs.{needs}
 use Rattle.records.proofs.walk.variables_top.Statement.{statement}
 use Rattle.records.proofs.walk.variables_top.Tie as tie
-use Rattle.records.proofs.walk.variables_top.Reads as reads
-use Rattle.records.proofs.walk.variables_top.Lts as lts
-use Rattle.records.proofs.walk.raise.Reads as raise-reads
-use Rattle.records.proofs.walk.walk_step.Reads as walk-step-reads
 
 abbrev Inv-loop : tie.InvT-loop
 Inv-loop s c₀ m₀ c m = Underway raised s (walk-from s c₀) 0 c m
@@ -17,47 +13,36 @@ Inv-loop s c₀ m₀ c m = Underway raised s (walk-from s c₀) 0 c m
 abbrev μ-loop : tie.MeasureT-loop
 μ-loop s c₀ m₀ c m = length s - c .pos
 
--- src/walk.rt:114:5
 loop-holds : tie.Need-loop-holds Inv-loop μ-loop
 loop-holds c = underway-start raised _ _ 0 (c .before .pre)
 
--- src/walk.rt:115:15
 walk-step-requires : tie.Need-walk-step-requires Inv-loop μ-loop
 walk-step-requires c κs = c .loop .inv .through
 
--- src/walk.rt:116:28
 enum-known-v : tie.Need-enum-known-v Inv-loop μ-loop
 enum-known-v c = search needs
 
--- src/walk.rt:117:17
 raise-requires : tie.Need-raise-requires Inv-loop μ-loop
 raise-requires c κs = to-variable _ (c .before .before .before .before .before .shared-slice-known .given) _ (c .before .before .before .before .loop .inv .through) (c .before .before .before .walk-step .ensures) (c .before .v .given .1) .2
 
--- src/walk.rt:114:5
 loop-less : tie.Need-loop-less Inv-loop μ-loop
 loop-less c = omega (arith, to-variable _ (c .before .before .before .before .before .before .shared-slice-known .given) _ (c .before .before .before .before .before .loop .inv .through) (c .before .before .before .before .walk-step .ensures) (c .before .before .v .given .1) .0)
 
--- src/walk.rt:114:5
 loop-again : tie.Need-loop-again Inv-loop μ-loop
 loop-again c = rw (c .raise .ensures) (underway-variable _ (c .before .before .before .before .before .before .shared-slice-known .given) (c .before .before .before .before .before .loop .inv) (c .before .before .before .before .walk-step .ensures) (c .before .before .v .given .1))
 
--- src/walk.rt:120:25
 enum-known-d : tie.Need-enum-known-d Inv-loop μ-loop
 enum-known-d c = search needs
 
--- src/walk.rt:114:5
 loop-less-2 : tie.Need-loop-less-2 Inv-loop μ-loop
 loop-less-2 c = omega (arith, to-other _ (c .before .before .before .before .before .shared-slice-known .given) _ (c .before .before .before .before .loop .inv .through) (c .before .before .before .walk-step .ensures) (c .before .d .given .1) .0)
 
--- src/walk.rt:114:5
 loop-again-2 : tie.Need-loop-again-2 Inv-loop μ-loop
 loop-again-2 c = underway-other _ (c .before .before .before .before .before .shared-slice-known .given) (c .before .before .before .before .loop .inv) (c .before .before .before .walk-step .ensures) (c .before .d .given .1)
 
--- src/walk.rt:124:17
 enum-told : tie.Need-enum-told Inv-loop μ-loop
 enum-told c = search needs
 
--- src/walk.rt:124:17
 returns : tie.Need-returns Inv-loop μ-loop
 returns c = let w = underway-done _ (c .before .before .before .before .shared-slice-known .given) (c .before .before .before .loop .inv) (c .before .before .walk-step .ensures) (c .enum-told .given .1) in record { top = sym (w .0); end = sym (w .1) }
 

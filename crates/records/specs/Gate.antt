@@ -59,6 +59,11 @@ read-program = read-record read-program-bytes program-rules
 abbrev pub read-clauses : List ℕ → Reading (List Clause)
 read-clauses = read-record read-clauses-bytes clauses-rules
 
+-- a record that passes
+abbrev pub Accepted : {A : Type 0} → Reading A → Type 0
+Accepted (refused q) = ⊥
+Accepted (tree a) = Unit {0}
+
 -- the answer of the code: passed, or the question that says no
 abbrev pub asked-verdict : Asked → Verdict
 asked-verdict framing = Framing

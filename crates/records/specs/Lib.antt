@@ -35,3 +35,5 @@ pub mod Rows
 pub mod Kept
 pub mod ItemsKept
 pub mod GateEnds
+pub mod Places
+pub mod Same

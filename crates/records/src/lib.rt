@@ -1,7 +1,9 @@
 // Records: what the desk's bytes say, and how they are written.
+pub mod compare;
 pub mod ends;
 pub mod gate;
 pub mod heads;
+pub mod places;
 pub mod plan;
 pub mod put;
 pub mod rules;

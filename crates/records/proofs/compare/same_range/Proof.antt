@@ -1,0 +1,23 @@
+use Rattle.records.specs.Same.{differ-size, same-size}
+use native.Mathlib.Omega.{arith}
+use borrow.Author.Needs.{needs}
+use Rattle.records.proofs.compare.same_range.Statement.{statement}
+use Rattle.records.proofs.compare.same_range.Tie as tie
+
+sub-n : tie.Need-sub-n
+sub-n c = search needs
+
+sub-if1 : tie.Need-sub-if1
+sub-if1 c = search needs
+
+returns : tie.Need-returns
+returns c = differ-size _ _ _ _ (c .before .before .before .before .before .pre .0) (c .before .before .before .before .before .pre .1) (c .if1 .taken)
+
+same-part-requires : tie.Need-same-part-requires
+same-part-requires c κs = (omega arith, omega arith)
+
+returns-2 : tie.Need-returns-2
+returns-2 c = same-size _ _ _ _ (omega arith) (c .same-part .ensures)
+
+pub same-range-spec : {M : Type 1} → statement M
+same-range-spec = tie.close (tie.spec sub-n sub-if1 returns same-part-requires returns-2)

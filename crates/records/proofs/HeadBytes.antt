@@ -1,22 +1,21 @@
 -- Which bytes at a position make which head.
-use Prim.Native.Nat.{ℕ, zero, suc, _+_, _-_, _<_, _≤_}
+use Prim.Native.Nat.{ℕ, suc, _+_, _-_, _<_, _≤_}
 use native.Mathlib.Numerals.{add-one, add-two, add-three, add-four}
 use native.Mathlib.Omega.{arith}
-use mathlib.Core.Path.{_≡_, refl, sym, ap, _∙_}
-use mathlib.Core.Bool.{Bool, true, false}
+use mathlib.Core.Path.{_≡_, refl, sym}
+use mathlib.Core.Bool.{true, false}
 use mathlib.Core.List.{List, [], _∷_}
 use lib.ListN.{length, drop, getD, length-drop, drop-of-length-le}
 use lib.Seq.{drop-cons}
-use borrow.Author.Tests.{eq-eqb, ne-eqb, le-leb, lt-leb}
-use Rattle.records.specs.Heads.{joined, is-tag, symbol-head, term-head, goal-head, atom-head, half-head, called-or, bet-head, unifier-head, or-head, word-head, definition-head, clause-of, term-head-at, goal-head-at, atom-head-at, half-head-at, ancestor-head-at, bet-head-at, or-head-at, word-at, definition-head-at, clause-head-at}
-use Rattle.records.specs.declared.heads.TermHead.{TermHead}
+use borrow.Author.Tests.{ne-eqb, le-leb, lt-leb}
+use Rattle.records.specs.Heads.{joined, is-tag, term-head, goal-head, atom-head, half-head, called-or, unifier-head, word-head, definition-head, clause-of, term-head-at, goal-head-at, atom-head-at, half-head-at, ancestor-head-at, bet-head-at, or-head-at, word-at, definition-head-at, clause-head-at}
 use Rattle.records.specs.declared.heads.TermHead.the-variants.{Variable, Symbol, NoTerm}
 use Rattle.records.specs.declared.heads.GoalHead.{GoalHead}
-use Rattle.records.specs.declared.heads.GoalHead.the-variants.{Truth, Failure, Equal, Conj, Disj, Atom, NoGoal}
+use Rattle.records.specs.declared.heads.GoalHead.the-variants.{Atom, NoGoal}
 use Rattle.records.specs.declared.heads.AncestorHead.{AncestorHead}
-use Rattle.records.specs.declared.heads.AncestorHead.the-variants.{Called, InConj, InDisj, NoAncestor}
+use Rattle.records.specs.declared.heads.AncestorHead.the-variants.{InConj, InDisj, NoAncestor}
 use Rattle.records.specs.declared.heads.BetHead.{BetHead}
-use Rattle.records.specs.declared.heads.BetHead.the-variants.{Unifier, Or, By, NoBet}
+use Rattle.records.specs.declared.heads.BetHead.the-variants.{Or, By, NoBet}
 use Rattle.records.specs.declared.heads.Word.{Word}
 use Rattle.records.specs.declared.heads.Word.the-variants.{Number, Short}
 use Rattle.records.specs.declared.heads.Signature.{Signature}

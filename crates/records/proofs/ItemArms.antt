@@ -2,12 +2,10 @@
 use Prim.Native.Nat.{ℕ, _-_, _<_}
 use mathlib.Core.Path.{_≡_, refl, sym, ap, _∙_}
 use mathlib.Core.Bool.{Bool, true, false, _&&_}
-use mathlib.Core.List.{List, [], _∷_}
-use lib.ListN.{drop}
+use mathlib.Core.List.{List}
 use Rattle.records.specs.RecordRules.{every, bet-rules, definition-rules, clause-rules}
 use Rattle.records.specs.Reader.{Read}
-use Rattle.records.specs.Reader.Read.{unread, found}
-use Rattle.records.specs.Items.{Reader, many, read-ancestor, read-bet, read-definition, read-clause}
+use Rattle.records.specs.Items.{Reader, read-ancestor, read-bet, read-definition, read-clause}
 use Rattle.records.specs.Walk.{end-of}
 use Rattle.records.specs.Rows.{Ends, holds, kept-at, row-at, First, row-more, row-first, row-none}
 use Rattle.records.specs.ItemEnds.{item-end, items-end}

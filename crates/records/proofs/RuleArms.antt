@@ -1,31 +1,30 @@
 -- What the code for the record rules returns, from what a head or a callee said.
-use Prim.Native.Nat.{ℕ, suc, _+_, _-_, _*_, _≤_, _<_}
+use Prim.Native.Nat.{ℕ, _+_, _-_, _*_, _≤_, _<_}
 use native.Mathlib.Numerals.{add-one}
 use native.Mathlib.Omega.{arith}
 use mathlib.Core.Path.{_≡_, refl, sym, ap, _∙_}
 use mathlib.Core.Bool.{Bool, true, false, not, _&&_}
 use mathlib.Core.List.{List, [], _∷_, _++_}
 use lib.Dec.{leb}
-use lib.ListN.{length, drop, replicate}
-use Rattle.records.specs.Syntax.{Binding, Bet, Definition}
-use Rattle.records.specs.Syntax.Binding.{bind}
+use lib.ListN.{drop, replicate}
+use Rattle.records.specs.Syntax.{Binding, Definition}
 use Rattle.records.specs.Syntax.Definition.{definition}
 use Rattle.records.specs.Formed.{All, BindingFormed}
-use Rattle.records.specs.RecordRules.{every, bound, free, rising, rising-from, key, keys, unifier-rules, bet-rules, definition-rules, clause-rules}
+use Rattle.records.specs.RecordRules.{every, bound, free, rising, rising-from, key, keys, unifier-rules, definition-rules, clause-rules}
 use Rattle.records.specs.Bools.{every-append, rising-next, rising-not}
-use Rattle.records.specs.Heads.{word-at, bet-head-at, definition-head, definition-head-at, clause-head-at}
+use Rattle.records.specs.Heads.{word-at, definition-head, definition-head-at, clause-head-at}
 use Rattle.records.specs.HeadLaws.{Known, bytes-all, bytes-drop}
 use Rattle.records.specs.Reader.{Read, Parts, also, read}
 use Rattle.records.specs.Reader.Read.{unread, found}
-use Rattle.records.specs.Items.{Reader, many, read-binding, read-bet, first-goal, read-definition, read-clause}
-use Rattle.records.specs.ItemLaws.{Exact, Row, many-exact}
+use Rattle.records.specs.Items.{Reader, many, read-binding, first-goal, read-definition, read-clause}
+use Rattle.records.specs.ItemLaws.{many-exact}
 use Rattle.records.specs.Exact.{binding-exact}
 use Rattle.records.specs.Sets.{is-marked, marked, all-marked}
 use Rattle.records.specs.VariableLaws.{unifier-rules-marked}
-use Rattle.records.specs.Walk.{walk, place, end-of}
+use Rattle.records.specs.Walk.{walk, end-of}
 use Rattle.records.specs.Steps.{On, met}
-use Rattle.records.specs.Kept.{Pair, pair-read}
-use Rattle.records.specs.Rows.{Ends, holds, kept-at, row-of, row-at, First, row-more, row-first, row-none}
+use Rattle.records.specs.Kept.{pair-read}
+use Rattle.records.specs.Rows.{Ends, holds, kept-at, row-of, row-at, row-more, row-first}
 use Rattle.records.specs.ItemEnds.{binding-ends, definition-ends, clause-ends}
 use Rattle.records.specs.declared.ends.Found.{Found}
 use Rattle.records.specs.declared.ends.Found.the-variants.{At, Nothing}

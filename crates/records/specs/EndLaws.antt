@@ -1,6 +1,6 @@
 -- Laws of where terms, goals and rows of items end: what code that looks for an end goes by.
 use Prim.Native.Nat.{ℕ, zero, suc, _+_, _-_, _*_, _≤_, _<_}
-use native.Mathlib.Nat.{suc-add, zero-add, add-zero, add-assoc}
+use native.Mathlib.Nat.{zero-add, add-zero}
 use native.Mathlib.Omega.{arith}
 use mathlib.Core.Path.{_≡_, refl, sym, ap, _∙_}
 use mathlib.Core.List.{List, [], _∷_, _++_, append-assoc, append-nil}
@@ -10,17 +10,16 @@ use Rattle.records.specs.Syntax.{Term, Terms, Goal, arity}
 use Rattle.records.specs.Syntax.Term.{var, app}
 use Rattle.records.specs.Syntax.Terms.{nil, cons}
 use Rattle.records.specs.Syntax.Goal.{truth, failure, equal, conj, disj, atom}
-use Rattle.records.specs.Encode.{word, each, term-bytes, terms-bytes, goal-bytes}
-use Rattle.records.specs.Formed.{TermsFormed}
+use Rattle.records.specs.Encode.{each, term-bytes, terms-bytes, goal-bytes}
 use Rattle.records.specs.Heads.{term-head-at, goal-head-at}
 use Rattle.records.specs.HeadLaws.{Bytes, Known, bytes-all, bytes-drop}
 use Rattle.records.specs.HeadRoom.{goal-room}
 use Rattle.records.specs.Reader.{Read, Parts, also, terms-of, goals-of, front, back, read}
 use Rattle.records.specs.Reader.Read.{unread, found}
 use Rattle.records.specs.Reader.Parts.{parts}
-use Rattle.records.specs.ReaderLaws.{complete-terms, with-terms, read-done, sound, Sound, parts-bytes, front-arity, bytes-split, formed-split}
-use Rattle.records.specs.Items.{Reader, many}
-use Rattle.records.specs.Walk.{Node, Walk, walked, walk, before, place, end-of, walk-end, end-at}
+use Rattle.records.specs.ReaderLaws.{complete-terms, over-terms, read-done, sound, Sound, parts-bytes, front-arity, bytes-split, formed-split}
+use Rattle.records.specs.Items.{many}
+use Rattle.records.specs.Walk.{Node, Walk, walked, walk, before, place, walk-end, end-at}
 use Rattle.records.specs.Walk.Walk.{off, on}
 use Rattle.records.specs.WalkLaws.{step, walk-step}
 use Rattle.records.specs.declared.ends.Found.{Found}
@@ -133,7 +132,7 @@ module _ (s : List ℕ) (at : ℕ) where
         let w = read-of t zero e q in
         end-read s at (t + n) g ∙ go (w .0) (w .1) (w .3) (w .4) ∙ sym (end-read s e n g)
       where
-        moved : (ts : Terms) (k : ℕ) (o : Read Parts) → e ≡ at + k → place at (also (with-terms ts) k o) ≡ place e o
+        moved : (ts : Terms) (k : ℕ) (o : Read Parts) → e ≡ at + k → place at (also (over-terms ts) k o) ≡ place e o
         moved ts k unread h = refl
         moved ts k (found p m) h = ap At (omega arith)
 
@@ -156,7 +155,7 @@ module _ (s : List ℕ) (at : ℕ) where
             let b : drop at s ≡ terms-bytes (front t (terms-of p)) ++ (terms-bytes (back t (terms-of p)) ++ (each goal-bytes (goals-of p) ++ drop m (drop at s))) =
             v .bytes bytes-at ∙ rw (bytes-split t (terms-of p)) (simp append-assoc) in
             let c = complete-terms (front t (terms-of p)) (f .0) zero zero (terms-bytes (back t (terms-of p)) ++ (each goal-bytes (goals-of p) ++ drop m (drop at s))) in
-            let r : read (drop at s) t zero ≡ also (with-terms (front t (terms-of p))) (length (terms-bytes (front t (terms-of p)))) (found (parts nil []) 0) =
+            let r : read (drop at s) t zero ≡ also (over-terms (front t (terms-of p))) (length (terms-bytes (front t (terms-of p)))) (found (parts nil []) 0) =
             rw (b) (rw (front-arity t n (terms-of p) (v .terms), add-zero, read-done) at c) in
             no-place (sym q ∙ end-read s at t zero ∙ ap (place at) r)
 

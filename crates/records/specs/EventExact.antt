@@ -1,21 +1,20 @@
 -- The reader of an event's body is exact.
 use Prim.Native.Nat.{ℕ, _+_}
-use native.Mathlib.Omega.{arith}
 use mathlib.Core.Path.{_≡_, refl, sym, ap, _∙_}
-use mathlib.Core.List.{List, [], _∷_, _++_, append-assoc}
+use mathlib.Core.List.{List, [], _∷_, _++_}
 use lib.Dec.{eqb}
-use lib.ListN.{length, drop}
+use lib.ListN.{length}
 use borrow.Author.Tests.{eqb-true}
-use Rattle.records.specs.Syntax.{Goal, Ancestor, Bet, Port, Event}
+use Rattle.records.specs.Syntax.{Port, Event}
 use Rattle.records.specs.Syntax.Port.{call, exit, fail, redo}
 use Rattle.records.specs.Syntax.Event.{event}
 use Rattle.records.specs.Encode.{counted, goal-bytes, ancestor-bytes, bet-bytes, port-byte, event-bytes}
 use Rattle.records.specs.Formed.{GoalFormed, Counted, AncestorFormed, BetFormed, EventFormed}
 use Rattle.records.specs.Heads.{pick}
-use Rattle.records.specs.HeadLaws.{Bytes, by-test}
+use Rattle.records.specs.HeadLaws.{by-test}
 use Rattle.records.specs.Reader.{Read}
 use Rattle.records.specs.Reader.Read.{unread, found}
-use Rattle.records.specs.Items.{Reader, Stacks, Frame, read-counted, read-ancestor, read-bet, read-goal, read-stacks, read-port, port-of, read-frame, with-port, read-event-bytes}
+use Rattle.records.specs.Items.{Stacks, Frame, read-counted, read-ancestor, read-bet, read-goal, read-stacks, read-port, read-frame, with-port, read-event-bytes}
 use Rattle.records.specs.Items.Stacks.{stacks}
 use Rattle.records.specs.Items.Frame.{frame}
 use Rattle.records.specs.ItemLaws.{Laid, Exact, after-laid, after-complete, counted-exact, goal-exact}

@@ -1,34 +1,31 @@
 -- The readers of ancestors, pairs, bets, stacks, events, definitions and clauses are exact, each for its layout.
-use Prim.Native.Nat.{ℕ, zero, suc, _+_, _<_, _≤_}
+use Prim.Native.Nat.{ℕ, _+_}
 use native.Mathlib.Omega.{arith}
 use mathlib.Core.Path.{_≡_, refl, sym, ap, _∙_}
 use mathlib.Core.Bool.{Bool, true, false, _||_}
-use mathlib.Core.List.{List, [], _∷_, _++_, append-assoc, append-nil}
+use mathlib.Core.List.{List, [], _∷_, _++_, append-nil}
 use lib.Dec.{eqb}
-use lib.ListN.{length, drop, length-append}
-use borrow.Author.Tests.{le-leb, eqb-true, eqb-false}
-use Rattle.records.specs.Syntax.{Term, Terms, Goal, Half, Ancestor, Binding, Bet, Port, Event, Definition, Clause, arity}
+use lib.ListN.{length}
+use borrow.Author.Tests.{le-leb, eqb-true}
+use Rattle.records.specs.Syntax.{Terms, Half, Ancestor, Binding, Bet, Definition, Clause, arity}
 use Rattle.records.specs.Syntax.Terms.{nil, cons}
 use Rattle.records.specs.Syntax.Half.{first, second}
 use Rattle.records.specs.Syntax.Ancestor.{called, in-conj, in-disj}
 use Rattle.records.specs.Syntax.Binding.{bind}
 use Rattle.records.specs.Syntax.Bet.{unifier, or, by}
-use Rattle.records.specs.Syntax.Port.{call, exit, fail, redo}
-use Rattle.records.specs.Syntax.Event.{event}
 use Rattle.records.specs.Syntax.Definition.{definition}
 use Rattle.records.specs.Syntax.Clause.{clause}
-use Rattle.records.specs.Encode.{word, each, counted, tag, term-bytes, terms-bytes, goal-bytes, atom-bytes, ancestor-bytes, binding-bytes, bet-bytes, port-byte, event-bytes, definition-bytes, clause-bytes}
-use Rattle.records.specs.Formed.{TermFormed, TermsFormed, GoalFormed, AtomFormed, All, Counted, AncestorFormed, BindingFormed, BetFormed, EventFormed, DefinitionFormed, ClauseFormed}
+use Rattle.records.specs.Encode.{word, each, tag, term-bytes, terms-bytes, goal-bytes, ancestor-bytes, binding-bytes, bet-bytes, definition-bytes, clause-bytes}
+use Rattle.records.specs.Formed.{TermFormed, GoalFormed, AncestorFormed, BindingFormed, BetFormed, DefinitionFormed, ClauseFormed}
 use Rattle.records.specs.Heads.{pick, is-tag, word-head, ancestor-head, bet-head, definition-head, clause-head}
-use Rattle.records.specs.HeadLaws.{Bytes, IsTag, AncestorLead, ancestor-lead, WordLead, word-lead, BetLead, bet-lead, DefinitionLead, definition-lead, ClauseLead, clause-lead, joined-word, by-test}
-use Rattle.records.specs.Reader.{Read, Parts, also, terms-of, goals-of, read}
+use Rattle.records.specs.HeadLaws.{Bytes, IsTag, AncestorLead, ancestor-lead, WordLead, word-lead, BetLead, bet-lead, DefinitionLead, definition-lead, ClauseLead, clause-lead, joined-word}
+use Rattle.records.specs.Reader.{Parts, terms-of, goals-of, read}
 use Rattle.records.specs.Reader.Read.{unread, found}
 use Rattle.records.specs.Reader.Parts.{parts}
 use Rattle.records.specs.ReaderLaws.{parts-bytes}
-use Rattle.records.specs.Items.{Reader, Stacks, Frame, after, many, read-counted, first-term, first-goal, second-goal, half, ancestor-by, read-ancestor, binding-by, read-binding, bet-by, read-bet, definition-by, read-definition, clause-by, read-clause, read-stacks, read-port, port-of, read-frame, with-port, read-goal, read-event-bytes}
+use Rattle.records.specs.Items.{after, many, first-term, first-goal, second-goal, half, ancestor-by, read-ancestor, binding-by, read-binding, bet-by, read-bet, definition-by, read-definition, clause-by, read-clause}
 use Rattle.records.specs.Items.Stacks.{stacks}
-use Rattle.records.specs.Items.Frame.{frame}
-use Rattle.records.specs.ItemLaws.{Laid, Exact, PartsFormed, parts-exact, also-laid, after-laid, after-complete, Row, many-exact, counted-exact, goal-exact}
+use Rattle.records.specs.ItemLaws.{Laid, Exact, PartsFormed, parts-exact, also-laid, many-exact}
 use Rattle.records.specs.declared.heads.AncestorHead.{AncestorHead}
 use Rattle.records.specs.declared.heads.AncestorHead.the-variants.{Called, InConj, InDisj, NoAncestor}
 use Rattle.records.specs.declared.heads.BetHead.{BetHead}

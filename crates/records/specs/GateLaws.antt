@@ -1,30 +1,31 @@
 -- Laws of questions 1 to 4: a record passes with a tree exactly where it is the tree's record, the tree is well formed and keeps the rules, and the
 -- record is at most 32,768 bytes long. So no two trees have one record, and no record says two trees.
-use Prim.Native.Nat.{ℕ, suc, _+_, _-_, _<_, _≤_, _/_, _%_}
+use Prim.Native.Nat.{ℕ, suc, _+_, _-_, _<_, _≤_}
 use native.Mathlib.Omega.{arith}
 use mathlib.Core.Path.{_≡_, refl, sym, ap, _∙_}
-use mathlib.Core.Bool.{Bool, true, false, _&&_}
-use mathlib.Core.List.{List, [], _∷_, _++_, append-nil, append-assoc}
+use mathlib.Core.Bool.{Bool, true, false}
+use mathlib.Core.List.{List, [], _∷_, _++_, append-nil}
 use lib.Dec.{eqb, leb}
-use lib.ListN.{length, drop, take, length-append, length-drop, drop-of-length-le}
+use lib.ListN.{length, drop, take, length-drop, drop-of-length-le}
 use lib.Seq.{take-at}
 use borrow.Author.Tests.{le-leb, leb-true, eq-eqb, eqb-true}
 use Rattle.records.specs.Syntax.{Goal, Event, Definition, Clause}
 use Rattle.records.specs.Encode.{word, counted, goal-bytes, event-bytes, definition-bytes, clause-bytes, record-of}
 use Rattle.records.specs.Formed.{GoalFormed, EventFormed, Counted, DefinitionFormed, ClauseFormed}
 use Rattle.records.specs.RecordRules.{query-rules, event-rules, program-rules, clauses-rules}
+use Rattle.records.specs.Bools.{and-both}
 use Rattle.records.specs.Question.{Asked}
 use Rattle.records.specs.Question.Asked.{framing, version, grammar, rules}
 use Rattle.records.specs.Heads.{joined}
 use Rattle.records.specs.HeadLaws.{Bytes, bytes-drop, word-joined, joined-word}
 use Rattle.records.specs.Reader.{Read}
 use Rattle.records.specs.Reader.Read.{unread, found}
-use Rattle.records.specs.Items.{Reader, read-goal, read-event-bytes, read-program-bytes, read-clauses-bytes}
-use Rattle.records.specs.ItemLaws.{Laid, Exact, counted-exact, goal-exact}
+use Rattle.records.specs.Items.{Reader}
+use Rattle.records.specs.ItemLaws.{Exact, counted-exact, goal-exact}
 use Rattle.records.specs.Exact.{definition-exact, clause-exact}
 use Rattle.records.specs.EventExact.{event-exact}
 use Rattle.records.specs.Gate.{Reading, ask, framed, of-version, judged, read-record, read-query, read-event, read-program, read-clauses}
-use Rattle.records.specs.Gate.Reading.{refused, tree}
+use Rattle.records.specs.Gate.Reading.{tree}
 
 -- s is the record of a, which may be written
 pub record RecordOf {A : Type 0} (bytes : A → List ℕ) (Formed : A → Type 0) (kept : A → Bool) (s : List ℕ) (a : A) : Type 0 where
@@ -41,10 +42,6 @@ passed : {A : Type 0} (q : Asked) (b : Bool) (r : Reading A) (a : A) → ask q b
 passed q true r a e = (refl, e)
 passed q false r a e = let z : _≡_ {A = ℕ} 0 1 = cc in absurd (omega arith)
 
-both : (a b : Bool) → (a && b) ≡ true → (a ≡ true) × (b ≡ true)
-both true b e = (refl, e)
-both false b e = let z : _≡_ {A = Bool} true false = cc in let y : _≡_ {A = ℕ} 0 1 = cc in absurd (omega arith)
-
 -- the first three bytes of a record, by questions 1 and 2
 frame-of : (s : List ℕ) → Bytes s → framed s ≡ true → of-version s ≡ true → (s ≡ word (length s - 2) ++ (1 ∷ drop 3 s)) × (3 ≤ length s) × (length s ≤ 32768)
 unfolding framed of-version
@@ -52,7 +49,7 @@ frame-of [] h p q = let y : _≡_ {A = ℕ} 0 1 = cc in absurd (omega arith)
 frame-of (x ∷ []) h p q = let y : _≡_ {A = ℕ} 0 1 = cc in absurd (omega arith)
 frame-of (x ∷ y ∷ []) h p q = let y : _≡_ {A = ℕ} 0 1 = cc in absurd (omega arith)
 frame-of (x ∷ y ∷ z ∷ l) h p q =
-    let w = both (leb (length (x ∷ y ∷ z ∷ l)) 32768) (eqb (joined x y) (length (z ∷ l))) p in
+    let w = and-both (leb (length (x ∷ y ∷ z ∷ l)) 32768) (eqb (joined x y) (length (z ∷ l))) p in
     let e : joined x y ≡ length (x ∷ y ∷ z ∷ l) - 2 = omega (arith, eqb-true (joined x y) (length (z ∷ l)) (w .1)) in (
       word-joined x y (h .0) (h .1 .0) (z ∷ l) ∙ ap (λ (n : ℕ). word n ++ (z ∷ l)) e ∙ ap (λ (v : ℕ). word (length (x ∷ y ∷ z ∷ l) - 2) ++ (v ∷ l)) (eqb-true z 1 q),
       omega arith,

@@ -1,13 +1,13 @@
 -- What a head says of the bytes that it was read from, if they are bytes.
-use Prim.Native.Nat.{ℕ, zero, suc, _+_, _*_, _<_, _≤_, _/_, _%_}
+use Prim.Native.Nat.{ℕ, zero, suc, _+_, _<_, _≤_, _/_, _%_}
 use native.Mathlib.Omega.{arith}
-use mathlib.Core.Path.{_≡_, refl, sym, ap, _∙_}
-use mathlib.Core.Bool.{Bool, true, false, _||_}
+use mathlib.Core.Path.{_≡_, refl}
+use mathlib.Core.Bool.{Bool, true, false}
 use mathlib.Core.List.{List, [], _∷_, _++_}
 use mir.Syntax.{w8}
 use mir.Val.{Fits}
 use lib.Dec.{eqb, leb}
-use lib.ListN.{length, drop, getD}
+use lib.ListN.{drop, getD}
 use borrow.Author.Tests.{eqb-true, leb-true}
 use Rattle.records.specs.Encode.{word}
 use Rattle.records.specs.Heads.{pick, joined, term-head, symbol-head, goal-head, atom-head, ancestor-head, half-head, called-or, is-tag, word-head, bet-head, unifier-head, or-head, definition-head, clause-head, clause-of}

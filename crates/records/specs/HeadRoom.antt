@@ -5,7 +5,7 @@ use mathlib.Core.Path.{_≡_, sym, ap, _∙_}
 use mathlib.Core.List.{List, [], _∷_, _++_}
 use lib.ListN.{length, drop, length-append, length-drop}
 use Rattle.records.specs.Encode.{word}
-use Rattle.records.specs.Heads.{term-head, goal-head, ancestor-head, bet-head, word-head, definition-head, clause-head, term-head-at, goal-head-at, ancestor-head-at, bet-head-at, word-at, definition-head-at, clause-head-at}
+use Rattle.records.specs.Heads.{term-head-at, goal-head-at, ancestor-head-at, bet-head-at, word-at, definition-head-at, clause-head-at}
 use Rattle.records.specs.HeadLaws.{Bytes, Known, bytes-all, bytes-drop, TermLead, term-lead, GoalLead, goal-lead, IsTag, AncestorLead, ancestor-lead, BetLead, bet-lead, WordLead, word-lead, DefinitionLead, definition-lead, ClauseLead, clause-lead}
 use Rattle.records.specs.declared.heads.TermHead.{TermHead}
 use Rattle.records.specs.declared.heads.TermHead.the-variants.{Variable, Symbol, NoTerm}

@@ -1,18 +1,16 @@
 -- Where ancestors, pairs, bets, definitions and clauses end, by their heads, and where a row of them does.
-use Prim.Native.Nat.{ℕ, zero, suc, _+_, _-_, _≤_, _<_}
+use Prim.Native.Nat.{ℕ, suc, _+_, _-_, _≤_, _<_}
 use native.Mathlib.Nat.{add-zero, add-assoc}
 use native.Mathlib.Omega.{arith}
 use mathlib.Core.Path.{_≡_, refl, sym, ap, _∙_}
-use mathlib.Core.List.{List, [], _∷_, _++_}
+use mathlib.Core.List.{List, _∷_}
 use lib.ListN.{length, drop, length-append, length-drop}
 use lib.Seq.{drop-drop}
-use Rattle.records.specs.Encode.{each}
-use Rattle.records.specs.Formed.{All}
-use Rattle.records.specs.Heads.{word-head, ancestor-head-at, bet-head-at, word-at, definition-head-at, clause-head-at}
+use Rattle.records.specs.Heads.{ancestor-head-at, bet-head-at, word-at, definition-head-at, clause-head-at}
 use Rattle.records.specs.HeadLaws.{Known, bytes-all, bytes-drop}
 use Rattle.records.specs.Reader.{Read, Parts, also, read}
 use Rattle.records.specs.Reader.Read.{unread, found}
-use Rattle.records.specs.Items.{Reader, after, made, many, counted-by, read-counted, read-term, read-goal, ancestor-by, read-ancestor, binding-by, read-binding, bet-by, read-bet, definition-by, read-definition, clause-by, read-clause}
+use Rattle.records.specs.Items.{Reader, after, made, many, read-term, read-goal, ancestor-by, read-ancestor, binding-by, read-binding, bet-by, read-bet, definition-by, read-definition, clause-by, read-clause}
 use Rattle.records.specs.ItemLaws.{Laid, Exact}
 use Rattle.records.specs.Walk.{place, end-of, end-at}
 use Rattle.records.specs.EndLaws.{end-read, onward}

@@ -1,6 +1,6 @@
 -- Each reader is exact for its layout: the bytes of what is well formed are read back, and what is read is well formed and has the bytes read.
-use Prim.Native.Nat.{ℕ, zero, suc, _+_, _<_, _≤_}
-use native.Mathlib.Nat.{add-assoc, add-zero}
+use Prim.Native.Nat.{ℕ, zero, suc, _+_}
+use native.Mathlib.Nat.{add-zero}
 use native.Mathlib.Omega.{arith}
 use mathlib.Core.Path.{_≡_, refl, sym, ap, _∙_}
 use mathlib.Core.List.{List, [], _∷_, _++_, append-assoc, append-nil}
@@ -10,12 +10,12 @@ use Rattle.records.specs.Syntax.{Term, Terms, Goal, arity}
 use Rattle.records.specs.Syntax.Terms.{nil, cons}
 use Rattle.records.specs.Encode.{word, each, counted, term-bytes, terms-bytes, goal-bytes}
 use Rattle.records.specs.Formed.{TermFormed, TermsFormed, GoalFormed, All, Counted}
-use Rattle.records.specs.Heads.{word-head, joined}
+use Rattle.records.specs.Heads.{word-head}
 use Rattle.records.specs.HeadLaws.{Bytes, bytes-drop, WordLead, word-lead, joined-word}
 use Rattle.records.specs.Reader.{Read, Parts, also, terms-of, goals-of, read}
 use Rattle.records.specs.Reader.Read.{unread, found}
 use Rattle.records.specs.Reader.Parts.{parts}
-use Rattle.records.specs.ReaderLaws.{complete-terms, complete-term, complete-goal, parts-bytes, with-terms, read-done, sound, Sound, never}
+use Rattle.records.specs.ReaderLaws.{complete-terms, complete-term, complete-goal, parts-bytes, over-terms, read-done, sound, Sound}
 use Rattle.records.specs.Items.{Reader, after, made, many, counted-by, read-counted, first-term, first-goal, read-term, read-goal}
 use Rattle.records.specs.declared.heads.Word.{Word}
 use Rattle.records.specs.declared.heads.Word.the-variants.{Number, Short}
@@ -39,7 +39,7 @@ goals-complete [] h s = read-done s
 goals-complete (a ∷ gs) h s =
     rw (append-assoc, complete-goal a (h .0) (length gs) (each goal-bytes gs ++ s), goals-complete gs (h .1) s) (ap (found (parts nil (a ∷ gs))) (simp length-append))
 
-join-nil : (ts : Terms) (gs : List Goal) → with-terms ts (parts nil gs) ≡ parts ts gs
+join-nil : (ts : Terms) (gs : List Goal) → over-terms ts (parts nil gs) ≡ parts ts gs
 join-nil nil gs = refl
 join-nil (cons t ts) gs = ap (λ (q : Parts). parts (cons t (terms-of q)) gs) (join-nil ts gs)
 

@@ -1,12 +1,12 @@
 -- The executable readers of ancestors, pairs, bets, stacks, events, definitions and clauses: a head, and then what it announces.
-use Prim.Native.Nat.{ℕ, zero, suc, _+_}
+use Prim.Native.Nat.{ℕ, zero, suc}
 use mathlib.Core.List.{List, [], _∷_}
 use lib.Dec.{eqb}
 use lib.ListN.{drop}
-use Rattle.records.specs.Syntax.{Term, Terms, Goal, Half, Ancestor, Binding, Bet, Port, Event, Definition, Clause}
-use Rattle.records.specs.Syntax.Term.{var, app}
+use Rattle.records.specs.Syntax.{Term, Goal, Half, Ancestor, Binding, Bet, Port, Event, Definition, Clause}
+use Rattle.records.specs.Syntax.Term.{var}
 use Rattle.records.specs.Syntax.Terms.{nil, cons}
-use Rattle.records.specs.Syntax.Goal.{truth, failure, equal, conj, disj, atom}
+use Rattle.records.specs.Syntax.Goal.{truth}
 use Rattle.records.specs.Syntax.Half.{first, second}
 use Rattle.records.specs.Syntax.Ancestor.{called, in-conj, in-disj}
 use Rattle.records.specs.Syntax.Binding.{bind}
@@ -16,7 +16,7 @@ use Rattle.records.specs.Syntax.Event.{event}
 use Rattle.records.specs.Syntax.Definition.{definition}
 use Rattle.records.specs.Syntax.Clause.{clause}
 use Rattle.records.specs.Heads.{pick, ancestor-head, bet-head, word-head, definition-head, clause-head}
-use Rattle.records.specs.Reader.{Read, Parts, also, terms-of, goals-of, read}
+use Rattle.records.specs.Reader.{Read, Parts, also, terms-of, read}
 use Rattle.records.specs.Reader.Read.{unread, found}
 use Rattle.records.specs.Reader.Parts.{parts}
 use Rattle.records.specs.declared.heads.AncestorHead.{AncestorHead}

@@ -1,37 +1,37 @@
 -- Question 4 item by item, over the variables that a walk meets: what the code for the record rules goes by.
-use Prim.Native.Nat.{ℕ, zero, suc, _+_, _-_, _*_, _≤_, _<_, max}
+use Prim.Native.Nat.{ℕ, _+_, _-_, max}
 use native.Mathlib.Omega.{arith}
 use mathlib.Core.Path.{_≡_, refl, sym, ap, _∙_}
-use mathlib.Core.Bool.{Bool, true, false, not, _&&_}
-use mathlib.Core.List.{List, [], _∷_, _++_, append-assoc, append-nil}
-use lib.Dec.{ltb, leb}
+use mathlib.Core.Bool.{Bool, true}
+use mathlib.Core.List.{List, [], _∷_, _++_, append-nil}
+use lib.Dec.{leb}
 use lib.ListN.{length, drop}
 use lib.Seq.{drop-drop}
-use Rattle.records.specs.Syntax.{Term, Terms, Goal, Binding, Bet, Definition, Clause, arity}
+use Rattle.records.specs.Syntax.{Term, Terms, Goal, Binding, Bet, arity}
 use Rattle.records.specs.Syntax.Term.{var, app}
 use Rattle.records.specs.Syntax.Terms.{nil, cons}
 use Rattle.records.specs.Syntax.Goal.{truth, failure, equal, conj, disj, atom}
 use Rattle.records.specs.Syntax.Binding.{bind}
 use Rattle.records.specs.Syntax.Definition.{definition}
 use Rattle.records.specs.Syntax.Clause.{clause}
-use Rattle.records.specs.RecordRules.{term-variables, terms-variables, goal-variables, every, exactly, unifier-rules, bet-rules, key, definition-rules, clause-rules}
+use Rattle.records.specs.RecordRules.{term-variables, terms-variables, goal-variables, exactly, unifier-rules, bet-rules, definition-rules, clause-rules}
 use Rattle.records.specs.Heads.{word-head, bet-head, definition-head, clause-head, word-at, bet-head-at, definition-head-at, clause-head-at}
 use Rattle.records.specs.Reader.{Read, Parts, also, terms-of, goals-of, read}
 use Rattle.records.specs.Reader.Read.{unread, found}
 use Rattle.records.specs.Reader.Parts.{parts}
-use Rattle.records.specs.ReaderLaws.{sound, Sound}
-use Rattle.records.specs.Items.{Reader, many, first-term, first-goal, binding-by, read-binding, bet-by, read-bet, definition-by, read-definition, clause-by, read-clause}
-use Rattle.records.specs.Walk.{Node, Walk, node-variables, term-nodes, terms-nodes, goal-nodes, goals-nodes, parts-nodes, walked, walk, place, end-of}
-use Rattle.records.specs.Walk.Walk.{off, on}
+use Rattle.records.specs.ReaderLaws.{sound}
+use Rattle.records.specs.Items.{many, first-term, first-goal, read-binding, bet-by, read-bet, read-definition, read-clause}
+use Rattle.records.specs.Walk.{Node, node-variables, term-nodes, terms-nodes, goal-nodes, parts-nodes, walked, walk, place, end-of}
+use Rattle.records.specs.Walk.Walk.{on}
 use Rattle.records.specs.Steps.{On, met, along, raised}
 use Rattle.records.specs.Top.{top, every-below}
 use Rattle.records.specs.Rows.{Ends, holds, kept-at}
 use Rattle.records.specs.declared.heads.Word.{Word}
-use Rattle.records.specs.declared.heads.Word.the-variants.{Number, Short}
+use Rattle.records.specs.declared.heads.Word.the-variants.{Number}
 use Rattle.records.specs.declared.heads.BetHead.{BetHead}
 use Rattle.records.specs.declared.heads.BetHead.the-variants.{Unifier, Or, By, NoBet}
 use Rattle.records.specs.declared.heads.Signature.{Signature}
-use Rattle.records.specs.declared.heads.Signature.the-variants.{Predicate, NoPredicate}
+use Rattle.records.specs.declared.heads.Signature.the-variants.{Predicate}
 
 -- the variables among the nodes of a tree are its variables
 pub variables-append : (k l : List Node) → node-variables (k ++ l) ≡ node-variables k ++ node-variables l

@@ -35,5 +35,7 @@ pub mod Rows
 pub mod Kept
 pub mod ItemsKept
 pub mod GateEnds
+pub mod CountedEnds
+pub mod EventEnds
 pub mod Places
 pub mod Same

@@ -1,29 +1,27 @@
 -- Where the parts of an accepted event and of a definition stand, told by the tree alone.
-use Prim.Native.Nat.{ℕ, suc, _+_, _-_, _≤_, _<_}
+use Prim.Native.Nat.{ℕ, _+_, _-_, _<_}
 use native.Mathlib.Omega.{arith}
 use mathlib.Core.Path.{_≡_, refl, sym, ap, _∙_}
-use mathlib.Core.Bool.{true}
 use mathlib.Core.List.{List, [], _∷_, _++_}
-use lib.ListN.{length, drop, getD}
+use lib.ListN.{length, getD}
 use lib.Seq.{getD-drop}
 use Rattle.records.specs.Syntax.{Goal, Ancestor, Bet, Port, Event, Definition}
 use Rattle.records.specs.Syntax.Event.{event}
 use Rattle.records.specs.Syntax.Definition.{definition}
 use Rattle.records.specs.Encode.{word, each, counted, goal-bytes, ancestor-bytes, bet-bytes, port-byte, event-bytes, definition-bytes, record-of}
 use Rattle.records.specs.Formed.{GoalFormed, Counted, AncestorFormed, BetFormed, EventFormed, DefinitionFormed}
-use Rattle.records.specs.RecordRules.{event-rules}
 use Rattle.records.specs.Heads.{word-at, definition-head-at}
 use Rattle.records.specs.HeadLaws.{Known, bytes-all}
-use Rattle.records.specs.Items.{Reader, read-counted, read-ancestor, read-bet, read-definition}
-use Rattle.records.specs.ItemLaws.{Exact, counted-exact, goal-exact}
+use Rattle.records.specs.Items.{read-definition}
+use Rattle.records.specs.ItemLaws.{counted-exact}
 use Rattle.records.specs.Exact.{ancestor-exact, bet-exact}
 use Rattle.records.specs.Walk.{end-of, end-at, walk-end}
 use Rattle.records.specs.Gate.{Reading, Accepted, read-event}
 use Rattle.records.specs.Gate.Reading.{refused, tree}
-use Rattle.records.specs.GateLaws.{RecordOf, event-tree}
+use Rattle.records.specs.GateLaws.{event-tree}
 use Rattle.records.specs.Rows.{Ends}
 use Rattle.records.specs.ItemEnds.{items-end, definition-ends}
-use Rattle.records.specs.GateEnds.{counted-end, row-end}
+use Rattle.records.specs.CountedEnds.{counted-end, row-end}
 use Rattle.records.specs.Emitted.{length-record-of}
 use Rattle.records.specs.Stands.{Stands, body-stands, stands-first, stands-second, stands-ends, word-stands, walk-goal, definition-stands}
 use Rattle.records.specs.declared.put.Range.{Range}

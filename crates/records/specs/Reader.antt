@@ -2,7 +2,7 @@
 -- bytes that they take. It goes down the bytes, so it needs no fuel: a symbol of arity k adds k to the terms to come, a conjunction 2 to the goals.
 use Prim.Native.Nat.{ℕ, zero, suc, _+_}
 use mathlib.Core.List.{List, [], _∷_}
-use Rattle.records.specs.Syntax.{Term, Terms, Goal}
+use Rattle.records.specs.Syntax.{Terms, Goal}
 use Rattle.records.specs.Syntax.Term.{var, app}
 use Rattle.records.specs.Syntax.Terms.{nil, cons}
 use Rattle.records.specs.Syntax.Goal.{truth, failure, equal, conj, disj, atom}
@@ -44,33 +44,33 @@ back (suc k) nil = nil
 back (suc k) (cons t ts) = back k ts
 
 -- a node over what was read after its head
-abbrev pub with-variable : ℕ → Parts → Parts
-with-variable v p = parts (cons (var v) (terms-of p)) (goals-of p)
+abbrev pub over-variable : ℕ → Parts → Parts
+over-variable v p = parts (cons (var v) (terms-of p)) (goals-of p)
 
-abbrev pub with-symbol : ℕ → ℕ → Parts → Parts
-with-symbol f k p = parts (cons (app f (front k (terms-of p))) (back k (terms-of p))) (goals-of p)
+abbrev pub over-symbol : ℕ → ℕ → Parts → Parts
+over-symbol f k p = parts (cons (app f (front k (terms-of p))) (back k (terms-of p))) (goals-of p)
 
-abbrev pub with-goal : Goal → Parts → Parts
-with-goal g p = parts (terms-of p) (g ∷ goals-of p)
+abbrev pub over-goal : Goal → Parts → Parts
+over-goal g p = parts (terms-of p) (g ∷ goals-of p)
 
-abbrev pub with-atom : ℕ → ℕ → Parts → Parts
-with-atom f k p = parts (back k (terms-of p)) (atom f (front k (terms-of p)) ∷ goals-of p)
+abbrev pub over-atom : ℕ → ℕ → Parts → Parts
+over-atom f k p = parts (back k (terms-of p)) (atom f (front k (terms-of p)) ∷ goals-of p)
 
 abbrev pub equal-of : Terms → List Goal → Parts
 equal-of nil gs = parts nil gs
 equal-of (cons t nil) gs = parts nil gs
 equal-of (cons t (cons u ts)) gs = parts ts (equal t u ∷ gs)
 
-abbrev pub with-equal : Parts → Parts
-with-equal p = equal-of (terms-of p) (goals-of p)
+abbrev pub over-equal : Parts → Parts
+over-equal p = equal-of (terms-of p) (goals-of p)
 
 abbrev pub pair-of : (Goal → Goal → Goal) → Terms → List Goal → Parts
 pair-of op ts [] = parts ts []
 pair-of op ts (a ∷ []) = parts ts []
 pair-of op ts (a ∷ b ∷ gs) = parts ts (op a b ∷ gs)
 
-abbrev pub with-pair : (Goal → Goal → Goal) → Parts → Parts
-with-pair op p = pair-of op (terms-of p) (goals-of p)
+abbrev pub over-pair : (Goal → Goal → Goal) → Parts → Parts
+over-pair op p = pair-of op (terms-of p) (goals-of p)
 
 -- what reads on with so many terms and goals to come
 abbrev pub Onward : Type 0
@@ -79,15 +79,15 @@ Onward = ℕ → ℕ → Read Parts
 -- one node by its heads; r1, r3 and r4 read on after 1, 3 and 4 bytes
 abbrev pub node : ℕ → ℕ → TermHead → GoalHead → Onward → Onward → Onward → Read Parts
 node zero zero h i r1 r3 r4 = found (parts nil []) 0
-node (suc t) g (Variable v) i r1 r3 r4 = also (with-variable v) 3 (r3 t g)
-node (suc t) g (Symbol f k) i r1 r3 r4 = also (with-symbol f k) 4 (r4 (k + t) g)
+node (suc t) g (Variable v) i r1 r3 r4 = also (over-variable v) 3 (r3 t g)
+node (suc t) g (Symbol f k) i r1 r3 r4 = also (over-symbol f k) 4 (r4 (k + t) g)
 node (suc t) g NoTerm i r1 r3 r4 = unread
-node zero (suc g) h Truth r1 r3 r4 = also (with-goal truth) 1 (r1 zero g)
-node zero (suc g) h Failure r1 r3 r4 = also (with-goal failure) 1 (r1 zero g)
-node zero (suc g) h Equal r1 r3 r4 = also with-equal 1 (r1 2 g)
-node zero (suc g) h Conj r1 r3 r4 = also (with-pair conj) 1 (r1 zero (suc (suc g)))
-node zero (suc g) h Disj r1 r3 r4 = also (with-pair disj) 1 (r1 zero (suc (suc g)))
-node zero (suc g) h (Atom p k) r1 r3 r4 = also (with-atom p k) 4 (r4 k g)
+node zero (suc g) h Truth r1 r3 r4 = also (over-goal truth) 1 (r1 zero g)
+node zero (suc g) h Failure r1 r3 r4 = also (over-goal failure) 1 (r1 zero g)
+node zero (suc g) h Equal r1 r3 r4 = also over-equal 1 (r1 2 g)
+node zero (suc g) h Conj r1 r3 r4 = also (over-pair conj) 1 (r1 zero (suc (suc g)))
+node zero (suc g) h Disj r1 r3 r4 = also (over-pair disj) 1 (r1 zero (suc (suc g)))
+node zero (suc g) h (Atom p k) r1 r3 r4 = also (over-atom p k) 4 (r4 k g)
 node zero (suc g) h NoGoal r1 r3 r4 = unread
 
 abbrev stop : Onward

@@ -1,7 +1,7 @@
 -- Laws of the reader of terms and goals. `complete`: the bytes of what is well formed are read back. `sound`: what is read is well formed, and
 -- the bytes read are its bytes.
-use Prim.Native.Nat.{ℕ, zero, suc, _+_, _*_, _<_, _≤_, _/_, _%_}
-use native.Mathlib.Nat.{suc-add, zero-add, add-zero, add-assoc}
+use Prim.Native.Nat.{ℕ, zero, suc, _+_}
+use native.Mathlib.Nat.{suc-add, zero-add, add-zero}
 use native.Mathlib.Omega.{arith}
 use mathlib.Core.Path.{_≡_, refl, sym, ap, _∙_}
 use mathlib.Core.List.{List, [], _∷_, _++_, append-assoc, append-nil}
@@ -14,9 +14,9 @@ use Rattle.records.specs.Syntax.Terms.{nil, cons}
 use Rattle.records.specs.Syntax.Goal.{truth, failure, equal, conj, disj, atom}
 use Rattle.records.specs.Encode.{word, each, term-bytes, terms-bytes, goal-bytes}
 use Rattle.records.specs.Formed.{TermFormed, TermsFormed, GoalFormed, All}
-use Rattle.records.specs.Heads.{term-head, goal-head, joined}
+use Rattle.records.specs.Heads.{term-head, goal-head}
 use Rattle.records.specs.HeadLaws.{Bytes, bytes-drop, TermLead, GoalLead, term-lead, goal-lead, joined-word}
-use Rattle.records.specs.Reader.{Read, Parts, also, terms-of, goals-of, front, back, with-variable, with-symbol, with-goal, with-atom, equal-of, with-equal, pair-of, with-pair, Onward, node, read}
+use Rattle.records.specs.Reader.{Read, Parts, also, terms-of, goals-of, front, back, over-variable, over-symbol, over-goal, over-atom, over-equal, over-pair, Onward, node, read}
 use Rattle.records.specs.Reader.Read.{unread, found}
 use Rattle.records.specs.Reader.Parts.{parts}
 use Rattle.records.specs.declared.heads.TermHead.{TermHead}
@@ -52,8 +52,8 @@ abbrev pub join : Terms → Terms → Terms
 join nil us = us
 join (cons t ts) us = cons t (join ts us)
 
-abbrev pub with-terms : Terms → Parts → Parts
-with-terms ts p = parts (join ts (terms-of p)) (goals-of p)
+abbrev pub over-terms : Terms → Parts → Parts
+over-terms ts p = parts (join ts (terms-of p)) (goals-of p)
 
 front-join : (ts us : Terms) → front (arity ts) (join ts us) ≡ ts
 front-join nil us = refl
@@ -70,42 +70,42 @@ also-twice f g h j k n e q (found a m) =
     let x : j + (k + m) ≡ n + m = omega arith in
     ap (λ (b : _). found b (j + (k + m))) (q a) ∙ ap (found (h a)) x
 
-symbol-over : (f : ℕ) (ts : Terms) (p : Parts) → with-symbol f (arity ts) (with-terms ts p) ≡ with-terms (cons (app f ts) nil) p
+symbol-over : (f : ℕ) (ts : Terms) (p : Parts) → over-symbol f (arity ts) (over-terms ts p) ≡ over-terms (cons (app f ts) nil) p
 symbol-over f ts (parts us gs) = rw (front-join, back-join)
 
-atom-over : (f : ℕ) (ts : Terms) (p : Parts) → with-atom f (arity ts) (with-terms ts p) ≡ with-goal (atom f ts) p
+atom-over : (f : ℕ) (ts : Terms) (p : Parts) → over-atom f (arity ts) (over-terms ts p) ≡ over-goal (atom f ts) p
 atom-over f ts (parts us gs) = rw (front-join, back-join)
 
-equal-over : (t u : Term) (p : Parts) → with-equal (with-terms (cons t (cons u nil)) p) ≡ with-goal (equal t u) p
+equal-over : (t u : Term) (p : Parts) → over-equal (over-terms (cons t (cons u nil)) p) ≡ over-goal (equal t u) p
 equal-over t u (parts us gs) = refl
 
 pair-read : (op : Goal → Goal → Goal) (a b : Goal) (k : ℕ) (r : Read Parts)
-    → also (with-pair op) 1 (also (with-goal a) (length (goal-bytes a)) (also (with-goal b) (length (goal-bytes b)) r)) ≡ also (with-goal (op a b)) (length (k ∷ (goal-bytes a ++ goal-bytes b))) r
+    → also (over-pair op) 1 (also (over-goal a) (length (goal-bytes a)) (also (over-goal b) (length (goal-bytes b)) r)) ≡ also (over-goal (op a b)) (length (k ∷ (goal-bytes a ++ goal-bytes b))) r
 pair-read op a b k unread = refl
 pair-read op a b k (found (parts ts gs) n) = ap (found (parts ts (op a b ∷ gs))) (simp length-append (omega arith))
 
-nothing-over : (r : Read Parts) → r ≡ also (with-terms nil) 0 r
+nothing-over : (r : Read Parts) → r ≡ also (over-terms nil) 0 r
 nothing-over unread = refl
 nothing-over (found (parts ts gs) n) = ap (found (parts ts gs)) (omega arith)
 
 mutual
-  pub complete-term : (t : Term) → TermFormed t → (n g : ℕ) (s : List ℕ) → read (term-bytes t ++ s) (suc n) g ≡ also (with-terms (cons t nil)) (length (term-bytes t)) (read s n g)
+  pub complete-term : (t : Term) → TermFormed t → (n g : ℕ) (s : List ℕ) → read (term-bytes t ++ s) (suc n) g ≡ also (over-terms (cons t nil)) (length (term-bytes t)) (read s n g)
   complete-term (var v) h n g s = rw (read-node, joined-word v h) refl
   complete-term (app f ts) h n g s =
       rw (read-node, joined-word f (h .0), le-leb (arity ts) 16 (h .1), complete-terms ts (h .2) n g s)
       (also-twice _ _ _ 4 (length (terms-bytes ts)) _ (omega arith) (symbol-over f ts) (read s n g))
 
-  pub complete-terms : (ts : Terms) → TermsFormed ts → (n g : ℕ) (s : List ℕ) → read (terms-bytes ts ++ s) (arity ts + n) g ≡ also (with-terms ts) (length (terms-bytes ts)) (read s n g)
+  pub complete-terms : (ts : Terms) → TermsFormed ts → (n g : ℕ) (s : List ℕ) → read (terms-bytes ts ++ s) (arity ts + n) g ≡ also (over-terms ts) (length (terms-bytes ts)) (read s n g)
   complete-terms nil h n g s = rw zero-add (nothing-over (read s n g))
   complete-terms (cons t ts) h n g s =
       rw (append-assoc, suc-add, complete-term t (h .0) (arity ts + n) g (terms-bytes ts ++ s), complete-terms ts (h .1) n g s)
       (also-twice _ _ _ (length (term-bytes t)) (length (terms-bytes ts)) _ (simp length-append) (λ p. refl) (read s n g))
 
-pub complete-goal : (a : Goal) → GoalFormed a → (n : ℕ) (s : List ℕ) → read (goal-bytes a ++ s) zero (suc n) ≡ also (with-goal a) (length (goal-bytes a)) (read s zero n)
+pub complete-goal : (a : Goal) → GoalFormed a → (n : ℕ) (s : List ℕ) → read (goal-bytes a ++ s) zero (suc n) ≡ also (over-goal a) (length (goal-bytes a)) (read s zero n)
 complete-goal truth h n s = read-node (0x10 ∷ s) zero (suc n)
 complete-goal failure h n s = read-node (0x11 ∷ s) zero (suc n)
 complete-goal (equal t u) h n s =
-    let e : read ((term-bytes t ++ term-bytes u) ++ s) 2 n ≡ also (with-terms (cons t (cons u nil))) (length (term-bytes t) + length (term-bytes u)) (read s zero n) =
+    let e : read ((term-bytes t ++ term-bytes u) ++ s) 2 n ≡ also (over-terms (cons t (cons u nil))) (length (term-bytes t) + length (term-bytes u)) (read s zero n) =
     rw (append-assoc, complete-term t (h .0) 1 n (term-bytes u ++ s), complete-term u (h .1) 0 n s) (also-twice _ _ _ _ _ _ refl (λ p. refl) (read s zero n)) in
     rw (read-node, e) (also-twice _ _ _ 1 _ _ (simp length-append (omega arith)) (equal-over t u) (read s zero n))
 complete-goal (conj a b) h n s =
@@ -113,7 +113,7 @@ complete-goal (conj a b) h n s =
 complete-goal (disj a b) h n s =
     rw (read-node, append-assoc, complete-goal a (h .0) (suc n) (goal-bytes b ++ s), complete-goal b (h .1) n s) (pair-read disj a b 0x14 (read s zero n))
 complete-goal (atom f ts) h n s =
-    let e : read (terms-bytes ts ++ s) (arity ts) n ≡ also (with-terms ts) (length (terms-bytes ts)) (read s zero n) = rw add-zero at (complete-terms ts (h .2) zero n s) in
+    let e : read (terms-bytes ts ++ s) (arity ts) n ≡ also (over-terms ts) (length (terms-bytes ts)) (read s zero n) = rw add-zero at (complete-terms ts (h .2) zero n s) in
     rw (read-node, joined-word f (h .0), le-leb (arity ts) 16 (h .1), e) (also-twice _ _ _ 4 (length (terms-bytes ts)) _ (omega arith) (atom-over f ts) (read s zero n))
 
 -- Soundness: what was read of l, with t terms and g goals to come, in n bytes.
@@ -192,45 +192,45 @@ none-left (cons t ts) e = absurd (omega arith)
 
 -- one goal with no parts, before what was read
 goal-sound : (a : Goal) (c : ℕ) → goal-bytes a ≡ c ∷ [] → GoalFormed a → (l : List ℕ) (g : ℕ) (q : Parts) (m : ℕ) → (Bytes l → l ≡ c ∷ drop 1 l) → Sound (drop 1 l) zero g q m
-    → Sound l zero (suc g) (with-goal a q) (1 + m)
+    → Sound l zero (suc g) (over-goal a q) (1 + m)
 goal-sound a c e w l g (parts ts gs) m h s =
     let z : ts ≡ nil = none-left ts (s .terms) in
-    over (c ∷ []) l zero g zero (suc g) (with-goal a) (parts ts gs) m s (s .terms) (ap suc (s .goals)) (rw (z, e)) h (λ b f. (f .0, (w, f .1)))
+    over (c ∷ []) l zero g zero (suc g) (over-goal a) (parts ts gs) m s (s .terms) (ap suc (s .goals)) (rw (z, e)) h (λ b f. (f .0, (w, f .1)))
 
-equal-sound : (l : List ℕ) (g : ℕ) (q : Parts) (m : ℕ) → (Bytes l → l ≡ 0x12 ∷ drop 1 l) → Sound (drop 1 l) 2 g q m → Sound l zero (suc g) (with-equal q) (1 + m)
+equal-sound : (l : List ℕ) (g : ℕ) (q : Parts) (m : ℕ) → (Bytes l → l ≡ 0x12 ∷ drop 1 l) → Sound (drop 1 l) 2 g q m → Sound l zero (suc g) (over-equal q) (1 + m)
 equal-sound l g (parts nil gs) m h s = absurd (omega (arith, s .terms))
 equal-sound l g (parts (cons t nil) gs) m h s = absurd (omega (arith, s .terms))
 equal-sound l g (parts (cons t (cons u nil)) gs) m h s =
-    over (0x12 ∷ []) l 2 g zero (suc g) with-equal (parts (cons t (cons u nil)) gs) m s refl (ap suc (s .goals)) (simp (append-assoc, append-nil)) h (λ b f. (tt, ((f .0 .0, f .0 .1 .0), f .1)))
+    over (0x12 ∷ []) l 2 g zero (suc g) over-equal (parts (cons t (cons u nil)) gs) m s refl (ap suc (s .goals)) (simp (append-assoc, append-nil)) h (λ b f. (tt, ((f .0 .0, f .0 .1 .0), f .1)))
 equal-sound l g (parts (cons t (cons u (cons v ts))) gs) m h s = absurd (omega (arith, s .terms))
 
 pair-sound : (op : Goal → Goal → Goal) (c : ℕ) → ((x y : Goal) → goal-bytes (op x y) ≡ c ∷ (goal-bytes x ++ goal-bytes y)) → ((x y : Goal) → GoalFormed x → GoalFormed y → GoalFormed (op x y))
-    → (l : List ℕ) (g : ℕ) (q : Parts) (m : ℕ) → (Bytes l → l ≡ c ∷ drop 1 l) → Sound (drop 1 l) zero (suc (suc g)) q m → Sound l zero (suc g) (with-pair op q) (1 + m)
+    → (l : List ℕ) (g : ℕ) (q : Parts) (m : ℕ) → (Bytes l → l ≡ c ∷ drop 1 l) → Sound (drop 1 l) zero (suc (suc g)) q m → Sound l zero (suc g) (over-pair op q) (1 + m)
 pair-sound op c lay form l g (parts ts []) m h s = absurd (omega (arith, s .goals))
 pair-sound op c lay form l g (parts ts (x ∷ [])) m h s = absurd (omega (arith, s .goals))
 pair-sound op c lay form l g (parts ts (x ∷ y ∷ gs)) m h s =
     let z : ts ≡ nil = none-left ts (s .terms) in
     let e : length gs ≡ g = omega (arith, s .goals) in
-    over (c ∷ []) l zero (suc (suc g)) zero (suc g) (with-pair op) (parts ts (x ∷ y ∷ gs)) m s (s .terms) (ap suc e) (rw (z, lay x y) (simp append-assoc)) h
+    over (c ∷ []) l zero (suc (suc g)) zero (suc g) (over-pair op) (parts ts (x ∷ y ∷ gs)) m s (s .terms) (ap suc e) (rw (z, lay x y) (simp append-assoc)) h
     (λ b f. (f .0, (form x y (f .1 .0) (f .1 .1 .0), f .1 .1 .1)))
 
-atom-sound : (p k : ℕ) (l : List ℕ) (g : ℕ) (q : Parts) (m : ℕ) → (Bytes l → GoalLead l (Atom p k)) → Sound (drop 4 l) k g q m → Sound l zero (suc g) (with-atom p k q) (4 + m)
+atom-sound : (p k : ℕ) (l : List ℕ) (g : ℕ) (q : Parts) (m : ℕ) → (Bytes l → GoalLead l (Atom p k)) → Sound (drop 4 l) k g q m → Sound l zero (suc g) (over-atom p k q) (4 + m)
 atom-sound p k l g (parts ts gs) m h s =
     let w = none-back k ts (s .terms) in
-    over (0x15 ∷ (word p ++ (k ∷ []))) l k g zero (suc g) (with-atom p k) (parts ts gs) m s (ap arity (w .1)) (ap suc (s .goals))
+    over (0x15 ∷ (word p ++ (k ∷ []))) l k g zero (suc g) (over-atom p k) (parts ts gs) m s (ap arity (w .1)) (ap suc (s .goals))
     (rw (w .0, w .1, s .terms) (simp append-assoc)) (λ b. h b .0) (λ b f. rw (w .0, w .1) (tt, ((h b .1, rw (s .terms) (h b .2), f .0), f .1)))
 
-symbol-sound : (f k : ℕ) (l : List ℕ) (t g : ℕ) (q : Parts) (m : ℕ) → (Bytes l → TermLead l (Symbol f k)) → Sound (drop 4 l) (k + t) g q m → Sound l (suc t) g (with-symbol f k q) (4 + m)
+symbol-sound : (f k : ℕ) (l : List ℕ) (t g : ℕ) (q : Parts) (m : ℕ) → (Bytes l → TermLead l (Symbol f k)) → Sound (drop 4 l) (k + t) g q m → Sound l (suc t) g (over-symbol f k q) (4 + m)
 symbol-sound f k l t g (parts ts gs) m h s =
     let a = front-arity k t ts (s .terms) in
-    over (0x02 ∷ (word f ++ (k ∷ []))) l (k + t) g (suc t) g (with-symbol f k) (parts ts gs) m s (ap suc (back-arity k t ts (s .terms))) (s .goals)
+    over (0x02 ∷ (word f ++ (k ∷ []))) l (k + t) g (suc t) g (over-symbol f k) (parts ts gs) m s (ap suc (back-arity k t ts (s .terms))) (s .goals)
     (ap (λ (n : ℕ). 0x02 ∷ (word f ++ (n ∷ ((terms-bytes (front k ts) ++ terms-bytes (back k ts)) ++ each goal-bytes gs)))) a
     ∙ ap (λ (r : List ℕ). 0x02 ∷ (word f ++ (k ∷ (r ++ each goal-bytes gs)))) (sym (bytes-split k ts))) (λ b. h b .0)
     (λ b w. let v = formed-split k ts (w .0) in (((h b .1, rw a (h b .2), v .0), v .1), w .1))
 
-variable-sound : (v : ℕ) (l : List ℕ) (t g : ℕ) (q : Parts) (m : ℕ) → (Bytes l → TermLead l (Variable v)) → Sound (drop 3 l) t g q m → Sound l (suc t) g (with-variable v q) (3 + m)
+variable-sound : (v : ℕ) (l : List ℕ) (t g : ℕ) (q : Parts) (m : ℕ) → (Bytes l → TermLead l (Variable v)) → Sound (drop 3 l) t g q m → Sound l (suc t) g (over-variable v q) (3 + m)
 variable-sound v l t g (parts ts gs) m h s =
-    over (0x01 ∷ word v) l t g (suc t) g (with-variable v) (parts ts gs) m s (ap suc (s .terms)) (s .goals) refl (λ b. h b .0) (λ b w. ((h b .1, w .0), w .1))
+    over (0x01 ∷ word v) l t g (suc t) g (over-variable v) (parts ts gs) m s (ap suc (s .terms)) (s .goals) refl (λ b. h b .0) (λ b w. ((h b .1, w .0), w .1))
 
 node-sound : (l : List ℕ) (t g : ℕ) (h : TermHead) (i : GoalHead) (r1 r3 r4 : Onward) → (Bytes l → TermLead l h) → (Bytes l → GoalLead l i)
     → Sounds (drop 1 l) r1 → Sounds (drop 3 l) r3 → Sounds (drop 4 l) r4 → (p : Parts) (n : ℕ) → node t g h i r1 r3 r4 ≡ found p n → Sound l t g p n
@@ -238,17 +238,17 @@ node-sound l zero zero h i r1 r3 r4 x y s1 s3 s4 p n = λ e.
     let q : parts nil [] ≡ p = cc in
     let z : 0 ≡ n = cc in
     rw (← q, ← z) (record { terms = refl; goals = refl; size = refl; bytes = λ _. refl; formed = λ _. (tt, tt) })
-node-sound l (suc t) g (Variable v) i r1 r3 r4 x y s1 s3 s4 p n = carried (with-variable v) 3 (r3 t g) l (suc t) g p n (λ q m e. variable-sound v l t g q m x (s3 t g q m e))
-node-sound l (suc t) g (Symbol f k) i r1 r3 r4 x y s1 s3 s4 p n = carried (with-symbol f k) 4 (r4 (k + t) g) l (suc t) g p n (λ q m e. symbol-sound f k l t g q m x (s4 (k + t) g q m e))
+node-sound l (suc t) g (Variable v) i r1 r3 r4 x y s1 s3 s4 p n = carried (over-variable v) 3 (r3 t g) l (suc t) g p n (λ q m e. variable-sound v l t g q m x (s3 t g q m e))
+node-sound l (suc t) g (Symbol f k) i r1 r3 r4 x y s1 s3 s4 p n = carried (over-symbol f k) 4 (r4 (k + t) g) l (suc t) g p n (λ q m e. symbol-sound f k l t g q m x (s4 (k + t) g q m e))
 node-sound l (suc t) g NoTerm i r1 r3 r4 x y s1 s3 s4 p n = never
-node-sound l zero (suc g) h Truth r1 r3 r4 x y s1 s3 s4 p n = carried (with-goal truth) 1 (r1 zero g) l zero (suc g) p n (λ q m e. goal-sound truth 0x10 refl tt l g q m y (s1 zero g q m e))
-node-sound l zero (suc g) h Failure r1 r3 r4 x y s1 s3 s4 p n = carried (with-goal failure) 1 (r1 zero g) l zero (suc g) p n (λ q m e. goal-sound failure 0x11 refl tt l g q m y (s1 zero g q m e))
-node-sound l zero (suc g) h Equal r1 r3 r4 x y s1 s3 s4 p n = carried with-equal 1 (r1 2 g) l zero (suc g) p n (λ q m e. equal-sound l g q m y (s1 2 g q m e))
+node-sound l zero (suc g) h Truth r1 r3 r4 x y s1 s3 s4 p n = carried (over-goal truth) 1 (r1 zero g) l zero (suc g) p n (λ q m e. goal-sound truth 0x10 refl tt l g q m y (s1 zero g q m e))
+node-sound l zero (suc g) h Failure r1 r3 r4 x y s1 s3 s4 p n = carried (over-goal failure) 1 (r1 zero g) l zero (suc g) p n (λ q m e. goal-sound failure 0x11 refl tt l g q m y (s1 zero g q m e))
+node-sound l zero (suc g) h Equal r1 r3 r4 x y s1 s3 s4 p n = carried over-equal 1 (r1 2 g) l zero (suc g) p n (λ q m e. equal-sound l g q m y (s1 2 g q m e))
 node-sound l zero (suc g) h Conj r1 r3 r4 x y s1 s3 s4 p n =
-    carried (with-pair conj) 1 (r1 zero (suc (suc g))) l zero (suc g) p n (λ q m e. pair-sound conj 0x13 (λ _ _. refl) (λ _ _ a b. (a, b)) l g q m y (s1 zero (suc (suc g)) q m e))
+    carried (over-pair conj) 1 (r1 zero (suc (suc g))) l zero (suc g) p n (λ q m e. pair-sound conj 0x13 (λ _ _. refl) (λ _ _ a b. (a, b)) l g q m y (s1 zero (suc (suc g)) q m e))
 node-sound l zero (suc g) h Disj r1 r3 r4 x y s1 s3 s4 p n =
-    carried (with-pair disj) 1 (r1 zero (suc (suc g))) l zero (suc g) p n (λ q m e. pair-sound disj 0x14 (λ _ _. refl) (λ _ _ a b. (a, b)) l g q m y (s1 zero (suc (suc g)) q m e))
-node-sound l zero (suc g) h (Atom f k) r1 r3 r4 x y s1 s3 s4 p n = carried (with-atom f k) 4 (r4 k g) l zero (suc g) p n (λ q m e. atom-sound f k l g q m y (s4 k g q m e))
+    carried (over-pair disj) 1 (r1 zero (suc (suc g))) l zero (suc g) p n (λ q m e. pair-sound disj 0x14 (λ _ _. refl) (λ _ _ a b. (a, b)) l g q m y (s1 zero (suc (suc g)) q m e))
+node-sound l zero (suc g) h (Atom f k) r1 r3 r4 x y s1 s3 s4 p n = carried (over-atom f k) 4 (r4 k g) l zero (suc g) p n (λ q m e. atom-sound f k l g q m y (s4 k g q m e))
 node-sound l zero (suc g) h NoGoal r1 r3 r4 x y s1 s3 s4 p n = never
 
 nothing-sound : (t g : ℕ) (p : Parts) (n : ℕ) → node t g NoTerm NoGoal (λ _ _. unread) (λ _ _. unread) (λ _ _. unread) ≡ found p n → Sound [] t g p n

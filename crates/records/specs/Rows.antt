@@ -1,16 +1,15 @@
 -- Question 4 at positions: whether what was read somewhere keeps its rules, and the row of items that was read somewhere.
-use Prim.Native.Nat.{ℕ, zero, suc, _+_, _-_, _≤_, _<_}
+use Prim.Native.Nat.{ℕ, zero, suc, _+_, _-_, _<_}
 use native.Mathlib.Omega.{arith}
 use mathlib.Core.Path.{_≡_, refl, sym, ap, _∙_}
-use mathlib.Core.Bool.{Bool, true, false, _&&_}
-use mathlib.Core.List.{List, [], _∷_, _++_}
-use lib.ListN.{length, drop}
+use mathlib.Core.Bool.{Bool, true, _&&_}
+use mathlib.Core.List.{List, [], _∷_}
+use lib.ListN.{drop}
 use lib.Seq.{drop-drop}
-use Rattle.records.specs.RecordRules.{every}
 use Rattle.records.specs.Heads.{word-head, word-at}
 use Rattle.records.specs.Reader.{Read, also}
 use Rattle.records.specs.Reader.Read.{unread, found}
-use Rattle.records.specs.Items.{Reader, after, many, counted-by, read-counted}
+use Rattle.records.specs.Items.{Reader, after, many, read-counted}
 use Rattle.records.specs.Walk.{place, end-of}
 use Rattle.records.specs.declared.ends.Found.{Found}
 use Rattle.records.specs.declared.ends.Found.the-variants.{At, Nothing}

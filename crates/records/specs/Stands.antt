@@ -1,34 +1,32 @@
 -- What stands at a position: some bytes from there to an end. Its parts stand one after the other, and the heads there are the tree's.
-use Prim.Native.Nat.{ℕ, zero, suc, _+_, _-_, _≤_, _<_}
-use native.Mathlib.Nat.{add-assoc, add-zero}
+use Prim.Native.Nat.{ℕ, _+_, _-_, _≤_, _<_}
+use native.Mathlib.Nat.{add-assoc}
 use native.Mathlib.Omega.{arith}
 use mathlib.Core.Path.{_≡_, refl, sym, ap, _∙_}
-use mathlib.Core.Bool.{true}
 use mathlib.Core.List.{List, [], _∷_, _++_, append-assoc, append-nil}
-use lib.ListN.{length, drop, take, length-append, length-drop}
+use lib.ListN.{length, drop, length-append, length-drop}
 use lib.Seq.{drop-drop, drop-at, take-at}
 use borrow.Author.Tests.{le-leb}
-use Rattle.records.specs.Syntax.{Term, Terms, Goal, Ancestor, Bet, Definition, arity}
+use Rattle.records.specs.Syntax.{Term, Terms, Goal, Ancestor, Bet, arity}
 use Rattle.records.specs.Syntax.Term.{var, app}
 use Rattle.records.specs.Syntax.Terms.{nil, cons}
 use Rattle.records.specs.Syntax.Goal.{truth, failure, equal, conj, disj, atom}
 use Rattle.records.specs.Syntax.Ancestor.{called, in-conj, in-disj}
 use Rattle.records.specs.Syntax.Bet.{unifier, or, by}
 use Rattle.records.specs.Syntax.Definition.{definition}
-use Rattle.records.specs.Encode.{word, each, tag, term-bytes, terms-bytes, goal-bytes, ancestor-bytes, bet-bytes, definition-bytes, record-of}
-use Rattle.records.specs.Formed.{TermFormed, TermsFormed, GoalFormed, AncestorFormed, BetFormed, DefinitionFormed, All}
+use Rattle.records.specs.Encode.{word, tag, term-bytes, terms-bytes, goal-bytes, ancestor-bytes, bet-bytes, definition-bytes, record-of}
+use Rattle.records.specs.Formed.{TermFormed, TermsFormed, GoalFormed, AncestorFormed, BetFormed, DefinitionFormed}
 use Rattle.records.specs.Heads.{term-head, goal-head, ancestor-head, bet-head, definition-head, word-head, term-head-at, goal-head-at, ancestor-head-at, bet-head-at, word-at, definition-head-at}
 use Rattle.records.specs.HeadLaws.{joined-word}
 use Rattle.records.specs.Range.{size, cut, Inside}
-use Rattle.records.specs.Reader.{Read, Parts, read}
-use Rattle.records.specs.Reader.Read.{unread, found}
+use Rattle.records.specs.Reader.{read}
+use Rattle.records.specs.Reader.Read.{found}
 use Rattle.records.specs.Reader.Parts.{parts}
 use Rattle.records.specs.Items.{Reader}
-use Rattle.records.specs.ItemLaws.{Exact, PartsFormed, parts-exact}
+use Rattle.records.specs.ItemLaws.{Exact, parts-exact}
 use Rattle.records.specs.Exact.{tag-is}
-use Rattle.records.specs.Walk.{walked, walk, place, end-of, end-at, walk-end, term-nodes, terms-nodes, goal-nodes}
-use Rattle.records.specs.Walk.Walk.{off, on}
-use Rattle.records.specs.declared.put.Range.{Range}
+use Rattle.records.specs.Walk.{walk, place, end-of, term-nodes, terms-nodes, goal-nodes}
+use Rattle.records.specs.Walk.Walk.{on}
 use Rattle.records.specs.declared.ends.Found.the-variants.{At}
 use Rattle.records.specs.declared.heads.TermHead.{TermHead}
 use Rattle.records.specs.declared.heads.TermHead.the-variants.{Variable, Symbol}

@@ -1,9 +1,8 @@
 -- A walk that is known to go through, step by step: what a by-value cursor sees, and any fold over the variables that it meets.
 use Prim.Native.Nat.{ℕ, zero, suc, _+_, _-_, _*_, _≤_, _<_, max}
-use native.Mathlib.Nat.{suc-add, zero-add, add-zero}
 use native.Mathlib.Omega.{arith}
 use mathlib.Core.Path.{_≡_, refl, sym, ap, _∙_}
-use mathlib.Core.List.{List, [], _∷_, _++_}
+use mathlib.Core.List.{List, [], _∷_}
 use lib.ListN.{length}
 use Rattle.records.specs.Heads.{term-head-at, goal-head-at}
 use Rattle.records.specs.HeadLaws.{Known}
@@ -13,8 +12,6 @@ use Rattle.records.specs.Walk.Node.{variable, other}
 use Rattle.records.specs.Walk.Walk.{off, on}
 use Rattle.records.specs.WalkLaws.{step, walk-step}
 use Rattle.records.specs.EndLaws.{end-bound}
-use Rattle.records.specs.declared.ends.Found.{Found}
-use Rattle.records.specs.declared.ends.Found.the-variants.{At, Nothing}
 use Rattle.records.specs.declared.heads.TermHead.{TermHead}
 use Rattle.records.specs.declared.heads.TermHead.the-variants.{Variable, Symbol, NoTerm}
 use Rattle.records.specs.declared.heads.GoalHead.{GoalHead}

@@ -2,7 +2,7 @@
 -- Choices: terms and argument lists are declared together, since terms hold argument lists and argument lists hold terms; an atom among the
 -- ancestors is a constructor of its own, so that no other goal can stand there; stacks are lists with their top first; an event is a data type
 -- with one constructor, so that a rule can match into it. Equality is decidable throughout.
-use mathlib.Core.Path.{_≡_, refl, ap, ap₂}
+use mathlib.Core.Path.{_≡_, refl, ap₂}
 use mathlib.Core.List.{List, [], _∷_, nil≢cons, cons≢nil, head-eq-of-cons-eq, tail-eq-of-cons-eq}
 use mathlib.Core.HLevel.{Discrete}
 use native.Mathlib.Decide.{ℕ-discrete}

@@ -1,6 +1,6 @@
 -- A walk over terms and goals, a node at a time: the variables and the other nodes in their order, and where it ends.
 -- Whatever goes over a term or a goal, to find its end, its variables or its bytes under a substitution, goes over this row of nodes.
-use Prim.Native.Nat.{ℕ, zero, suc, _+_}
+use Prim.Native.Nat.{ℕ, _+_}
 use mathlib.Core.List.{List, [], _∷_, _++_}
 use lib.ListN.{drop}
 use Rattle.records.specs.Syntax.{Term, Terms, Goal, arity}

@@ -1,26 +1,23 @@
 -- Laws of a walk: it goes a node at a time by the heads, and a walk over some terms goes on into the walk over what follows them.
-use Prim.Native.Nat.{ℕ, zero, suc, _+_, _-_, _≤_, _<_}
-use native.Mathlib.Nat.{suc-add, zero-add, add-zero, add-assoc}
+use Prim.Native.Nat.{ℕ, zero, suc, _+_, _-_}
+use native.Mathlib.Nat.{add-zero, add-assoc}
 use native.Mathlib.Omega.{arith}
-use mathlib.Core.Path.{_≡_, refl, sym, ap, _∙_}
+use mathlib.Core.Path.{_≡_, refl, ap, _∙_}
 use mathlib.Core.List.{List, [], _∷_, _++_, append-assoc, append-nil}
-use lib.ListN.{length, drop, length-append, length-drop}
+use lib.ListN.{length, drop}
 use lib.Seq.{drop-drop}
-use Rattle.records.specs.Syntax.{Term, Terms, Goal, arity}
+use Rattle.records.specs.Syntax.{Terms, Goal, arity}
 use Rattle.records.specs.Syntax.Terms.{nil, cons}
-use Rattle.records.specs.Syntax.Goal.{truth, failure, equal, conj, disj, atom}
-use Rattle.records.specs.Encode.{word, each, term-bytes, terms-bytes, goal-bytes}
+use Rattle.records.specs.Syntax.Goal.{truth, failure, conj, disj}
+use Rattle.records.specs.Encode.{word}
 use Rattle.records.specs.Heads.{term-head, goal-head, term-head-at, goal-head-at}
-use Rattle.records.specs.HeadLaws.{Bytes, Known, bytes-all, bytes-drop}
-use Rattle.records.specs.Reader.{Read, Parts, also, terms-of, goals-of, front, back, with-variable, with-symbol, with-goal, with-atom, equal-of, with-equal, pair-of, with-pair, node, read}
+use Rattle.records.specs.Reader.{Read, Parts, also, terms-of, goals-of, front, back, over-variable, over-symbol, over-goal, over-atom, over-equal, over-pair, node, read}
 use Rattle.records.specs.Reader.Read.{unread, found}
 use Rattle.records.specs.Reader.Parts.{parts}
-use Rattle.records.specs.ReaderLaws.{read-node, sound, Sound, parts-bytes, front-arity, none-back, none-left}
-use Rattle.records.specs.Walk.{Node, Walk, term-nodes, terms-nodes, goal-nodes, goals-nodes, parts-nodes, walked, walk, before, walk-end, end-at}
+use Rattle.records.specs.ReaderLaws.{read-node, sound, Sound, front-arity, none-back, none-left}
+use Rattle.records.specs.Walk.{Node, Walk, terms-nodes, goal-nodes, goals-nodes, parts-nodes, walked, walk, before}
 use Rattle.records.specs.Walk.Node.{variable, other}
 use Rattle.records.specs.Walk.Walk.{off, on}
-use Rattle.records.specs.declared.ends.Found.{Found}
-use Rattle.records.specs.declared.ends.Found.the-variants.{At, Nothing}
 use Rattle.records.specs.declared.heads.TermHead.{TermHead}
 use Rattle.records.specs.declared.heads.TermHead.the-variants.{Variable, Symbol, NoTerm}
 use Rattle.records.specs.declared.heads.GoalHead.{GoalHead}
@@ -56,27 +53,27 @@ nodes-split zero ts = refl
 nodes-split (suc k) nil = refl
 nodes-split (suc k) (cons t ts) = rw (append-assoc, nodes-split k ts)
 
-symbol-nodes : (f k t : ℕ) (p : Parts) → arity (terms-of p) ≡ k + t → parts-nodes (with-symbol f k p) ≡ other (0x02 ∷ (word f ++ (k ∷ []))) ∷ parts-nodes p
+symbol-nodes : (f k t : ℕ) (p : Parts) → arity (terms-of p) ≡ k + t → parts-nodes (over-symbol f k p) ≡ other (0x02 ∷ (word f ++ (k ∷ []))) ∷ parts-nodes p
 symbol-nodes f k t (parts ts gs) e =
     ap (λ (n : ℕ). other (0x02 ∷ (word f ++ (n ∷ []))) ∷ ((terms-nodes (front k ts) ++ terms-nodes (back k ts)) ++ goals-nodes gs)) (front-arity k t ts e)
     ∙ ap (λ (l : List Node). other (0x02 ∷ (word f ++ (k ∷ []))) ∷ (l ++ goals-nodes gs)) (nodes-split k ts)
 
-goal-nodes-first : (x : Node) (a : Goal) (p : Parts) → goal-nodes a ≡ x ∷ [] → arity (terms-of p) ≡ 0 → parts-nodes (with-goal a p) ≡ x ∷ parts-nodes p
+goal-nodes-first : (x : Node) (a : Goal) (p : Parts) → goal-nodes a ≡ x ∷ [] → arity (terms-of p) ≡ 0 → parts-nodes (over-goal a p) ≡ x ∷ parts-nodes p
 goal-nodes-first x a (parts ts gs) e z = rw (none-left ts z, e)
 
-equal-nodes : (p : Parts) → arity (terms-of p) ≡ 2 → parts-nodes (with-equal p) ≡ other (0x12 ∷ []) ∷ parts-nodes p
+equal-nodes : (p : Parts) → arity (terms-of p) ≡ 2 → parts-nodes (over-equal p) ≡ other (0x12 ∷ []) ∷ parts-nodes p
 equal-nodes (parts nil gs) e = absurd (omega arith)
 equal-nodes (parts (cons t nil) gs) e = absurd (omega arith)
 equal-nodes (parts (cons t (cons u nil)) gs) e = simp (append-assoc, append-nil)
 equal-nodes (parts (cons t (cons u (cons v ts))) gs) e = absurd (omega arith)
 
 pair-nodes : (op : Goal → Goal → Goal) (x : Node) → ((a b : Goal) → goal-nodes (op a b) ≡ x ∷ (goal-nodes a ++ goal-nodes b)) → (g : ℕ) (p : Parts) → arity (terms-of p) ≡ 0
-    → length (goals-of p) ≡ suc (suc g) → parts-nodes (with-pair op p) ≡ x ∷ parts-nodes p
+    → length (goals-of p) ≡ suc (suc g) → parts-nodes (over-pair op p) ≡ x ∷ parts-nodes p
 pair-nodes op x q g (parts ts []) e d = absurd (omega arith)
 pair-nodes op x q g (parts ts (a ∷ [])) e d = absurd (omega arith)
 pair-nodes op x q g (parts ts (a ∷ b ∷ gs)) e d = rw (none-left ts e, q a b) (simp append-assoc)
 
-atom-nodes : (f k : ℕ) (p : Parts) → arity (terms-of p) ≡ k → parts-nodes (with-atom f k p) ≡ other (0x15 ∷ (word f ++ (k ∷ []))) ∷ parts-nodes p
+atom-nodes : (f k : ℕ) (p : Parts) → arity (terms-of p) ≡ k → parts-nodes (over-atom f k p) ≡ other (0x15 ∷ (word f ++ (k ∷ []))) ∷ parts-nodes p
 atom-nodes f k (parts ts gs) e =
     let w = none-back k ts e in
     rw (w .0, w .1, e)
@@ -85,15 +82,15 @@ module _ (s : List ℕ) (at : ℕ) where
   step-at : (t g : ℕ) (h : TermHead) (i : GoalHead)
       → walked at (node t g h i (read (drop 1 (drop at s))) (read (drop 3 (drop at s))) (read (drop 4 (drop at s)))) ≡ step s at t g h i
   step-at zero zero h i = ap (on []) (add-zero at)
-  step-at (suc t) g (Variable v) i = made s at (variable v) (with-variable v) 3 t g (λ p n w. refl)
-  step-at (suc t) g (Symbol f k) i = made s at _ (with-symbol f k) 4 (k + t) g (λ p n w. symbol-nodes f k t p (w .terms))
+  step-at (suc t) g (Variable v) i = made s at (variable v) (over-variable v) 3 t g (λ p n w. refl)
+  step-at (suc t) g (Symbol f k) i = made s at _ (over-symbol f k) 4 (k + t) g (λ p n w. symbol-nodes f k t p (w .terms))
   step-at (suc t) g NoTerm i = refl
-  step-at zero (suc g) h Truth = made s at _ (with-goal truth) 1 zero g (λ p n w. goal-nodes-first _ truth p refl (w .terms))
-  step-at zero (suc g) h Failure = made s at _ (with-goal failure) 1 zero g (λ p n w. goal-nodes-first _ failure p refl (w .terms))
-  step-at zero (suc g) h Equal = made s at _ with-equal 1 2 g (λ p n w. equal-nodes p (w .terms))
-  step-at zero (suc g) h Conj = made s at _ (with-pair conj) 1 zero (suc (suc g)) (λ p n w. pair-nodes conj _ (λ _ _. refl) g p (w .terms) (w .goals))
-  step-at zero (suc g) h Disj = made s at _ (with-pair disj) 1 zero (suc (suc g)) (λ p n w. pair-nodes disj _ (λ _ _. refl) g p (w .terms) (w .goals))
-  step-at zero (suc g) h (Atom f k) = made s at _ (with-atom f k) 4 k g (λ p n w. atom-nodes f k p (w .terms))
+  step-at zero (suc g) h Truth = made s at _ (over-goal truth) 1 zero g (λ p n w. goal-nodes-first _ truth p refl (w .terms))
+  step-at zero (suc g) h Failure = made s at _ (over-goal failure) 1 zero g (λ p n w. goal-nodes-first _ failure p refl (w .terms))
+  step-at zero (suc g) h Equal = made s at _ over-equal 1 2 g (λ p n w. equal-nodes p (w .terms))
+  step-at zero (suc g) h Conj = made s at _ (over-pair conj) 1 zero (suc (suc g)) (λ p n w. pair-nodes conj _ (λ _ _. refl) g p (w .terms) (w .goals))
+  step-at zero (suc g) h Disj = made s at _ (over-pair disj) 1 zero (suc (suc g)) (λ p n w. pair-nodes disj _ (λ _ _. refl) g p (w .terms) (w .goals))
+  step-at zero (suc g) h (Atom f k) = made s at _ (over-atom f k) 4 k g (λ p n w. atom-nodes f k p (w .terms))
   step-at zero (suc g) h NoGoal = refl
 
   -- the one law of a walk

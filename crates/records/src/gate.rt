@@ -15,7 +15,9 @@ ghost use Rattle.records.specs.Items.{read-program-bytes};
 ghost use Rattle.records.specs.Walk.{end-of};
 ghost use Rattle.records.specs.Rows.{Ends, kept-at};
 ghost use Rattle.records.specs.Gate.{framed, of-version, verdict, program-number, event-number, read-query, read-event, read-program, read-clauses};
-ghost use Rattle.records.specs.GateEnds.{port-end, counted-end, counted-kept, program-rises, bets-place, judged-at, bets-verdict};
+ghost use Rattle.records.specs.GateEnds.{judged-at};
+ghost use Rattle.records.specs.CountedEnds.{counted-end, counted-kept, program-rises};
+ghost use Rattle.records.specs.EventEnds.{port-end, bets-place, bets-verdict};
 
 // Passed, or the question that says no.
 pub enum Verdict {

@@ -18,7 +18,7 @@ ghost use Rattle.records.specs.Walk.{end-of};
 ghost use Rattle.records.specs.Rows.{Ends};
 ghost use Rattle.records.specs.Gate.{Accepted, read-event};
 ghost use Rattle.records.specs.Gate.Reading.{tree};
-ghost use Rattle.records.specs.GateEnds.{counted-end};
+ghost use Rattle.records.specs.CountedEnds.{counted-end};
 ghost use Rattle.records.specs.Stands.{Stands};
 ghost use Rattle.records.specs.Places.{RowAt, GoalAt, event-places, definition-places};
 

@@ -1,4 +1,4 @@
-use Rattle.records.specs.GateEnds.{bets-read, bets-unread}
+use Rattle.records.specs.EventEnds.{bets-read, bets-unread}
 use Rattle.records.specs.Rows.{ends-at}
 use mathlib.Core.Path.{sym, _∙_}
 use borrow.Author.Needs.{needs}

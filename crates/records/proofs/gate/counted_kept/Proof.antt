@@ -1,4 +1,4 @@
-use Rattle.records.specs.GateEnds.{row-kept, row-found, row-lost}
+use Rattle.records.specs.CountedEnds.{row-kept, row-found, row-lost}
 use Rattle.records.specs.declared.heads.Word.the-variants.{Number}
 use Rattle.records.specs.HeadRoom.{word-room}
 use mathlib.Core.Path.{_∙_}

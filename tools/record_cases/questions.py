@@ -1,0 +1,63 @@
+"""Questions 1 and 2, the order in which the questions are put, and records of another kind."""
+from record_cases.table import *
+
+heading('records of document 01')
+case('p', 0, 'the program of no definitions', hexa('00 03 01 00 00'))
+case('q', 0, 'the query V0 = a', hexa('00 09 01 12 01 00 00 02 00 02 00'))
+case('e', 0, 'its first event', hexa('00 0E 01 01 12 01 00 00 02 00 02 00 00 00 00 00'))
+case('e', 0, 'its second event', hexa('00 17 01 02 12 01 00 00 02 00 02 00 00 00 00 01 20 00 01 00 00 02 00 02 00'))
+case('c', 0, 'no clauses', hexa('00 03 01 00 00'))
+
+heading('length')
+for kind, number in ('q', 11), ('e', 11), ('p', 1), ('c', 1):
+    case(kind, number, 'no bytes', b'')
+    case(kind, number, 'one byte', hexa('00'))
+    case(kind, number, 'two bytes, the length field naming the rest', hexa('00 00'))
+    case(kind, number, 'two bytes, the length field 1', hexa('00 01'))
+    case(kind, number, 'three bytes, the length field one too small', hexa('00 00 01'))
+    case(kind, number, 'three bytes, the length field one too large', hexa('00 02 01'))
+for kind, number in ('q', 13), ('e', 13), ('p', 3), ('c', 3):
+    case(kind, number, 'three bytes, well framed, with no body', hexa('00 01 01'))
+for kind, number, good in ('q', 11, TRUE), ('e', 11, CALL_TRUE), ('p', 1, listed([])), ('c', 1, listed([])):
+    case(kind, number, 'the length field one too small', record(good, length=len(good)))
+    case(kind, number, 'the length field one too large', record(good, length=len(good) + 2))
+    case(kind, number, 'the length field 256 too large', record(good, length=len(good) + 257))
+    case(kind, number, 'a byte after the record', record(good) + b'\x00')
+case('q', 11, 'the length field names the whole slice', hexa('00 04 01 10'))
+case('q', 11, 'the length field with its low byte first', hexa('02 00 01 10'))
+
+heading('version')
+for kind, number, good in ('q', 12, TRUE), ('e', 12, CALL_TRUE), ('p', 2, listed([])), ('c', 2, listed([])):
+    case(kind, number, '0', record(good, version=0))
+    case(kind, 0, '1', record(good, version=1))
+    case(kind, number, '2', record(good, version=2))
+    case(kind, number, '255', record(good, version=255))
+
+heading('the first no decides')
+case('q', 11, '1 and 2: a length one too large, version 2', record(TRUE, version=2, length=3))
+case('e', 11, '1 and 3: a length one too small, port 9', record(event(9, TRUE), length=6))
+case('p', 1, '1, 2, 3 and 4 at once', record(listed([definition(5, 0, 0, eq(V0, A)), definition(5, 17, 0, V0)]), version=0, length=9))
+case('q', 12, '2 and 3: version 0, no goal', record(V0, version=0))
+case('q', 12, '2 and 3: version 0, no body', hexa('00 01 00'))
+case('e', 12, '2 and 4: version 3, V0 to V0', record(event(2, TRUE, bets=[unifier((0, V0))]), version=3))
+case('p', 2, '2 and 3: version 2, a count without definitions', record(listed([], count=1), version=2))
+case('c', 2, '2 and 4: version 0, a variable too many', record(listed([clause(5, 0, [V0], TRUE)]), version=0))
+bets(13, '4 in the first bet, 3 in the second', unifier((0, V0)), chosen(3))
+pairs(13, '4 in the first two pairs, 3 in the third', (1, A), (0, A), (2, TRUE))
+an_event(13, '4 in the only bet, then a byte too many', event(2, TRUE, bets=[unifier((0, V0))]) + b'\x00')
+program(3, '4 in the first definition, 3 in the second', definition(5, 0, 0, eq(V0, A)), definition(6, 0, 0, V0))
+program(3, 'the definitions fall, and the second has arity 17', definition(6, 0, 0, TRUE), definition(5, 17, 0, TRUE))
+program(3, 'the definitions fall, then a byte too many', definition(6, 0, 0, TRUE), definition(5, 0, 0, TRUE) + b'\x00')
+clauses(3, '4 in the first clause, 3 in the second', clause(5, 1, [], TRUE), clause(5, 65, [], TRUE))
+clauses(3, 'a variable too many, then a byte too many', clause(5, 0, [V0], TRUE) + b'\x00')
+
+heading('a record of another kind')
+case('q', 13, 'a program', record(listed([definition(5, 0, 0, TRUE)])))
+case('q', 13, 'an event', record(CALL_TRUE))
+case('e', 13, 'a query', record(TRUE))
+case('e', 13, 'a program', record(listed([])))
+case('p', 3, 'a query', record(eq(V0, A)))
+case('p', 3, 'an event', record(CALL_TRUE))
+case('p', 3, 'clauses with head terms', record(listed([clause(5, 0, [A], TRUE)])))
+case('c', 3, 'a definition of arity 1', record(listed([definition(5, 1, 0, eq(V0, A))])))
+case('c', 0, 'a definition of arity 0 and locals 0, which is a clause too', record(listed([definition(5, 0, 0, TRUE)])))

@@ -39,3 +39,4 @@ pub mod CountedEnds
 pub mod EventEnds
 pub mod Places
 pub mod Same
+pub mod Written

@@ -1,0 +1,218 @@
+-- The step back of `Rules` is refused exactly as `Refusals` lists.
+use mathlib.Core.Path.{_≡_, refl, sym, _∙_, ap, subst}
+use mathlib.Core.Logic.{_↔_}
+use mathlib.Core.Bool.{Bool, true, false, true≢false}
+use mathlib.Core.List.{List, [], _∷_}
+use mathlib.Core.Option.{Option, none, some}
+use Rattle.records.specs.Syntax.{Goal, truth, failure, equal, conj, disj, atom, first, second, Ancestor, called, in-conj, in-disj, Binding, Bet, unifier, or, by, Port, call, exit, fail, redo, Event, event, goal?}
+use Rattle.records.specs.Question.{Question, possible, matches, values, locals}
+use Rattle.terms.specs.Outcome.{Unified, too-large, clash, unified}
+use Rattle.terms.specs.Body.{Body, too-many, undefined, defined}
+use Rattle.stepper.specs.Machine.{Machine, Answer, refused, gives, answer?}
+use Rattle.stepper.specs.Rules.{half, matching, by-unifier, by-body, fitting, ununifiable, step-forward, candidate, checked, step-back}
+use Rattle.stepper.specs.Answers.{matching-no, matching-refused, fitting-passes}
+use Rattle.stepper.specs.Listed.{Rule, conj-call, conj-exit-first, conj-fail-first, conj-exit-second, conj-fail-second, conj-redo, disj-call, disj-fail-first, disj-fail-second, disj-exit-first, disj-exit-second, disj-redo, true-call, true-redo, fail-call, equal-call, equal-clash, equal-redo, atom-call, atom-undefined, atom-exit, atom-fail, atom-redo}
+use Rattle.stepper.specs.Sources.{Own}
+use Rattle.stepper.specs.SourceLaws.{source-candidate}
+use Rattle.stepper.specs.RefusalLaws.{OnRefused, nothing}
+use Rattle.stepper.specs.ListedLaws.{disj-exit}
+use Rattle.stepper.specs.Refusals.{Begins, BackRefusal, walk-begins, no-right-side, exit-value-too-large, fail-value-too-large, body-local-too-large, fail-local-too-large, candidate-too-large, leads-elsewhere}
+
+differ : (c : Event) (q : Question) → gives c ≡ refused q → ⊥
+differ c q h = true≢false cc
+
+by-unifier-asks : (x : Unified) (c : Event) (k : List Binding → Event) → by-unifier x c k ≡ refused matches → ⊥
+unfolding by-unifier
+by-unifier-asks too-large c k h = true≢false cc
+by-unifier-asks clash c k h = true≢false cc
+by-unifier-asks (unified m) c k h = true≢false cc
+
+by-body-asks : (x : Body) (c : Event) (k : Goal → Event) → by-body x c k ≡ refused matches → ⊥
+unfolding by-body
+by-body-asks too-many c k h = true≢false cc
+by-body-asks undefined c k h = true≢false cc
+by-body-asks (defined g) c k h = true≢false cc
+
+module _ (N : Machine) where
+  -- the right side of a rule passes the first question 7
+  sourced : (c e : Event) → Rule N c e → Own N c → candidate N e ≡ refused matches → ⊥
+  sourced c e r o h = differ c matches (sym (source-candidate N c e r o) ∙ h)
+
+  right-side-asks : (c e : Event) → Rule N c e → candidate N e ≡ refused matches → ⊥
+  unfolding candidate
+  right-side-asks c e conj-call h = sourced c e conj-call tt h
+  right-side-asks c e conj-exit-first h = sourced c e conj-exit-first tt h
+  right-side-asks c e conj-fail-first h = sourced c e conj-fail-first tt h
+  right-side-asks c e conj-exit-second h = sourced c e conj-exit-second tt h
+  right-side-asks c e conj-fail-second h = sourced c e conj-fail-second tt h
+  right-side-asks c e conj-redo h = sourced c e conj-redo tt h
+  right-side-asks c e disj-call h = sourced c e disj-call tt h
+  right-side-asks c e disj-fail-first h = sourced c e disj-fail-first tt h
+  right-side-asks c e disj-fail-second h = sourced c e disj-fail-second tt h
+  right-side-asks c e disj-exit-first h = sourced c e disj-exit-first tt h
+  right-side-asks c e disj-exit-second h = sourced c e disj-exit-second tt h
+  right-side-asks c e (disj-redo n) h = sourced c e (disj-redo n) tt h
+  right-side-asks c e true-call h = sourced c e true-call tt h
+  right-side-asks c e true-redo h = sourced c e true-redo tt h
+  right-side-asks c e fail-call h = sourced c e fail-call tt h
+  right-side-asks c e (equal-call k) h = sourced c e (equal-call k) tt h
+  right-side-asks c e (equal-clash k) h = sourced c e (equal-clash k) tt h
+  right-side-asks c e (atom-call k) h = sourced c e (atom-call k) tt h
+  right-side-asks c e (atom-undefined k) h = sourced c e (atom-undefined k) tt h
+  right-side-asks c e atom-exit h = sourced c e atom-exit tt h
+  right-side-asks c e atom-redo h = sourced c e atom-redo tt h
+  right-side-asks c e equal-redo h = by-unifier-asks (N .unify _ _ _) _ _ h
+  right-side-asks c e atom-fail h = by-body-asks (N .body _ _ _ _) _ _ h
+
+-- machines whose every unifier, or every body, is the one given
+abbrev unifying : List Binding → Machine
+unifying m = record { unify = λ s l r. unified m; body = λ p ts u s. undefined; limit = λ e. none }
+
+abbrev defining : Goal → Machine
+defining g = record { unify = λ s l r. clash; body = λ p ts u s. defined g; limit = λ e. none }
+
+module _ (M : Machine) where
+  -- an event that the first question 7 refuses under every machine
+  stuck : (e : Event) → (Begins e → ⊥) → ((N : Machine) → candidate N e ≡ refused matches) → BackRefusal M e matches
+  stuck e w h = no-right-side w (λ N c r. right-side-asks N c e r (h N))
+
+  stuck-matching {ℓ} : {P : Type ℓ} (e : Event) (d : Dec P) (c : Event) → (Begins e → ⊥) → ((N : Machine) → candidate N e ≡ matching d c)
+      → OnRefused (BackRefusal M e) (matching d c)
+  unfolding matching
+  stuck-matching e (yes p) c w h = tt
+  stuck-matching e (no p) c w h = stuck e w h
+
+  unifier-asked : (e : Event) (x : Unified) (c : Event) (k : List Binding → Event) → (x ≡ too-large → BackRefusal M e values)
+      → OnRefused (BackRefusal M e) (by-unifier x c k)
+  unfolding by-unifier
+  unifier-asked e too-large c k h = h refl
+  unifier-asked e clash c k h = tt
+  unifier-asked e (unified m) c k h = tt
+
+  body-asked : (e : Event) (x : Body) (c : Event) (k : Goal → Event) → (x ≡ too-many → BackRefusal M e locals)
+      → OnRefused (BackRefusal M e) (by-body x c k)
+  unfolding by-body
+  body-asked e too-many c k h = h refl
+  body-asked e undefined c k h = tt
+  body-asked e (defined g) c k h = tt
+
+  -- what questions 6 to 9 refuse
+  candidate-refusal : (e : Event) → OnRefused (BackRefusal M e) (candidate M e)
+  unfolding candidate
+  candidate-refusal (event call g [] []) = walk-begins tt
+  candidate-refusal (event call g [] (b ∷ s)) = stuck (event call g [] (b ∷ s)) (λ x. x) (λ N. refl)
+  candidate-refusal (event call g (in-conj first a b ∷ u) s) = stuck-matching (event call g (in-conj first a b ∷ u) s) (goal? g a) _ (λ x. x) (λ N. refl)
+  candidate-refusal (event call g (in-conj second a b ∷ u) s) = stuck-matching (event call g (in-conj second a b ∷ u) s) (goal? g b) _ (λ x. x) (λ N. refl)
+  candidate-refusal (event call g (in-disj first a b ∷ u) s) = stuck-matching (event call g (in-disj first a b ∷ u) s) (goal? g a) _ (λ x. x) (λ N. refl)
+  candidate-refusal (event call g (in-disj second a b ∷ u) s) = stuck-matching (event call g (in-disj second a b ∷ u) s) (goal? g b) _ (λ x. x) (λ N. refl)
+  candidate-refusal (event call g (called p ts ∷ u) s) = body-asked (event call g (called p ts ∷ u) s) (M .body p ts u s) _ _ (λ h. body-local-too-large h)
+  candidate-refusal (event exit truth u s) = tt
+  candidate-refusal (event exit failure u s) = stuck (event exit failure u s) (λ x. x) (λ N. refl)
+  candidate-refusal (event exit (equal l r) u []) = stuck (event exit (equal l r) u []) (λ x. x) (λ N. refl)
+  candidate-refusal (event exit (equal l r) u (unifier m ∷ s)) =
+      unifier-asked (event exit (equal l r) u (unifier m ∷ s)) (M .unify s l r) _ _ (λ h. exit-value-too-large h)
+  candidate-refusal (event exit (equal l r) u (or n ∷ s)) = stuck (event exit (equal l r) u (or n ∷ s)) (λ x. x) (λ N. refl)
+  candidate-refusal (event exit (equal l r) u (by g ∷ s)) = stuck (event exit (equal l r) u (by g ∷ s)) (λ x. x) (λ N. refl)
+  candidate-refusal (event exit (conj a b) u s) = tt
+  candidate-refusal (event exit (disj a b) u []) = stuck (event exit (disj a b) u []) (λ x. x) (λ N. refl)
+  candidate-refusal (event exit (disj a b) u (unifier m ∷ s)) = stuck (event exit (disj a b) u (unifier m ∷ s)) (λ x. x) (λ N. refl)
+  candidate-refusal (event exit (disj a b) u (or n ∷ s)) = tt
+  candidate-refusal (event exit (disj a b) u (by g ∷ s)) = stuck (event exit (disj a b) u (by g ∷ s)) (λ x. x) (λ N. refl)
+  candidate-refusal (event exit (atom p ts) u []) = stuck (event exit (atom p ts) u []) (λ x. x) (λ N. refl)
+  candidate-refusal (event exit (atom p ts) u (unifier m ∷ s)) = stuck (event exit (atom p ts) u (unifier m ∷ s)) (λ x. x) (λ N. refl)
+  candidate-refusal (event exit (atom p ts) u (or n ∷ s)) = stuck (event exit (atom p ts) u (or n ∷ s)) (λ x. x) (λ N. refl)
+  candidate-refusal (event exit (atom p ts) u (by g ∷ s)) = tt
+  candidate-refusal (event fail truth u s) = tt
+  candidate-refusal (event fail failure u s) = tt
+  candidate-refusal (event fail (equal l r) u s) = unifier-asked (event fail (equal l r) u s) (M .unify s l r) _ _ (λ h. fail-value-too-large h)
+  candidate-refusal (event fail (conj a b) u s) = tt
+  candidate-refusal (event fail (disj a b) u s) = tt
+  candidate-refusal (event fail (atom p ts) u s) = body-asked (event fail (atom p ts) u s) (M .body p ts u s) _ _ (λ h. fail-local-too-large h)
+  candidate-refusal (event redo g [] s) = stuck (event redo g [] s) (λ x. x) (λ N. refl)
+  candidate-refusal (event redo g (in-conj first a b ∷ u) s) = stuck-matching (event redo g (in-conj first a b ∷ u) s) (goal? g a) _ (λ x. x) (λ N. refl)
+  candidate-refusal (event redo g (in-conj second a b ∷ u) s) = stuck-matching (event redo g (in-conj second a b ∷ u) s) (goal? g b) _ (λ x. x) (λ N. refl)
+  candidate-refusal (event redo g (in-disj n a b ∷ u) s) = stuck-matching (event redo g (in-disj n a b ∷ u) s) (goal? g (half n a b)) _ (λ x. x) (λ N. refl)
+  candidate-refusal (event redo g (called p ts ∷ u) s) = tt
+
+  begins-refused : (e : Event) → Begins e → candidate M e ≡ refused possible
+  unfolding candidate
+  begins-refused (event call g [] []) w = refl
+
+  -- a right side that asks for the goal a, where no rule leads to the event
+  unmatched : (p : Port) (u : List Ancestor) (s : List Bet) (g a : Goal) (c : Event) → Rule M c (event p a u s)
+      → ((N : Machine) (c : Event) → Rule N c (event p g u s) → ⊥) → matching (goal? g a) c ≡ refused matches
+  unmatched p u s g a c r n = matching-no (goal? g a) c (λ h. n M c (subst (λ x. Rule M c (event p x u s)) (sym h) r))
+
+  unled-refused : (e : Event) → (Begins e → ⊥) → ((N : Machine) (c : Event) → Rule N c e → ⊥) → candidate M e ≡ refused matches
+  unfolding candidate
+  unled-refused (event call g [] []) w n = absurd (w tt)
+  unled-refused (event call g [] (b ∷ s)) w n = refl
+  unled-refused (event call g (in-conj first a b ∷ u) s) w n = unmatched call _ s g a _ conj-call n
+  unled-refused (event call g (in-conj second a b ∷ u) s) w n = unmatched call _ s g b _ conj-exit-first n
+  unled-refused (event call g (in-disj first a b ∷ u) s) w n = unmatched call _ s g a _ disj-call n
+  unled-refused (event call g (in-disj second a b ∷ u) s) w n = unmatched call _ s g b _ disj-fail-first n
+  unled-refused (event call g (called p ts ∷ u) s) w n = absurd (n (defining g) (event call (atom p ts) u s) (atom-call refl))
+  unled-refused (event exit truth u s) w n = absurd (n M (event call truth u s) true-call)
+  unled-refused (event exit failure u s) w n = refl
+  unled-refused (event exit (equal l r) u []) w n = refl
+  unled-refused (event exit (equal l r) u (unifier m ∷ s)) w n = absurd (n (unifying m) (event call (equal l r) u s) (equal-call refl))
+  unled-refused (event exit (equal l r) u (or k ∷ s)) w n = refl
+  unled-refused (event exit (equal l r) u (by g ∷ s)) w n = refl
+  unled-refused (event exit (conj a b) u s) w n = absurd (n M (event exit b (in-conj second a b ∷ u) s) conj-exit-second)
+  unled-refused (event exit (disj a b) u []) w n = refl
+  unled-refused (event exit (disj a b) u (unifier m ∷ s)) w n = refl
+  unled-refused (event exit (disj a b) u (or k ∷ s)) w n = absurd (n M (event exit (half k a b) (in-disj k a b ∷ u) s) (disj-exit M k a b u s))
+  unled-refused (event exit (disj a b) u (by g ∷ s)) w n = refl
+  unled-refused (event exit (atom p ts) u []) w n = refl
+  unled-refused (event exit (atom p ts) u (unifier m ∷ s)) w n = refl
+  unled-refused (event exit (atom p ts) u (or k ∷ s)) w n = refl
+  unled-refused (event exit (atom p ts) u (by g ∷ s)) w n = absurd (n M (event exit g (called p ts ∷ u) s) atom-exit)
+  unled-refused (event fail truth u s) w n = absurd (n M (event redo truth u s) true-redo)
+  unled-refused (event fail failure u s) w n = absurd (n M (event call failure u s) fail-call)
+  unled-refused (event fail (equal l r) u s) w n = absurd (n nothing (event call (equal l r) u s) (equal-clash refl))
+  unled-refused (event fail (conj a b) u s) w n = absurd (n M (event fail a (in-conj first a b ∷ u) s) conj-fail-first)
+  unled-refused (event fail (disj a b) u s) w n = absurd (n M (event fail b (in-disj second a b ∷ u) s) disj-fail-second)
+  unled-refused (event fail (atom p ts) u s) w n = absurd (n nothing (event call (atom p ts) u s) (atom-undefined refl))
+  unled-refused (event redo g [] s) w n = refl
+  unled-refused (event redo g (in-conj first a b ∷ u) s) w n = unmatched redo _ s g a _ conj-fail-second n
+  unled-refused (event redo g (in-conj second a b ∷ u) s) w n = unmatched redo _ s g b _ conj-redo n
+  unled-refused (event redo g (in-disj k a b ∷ u) s) w n = unmatched redo _ s g (half k a b) _ (disj-redo k) n
+  unled-refused (event redo g (called p ts ∷ u) s) w n = absurd (n M (event redo (atom p ts) u (by g ∷ s)) atom-redo)
+
+  -- every listed refusal is made
+  refusal-made : (e : Event) (q : Question) → BackRefusal M e q → step-back M e ≡ refused q
+  unfolding step-back checked candidate fitting
+  refusal-made e q (walk-begins w) = ap (checked M e) (begins-refused e w)
+  refusal-made e q (no-right-side w n) = ap (checked M e) (unled-refused e w n)
+  refusal-made e q (exit-value-too-large h) = rw h
+  refusal-made e q (fail-value-too-large h) = rw h
+  refusal-made e q (body-local-too-large h) = rw h
+  refusal-made e q (fail-local-too-large h) = rw h
+  refusal-made e q (candidate-too-large k u l) = ap (checked M e) k ∙ rw (u, l)
+  refusal-made e q (leads-elsewhere {c = c} k l n) =
+      ap (checked M e) k ∙ fitting-passes (ununifiable M c) (M .limit c) _ l ∙ matching-no (answer? (step-forward M c) (gives e)) c n
+
+  -- and no other
+  refusal-listed : (e : Event) (q : Question) → step-back M e ≡ refused q → BackRefusal M e q
+  unfolding step-back checked fitting
+  refusal-listed e q h = go (candidate M e) refl h
+    where
+      last : (c : Event) → candidate M e ≡ gives c → (ununifiable M c ≡ false → M .limit c ≡ none)
+          → matching (answer? (step-forward M c) (gives e)) c ≡ refused q → BackRefusal M e q
+      last c k l h =
+          let r = matching-refused (answer? (step-forward M c) (gives e)) c q h in
+          subst (BackRefusal M e) (r .1) (leads-elsewhere k l (r .0))
+
+      asked : (c : Event) → candidate M e ≡ gives c → (b : Bool) (o : Option Question) → ununifiable M c ≡ b → M .limit c ≡ o
+          → fitting b o (matching (answer? (step-forward M c) (gives e)) c) ≡ refused q → BackRefusal M e q
+      asked c k true o u l h = last c k (λ z. absurd (true≢false (sym u ∙ z))) h
+      asked c k false none u l h = last c k (λ z. l) h
+      asked c k false (some p) u l h = let same : p ≡ q = cc in subst (BackRefusal M e) same (candidate-too-large k u l)
+
+      go : (a : Answer) → candidate M e ≡ a → checked M e a ≡ refused q → BackRefusal M e q
+      go (refused p) k h = let same : p ≡ q = cc in subst (BackRefusal M e) same (subst (OnRefused (BackRefusal M e)) k (candidate-refusal e))
+      go (gives c) k h = asked c k (ununifiable M c) (M .limit c) refl refl h
+
+  -- a step back is refused exactly as listed
+  pub back-refused-iff : (e : Event) (q : Question) → (step-back M e ≡ refused q) ↔ BackRefusal M e q
+  back-refused-iff e q = (refusal-listed e q, refusal-made e q)

@@ -1,0 +1,41 @@
+-- The stepper's definitions and laws. To read: what are the rules? `Listed`, and read back `Sources`. When is a step refused? `Refusals`. The
+-- step as a function: `Rules`, and for code `Back`. The services on bytes: `Services`, `Run`, `Lookup`, `Counts`. What they rest on: `Layers`,
+-- and with the records and terms of this desk `Desk`. What is proved of steps and walks: `Demands`. The bench sheet: `Bench`.
+pub mod Walk
+pub mod WalkLaws
+pub mod Machine
+pub mod Rules
+pub mod Answers
+pub mod Listed
+pub mod ListedLaws
+pub mod Refusals
+pub mod RefusalLaws
+pub mod Sources
+pub mod SourceLaws
+pub mod BackRefusalLaws
+pub mod Back
+pub mod BackLaws
+pub mod Legal
+pub mod Inverse
+pub mod Limits
+pub mod Reached
+pub mod ReachedLaws
+pub mod TreeDemands
+pub mod Formed
+pub mod FormedLaws
+pub mod Layers
+pub mod Services
+pub mod ServiceLaws
+pub mod OutputLaws
+pub mod Run
+pub mod RunLaws
+pub mod RunServiceLaws
+pub mod StepRecordLaws
+pub mod ByteDemands
+pub mod Desk
+pub mod Demands
+pub mod Lookup
+pub mod LookupLaws
+pub mod Counts
+pub mod CountsLaws
+pub mod Bench

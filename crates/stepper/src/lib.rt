@@ -1,0 +1,1 @@
+// The stepper: first event, step forward, step back, run.

@@ -1,0 +1,46 @@
+use Rattle.terms.specs.BetRow.{head-pairs}
+use mathlib.Core.Path.{sym, ap, _∙_}
+use borrow.Author.Needs.{needs}
+use Rattle.terms.proofs.apply.pairs_at.Statement.{statement}
+use Rattle.terms.proofs.apply.pairs_at.Tie as tie
+
+bet-head-requires : tie.Need-bet-head-requires
+bet-head-requires c κs = search needs
+
+enum-known-n : tie.Need-enum-known-n
+enum-known-n c = search needs
+
+enum-told : tie.Need-enum-told
+enum-told c = search needs
+
+enum-told-2 : tie.Need-enum-told-2
+enum-told-2 c = search needs
+
+enum-told-3 : tie.Need-enum-told-3
+enum-told-3 c = search needs
+
+returns : tie.Need-returns
+returns c = ap head-pairs (sym (c .before .n .given .1) ∙ c .before .before .before .bet-head .ensures)
+
+returns-2 : tie.Need-returns-2
+returns-2 c = ap head-pairs (sym (c .enum-told .given .1) ∙ c .before .before .bet-head .ensures)
+
+returns-3 : tie.Need-returns-3
+returns-3 c = ap head-pairs (sym (c .enum-told2 .given .1) ∙ c .before .before .bet-head .ensures)
+
+returns-4 : tie.Need-returns-4
+returns-4 c = ap head-pairs (sym (c .enum-told3 .given .1) ∙ c .before .before .bet-head .ensures)
+
+pub pairs-at-spec : {M : Type 1} → statement M
+pairs-at-spec =
+    tie.close
+    (tie.spec
+    bet-head-requires
+    enum-known-n
+    enum-told
+    enum-told-2
+    enum-told-3
+    returns
+    returns-2
+    returns-3
+    returns-4)

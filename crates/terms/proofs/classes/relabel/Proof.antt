@@ -1,0 +1,65 @@
+-- `relabel` puts class b into class a.
+use Prim.Native.Nat.{_-_}
+use mathlib.Core.Logic.{⊎-elim}
+use lib.ListN.{length}
+use Rattle.terms.specs.RelabelLaws.{Relabelling, relabelling-start, relabelling-set, relabelling-keep, relabelling-end}
+use borrow.Author.Needs.{needs}
+use Rattle.terms.proofs.classes.relabel.Statement.{statement}
+use Rattle.terms.proofs.classes.relabel.Tie as tie
+
+abbrev Inv-loop : tie.InvT-loop
+Inv-loop rep₀ a b i₀ rep i = Relabelling a b rep₀ rep i
+
+abbrev μ-loop : tie.MeasureT-loop
+μ-loop rep₀ a b i₀ rep i = length rep₀ - i
+
+loop-holds : tie.Need-loop-holds Inv-loop μ-loop
+loop-holds c = relabelling-start _ _ _
+
+mul-if1 : tie.Need-mul-if1 Inv-loop μ-loop
+mul-if1 c = search needs
+
+slice-read-if1 : tie.Need-slice-read-if1 Inv-loop μ-loop
+slice-read-if1 c = search needs
+
+mul-rep : tie.Need-mul-rep Inv-loop μ-loop
+mul-rep c = search needs
+
+slice-write-rep : tie.Need-slice-write-rep Inv-loop μ-loop
+slice-write-rep c = search needs
+
+add-i : tie.Need-add-i Inv-loop μ-loop
+add-i c = search needs
+
+loop-less : tie.Need-loop-less Inv-loop μ-loop
+loop-less c = search needs
+
+loop-again : tie.Need-loop-again Inv-loop μ-loop
+loop-again c =
+    ⊎-elim
+    (λ w. rw (w .1) (relabelling-set _ _ _ _ _ (c .before .before .before .loop .inv) (c .before .before .loop-test .taken) (w .0 .taken)))
+    (λ w. rw (w .1) (relabelling-keep _ _ _ _ _ (c .before .before .before .loop .inv) (c .before .before .loop-test .taken) (w .0 .left)))
+    (c .if1 .came)
+
+same-length : tie.Need-same-length Inv-loop μ-loop
+same-length c = c .before .loop .inv .long
+
+returns : tie.Need-returns Inv-loop μ-loop
+returns c = relabelling-end _ _ _ _ _ (c .before .loop .inv) (c .loop-test .left)
+
+pub relabel-spec : {M : Type 1} → statement M
+relabel-spec =
+    tie.close
+    (tie.spec
+    Inv-loop
+    μ-loop
+    loop-holds
+    mul-if1
+    slice-read-if1
+    mul-rep
+    slice-write-rep
+    add-i
+    loop-less
+    loop-again
+    same-length
+    returns)

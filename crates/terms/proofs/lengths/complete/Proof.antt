@@ -1,0 +1,66 @@
+-- `complete` looks for a class without a length.
+use Prim.Native.Nat.{_-_}
+use mathlib.Core.Logic.{⊎-elim}
+use lib.ListN.{length}
+use Rattle.terms.specs.Nodes.{nodes}
+use Rattle.terms.specs.MeasureLaws.{Checking, checking-start, checking-next, checking-found, checking-end}
+use borrow.Author.Needs.{needs}
+use Rattle.terms.proofs.lengths.complete.Statement.{statement}
+use Rattle.terms.proofs.lengths.complete.Tie as tie
+
+abbrev Inv-loop : tie.InvT-loop
+Inv-loop kind number next rep size i₀ i = Checking (nodes kind number next) rep size i
+
+abbrev μ-loop : tie.MeasureT-loop
+μ-loop kind number next rep size i₀ i = length next - i
+
+loop-holds : tie.Need-loop-holds Inv-loop μ-loop
+loop-holds c = checking-start _ _ _
+
+mul-if1 : tie.Need-mul-if1 Inv-loop μ-loop
+mul-if1 c = search needs
+
+shared-slice-read-if1 : tie.Need-shared-slice-read-if1 Inv-loop μ-loop
+shared-slice-read-if1 c = search needs
+
+mul-if2 : tie.Need-mul-if2 Inv-loop μ-loop
+mul-if2 c = search needs
+
+shared-slice-read-if2 : tie.Need-shared-slice-read-if2 Inv-loop μ-loop
+shared-slice-read-if2 c = search needs
+
+returns : tie.Need-returns Inv-loop μ-loop
+returns c =
+    let head = c .before .before .before .before .before in
+    let at-loop-test = c .before .before .before .before in
+    checking-found _ _ _ _ (head .loop .inv) (at-loop-test .loop-test .taken) (c .before .before .if1 .taken) (c .if2 .taken)
+
+add-i : tie.Need-add-i Inv-loop μ-loop
+add-i c = search needs
+
+loop-less : tie.Need-loop-less Inv-loop μ-loop
+loop-less c = search needs
+
+loop-again : tie.Need-loop-again Inv-loop μ-loop
+loop-again c =
+    checking-next _ _ _ _ (c .before .before .before .loop .inv) (c .before .before .loop-test .taken) (⊎-elim (λ w e z. w .2 .left z) (λ w e z. w .left e) (c .if1 .came))
+
+returns-2 : tie.Need-returns-2 Inv-loop μ-loop
+returns-2 c = checking-end _ _ _ _ (c .before .loop .inv) (c .loop-test .left)
+
+pub complete-spec : {M : Type 1} → statement M
+complete-spec =
+    tie.close
+    (tie.spec
+    Inv-loop
+    μ-loop
+    loop-holds
+    mul-if1
+    shared-slice-read-if1
+    mul-if2
+    shared-slice-read-if2
+    returns
+    add-i
+    loop-less
+    loop-again
+    returns-2)

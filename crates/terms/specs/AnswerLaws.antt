@@ -1,0 +1,125 @@
+-- The answer for an atom's body, by what the code found: its definition, question 9, and what was written.
+use mathlib.Core.Path.{_≡_, refl, sym, ap, _∙_}
+use mathlib.Core.List.{List, [], _∷_, _++_}
+use mathlib.Core.Bool.{Bool, true, false}
+use mathlib.Core.Option.{none}
+use Prim.Native.Nat.{ℕ, _+_, _≤_, _<_}
+use native.Mathlib.Omega.{arith}
+use lib.ListN.{length}
+use borrow.Author.Tests.{le-leb, lt-leb}
+use Rattle.records.specs.Syntax.{Goal, arity}
+use Rattle.records.specs.Syntax.Goal.{atom}
+use Rattle.records.specs.Syntax.Definition.{definition}
+use Rattle.records.specs.Encode.{word, terms-bytes, goal-bytes}
+use Rattle.records.specs.Formed.{AtomFormed}
+use Rattle.records.specs.Heads.{goal-head-at}
+use Rattle.records.specs.Stands.{Stands, stands-second, stands-within, goal-stands}
+use Rattle.records.specs.declared.heads.GoalHead.{GoalHead}
+use Rattle.records.specs.declared.heads.GoalHead.the-variants.{Atom}
+use Rattle.terms.specs.Body.{too-many, undefined, defined, locals-beyond, next-variable, definition-of, body}
+use Rattle.terms.specs.BodyLaws.{next-variable-formed}
+use Rattle.terms.specs.Frames.{GoalAt}
+use Rattle.terms.specs.Definitions.{ProgramAt, PlaceOf, Located}
+use Rattle.terms.specs.BodyBytes.{ArgumentsAt, AtomAt, Wrote, numbered-goal, body-with, answer, Answered}
+use Rattle.terms.specs.declared.variables.Frame.{Frame}
+use Rattle.terms.specs.declared.definitions.Place.{Place}
+use Rattle.terms.specs.declared.definitions.Lookup.{Lookup}
+use Rattle.terms.specs.declared.definitions.Lookup.the-variants.{Absent, Present}
+use Rattle.terms.specs.declared.body.Written.{Written}
+use Rattle.terms.specs.declared.body.Written.the-variants.{Upto, TooLong}
+use Rattle.terms.specs.declared.body.BodyAnswer.{BodyAnswer}
+use Rattle.terms.specs.declared.body.BodyAnswer.the-variants.{TooMany, Undefined, Defined}
+
+-- a body that was written, or did not fit
+written-answer : {before after : List ℕ} (g : Goal) (w : Written) → Wrote before 0 (goal-bytes g) after w → Answered before after (defined g) (answer w)
+written-answer {before} {after} g (Upto n) h =
+    let e : n ≡ length (goal-bytes g) = h .outcome .0 .place ∙ omega arith in
+    record {
+      number = rw (le-leb (length (goal-bytes g)) (length before) (omega (arith, h .outcome .1))) (ap Defined e);
+      written = λ f q k. let z : g ≡ f = cc in rw (← z, ← e) (h .outcome .0);
+      kept = λ n. absurd (n g refl);
+    }
+written-answer {before} {after} g TooLong h = record {
+  number = rw (lt-leb (length (goal-bytes g)) (length before) (omega (arith, h .outcome)));
+  written = λ f q k. let z : g ≡ f = cc in absurd (omega (arith, h .outcome, ap (λ (x : Goal). length (goal-bytes x)) z));
+  kept = λ n. absurd (n g refl);
+}
+
+-- nothing was written
+too-many-answer : (out : List ℕ) → Answered out out too-many TooMany
+too-many-answer out = record { number = refl; written = λ f q k. absurd (let z : _≡_ {A = ℕ} 0 1 = cc in omega arith); kept = λ n. refl }
+
+undefined-answer : (out : List ℕ) → Answered out out undefined Undefined
+undefined-answer out = record { number = refl; written = λ f q k. absurd (let z : _≡_ {A = ℕ} 0 1 = cc in omega arith); kept = λ n. refl }
+
+module _ {s : List ℕ} {f : Frame} (a : AtomAt s f) where
+  atom-here : Stands s (f .goal) (goal-bytes (atom (a .predicate) (a .terms))) (a .frame .goal .end)
+  atom-here = rw (a .atom) at (a .frame .goal .stands)
+
+  atom-formed : AtomFormed (a .predicate) (a .terms)
+  atom-formed = rw (a .atom) at (a .frame .goal .formed)
+
+  -- the atom's arguments stand after its head
+  pub atom-arguments : {k : ℕ} → arity (a .terms) ≡ k → ArgumentsAt s (record { at = f .goal + 4; arity = k })
+  atom-arguments e = record {
+    terms = a .terms;
+    formed = atom-formed .2;
+    many = e;
+    end = a .frame .goal .end;
+    stands = stands-second (0x15 ∷ (word (a .predicate) ++ (arity (a .terms) ∷ []))) (terms-bytes (a .terms)) atom-here;
+  }
+
+  pub atom-room : f .goal + 4 ≤ length s
+  atom-room = omega (arith, stands-within atom-here (omega arith), atom-here .end)
+
+  -- the head that was read is the atom's
+  pub atom-is : {h : GoalHead} → h ≡ goal-head-at s (f .goal) → h ≡ Atom (a .predicate) (arity (a .terms))
+  atom-is is = is ∙ goal-stands (atom (a .predicate) (a .terms)) atom-formed atom-here
+
+  pub atom-head : {h : GoalHead} {p k : ℕ} → h ≡ goal-head-at s (f .goal) → h ≡ Atom p k → (a .predicate ≡ p) × (arity (a .terms) ≡ k)
+  atom-head {h} {p} {k} is e = let q : Atom (a .predicate) (arity (a .terms)) ≡ Atom p k = sym (atom-is is) ∙ e in (cc, cc)
+
+  -- the first new variable
+  abbrev pub first-new : ℕ
+  first-new = next-variable (a .frame .goal .item) (a .frame .ancestors .items) (a .frame .bets .items)
+
+  pub first-new-small : {m : ℕ} → m ≡ first-new → m ≤ 65536
+  first-new-small e = rw e (next-variable-formed (a .frame .goal .item) (a .frame .ancestors .items) (a .frame .bets .items) (a .frame .goal .formed) (a .frame .ancestors .formed))
+
+  module _ {m : ℕ} (new : m ≡ first-new) {b : Bool} (l : ℕ) (test : b ≡ locals-beyond m l) where
+    pub body-too-many : (out : List ℕ) (g : Goal) → b ≡ true → Answered out out (body-with l g (a .terms) first-new) TooMany
+    unfolding body-with
+    body-too-many out g e = rw (← new, sym test ∙ e) (too-many-answer out)
+
+    pub body-written : {program before after : List ℕ} {at k : ℕ} (g : GoalAt program at) → arity (a .terms) ≡ k → b ≡ false → {w : Written} {r : BodyAnswer}
+        → ((h : GoalAt program at) (x : ArgumentsAt s (record { at = f .goal + 4; arity = k })) → Wrote before 0 (goal-bytes (numbered-goal (x .terms) m (h .item))) after w)
+        → r ≡ answer w → Answered before after (body-with l (g .item) (a .terms) first-new) r
+    unfolding body-with numbered-goal atom-arguments
+    body-written g q e {w} {r} h is = rw (← new, sym test ∙ e, is) (written-answer _ w (h g (atom-arguments q)))
+
+  -- the body by what was found of a definition
+  module _ {program : List ℕ} (d : ProgramAt program) {h : GoalHead} {p k : ℕ} (is : h ≡ goal-head-at s (f .goal)) (e : h ≡ Atom p k) where
+    found-as : definition-of (d .definitions) (a .predicate) (arity (a .terms)) ≡ definition-of (d .definitions) p k
+    found-as = let q = atom-head is e in rw (q .0, q .1)
+
+    pub body-undefined : {r : Lookup} (out : List ℕ) → Located program (d .definitions) p k r → r ≡ Absent
+        → Answered out out (body (d .definitions) (a .predicate) (a .terms) (a .frame .ancestors .items) (a .frame .bets .items)) Undefined
+    unfolding body Located
+    body-undefined out w q =
+        let z : definition-of (d .definitions) p k ≡ none = rw q at w in
+        rw (found-as ∙ z) (undefined-answer out)
+
+    pub place-goal : {r : Lookup} {c : Place} → Located program (d .definitions) p k r → r ≡ Present c → GoalAt program (c .goal) × (c .locals < 256)
+    unfolding Located
+    place-goal {r} {c} w q =
+        let z : PlaceOf program (d .definitions) p k c = rw q at w in
+        (record { item = z .goal; formed = z .formed .3; end = c .end; stands = z .goal-stands }, z .formed .2)
+
+    pub body-defined : {r : Lookup} {c : Place} {before after : List ℕ} {o : BodyAnswer} → Located program (d .definitions) p k r → r ≡ Present c
+        → ((g : GoalAt program (c .goal)) (x : AtomAt s f) → arity (x .terms) ≡ k → Answered before after (body-with (c .locals) (g .item) (x .terms) (next-variable (x .frame .goal .item) (x .frame .ancestors .items) (x .frame .bets .items))) o)
+        → Answered before after (body (d .definitions) (a .predicate) (a .terms) (a .frame .ancestors .items) (a .frame .bets .items)) o
+    unfolding body body-with Located
+    body-defined {r} {c} w q h =
+        let z : PlaceOf program (d .definitions) p k c = rw q at w in
+        let v = h (record { item = z .goal; formed = z .formed .3; end = c .end; stands = z .goal-stands }) a (atom-head is e .1) in
+        rw (found-as ∙ z .found) (rw (a .atom) at v)

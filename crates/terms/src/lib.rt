@@ -1,0 +1,13 @@
+// Terms: substitution, the value service, the most general unifier and the body of an atom.
+pub mod apply; // apply.rt: a bet stack applied to a term
+pub mod body; // body.rt: the numbered body of an atom
+pub mod classes; // classes.rt: the classes of nodes that a unifier must make equal
+pub mod definitions; // definitions.rt: the definition of a predicate and an arity
+pub mod lengths; // lengths.rt: the lengths of the classes' terms
+pub mod load; // load.rt: two terms in one table of nodes
+pub mod solve; // solve.rt: whether two terms have a unifier
+pub mod substitute; // substitute.rt: a unifier applied once to a term
+pub mod unifier; // unifier.rt: the unifier of two values, from bytes to bytes
+pub mod value; // value.rt: the value of a variable
+pub mod variables; // variables.rt: the first new variable
+pub mod write; // write.rt: the terms of the classes as bytes

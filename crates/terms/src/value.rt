@@ -1,0 +1,73 @@
+// The value service: S(v), what the bet stack of an event makes of a variable.
+use crate::apply::apply_bets;
+use crate::substitute::Sized;
+use records::gate::event_number;
+use records::gate::event_verdict;
+use records::places::event_places;
+use records::plan::Emit;
+use records::put::Range;
+use records::put::put_range;
+ghost use Prim.Native.Nat.{_≤_};
+ghost use lib.ListN.{length};
+ghost use Rattle.records.specs.Gate.{read-event};
+ghost use Rattle.records.specs.Syntax.Term.{var};
+ghost use Rattle.terms.specs.Answered.{Answered, Buffers};
+ghost use Rattle.terms.specs.BetRow.{Bets};
+ghost use Rattle.terms.specs.Outcome.{value};
+ghost use Rattle.terms.specs.ValueService.{Replied, reply-into, value-reply};
+
+// S(v) under the n bets at `at` of the event. The value is left in a; the table and b are for the work.
+pub fn variable_value(
+    event: &[u8],
+    at: usize,
+    n: usize,
+    v: u16,
+    table: &mut [usize],
+    a: &mut [u8],
+    b: &mut [u8],
+) -> Sized
+    requires { ⌜ Bets (now event) at n ⌝ }
+    requires { ⌜ Buffers (now event) (now table) (now a) (now b) ⌝ }
+    ensures { λ r. ⌜ ((p : Bets (now (event .entry)) at n) → Answered (p .bets) (var v) (now (a .exit)) r) ⌝ }
+{
+    let term: [u8; 3] = [1, (v / 256) as u8, (v % 256) as u8];
+    apply_bets(event, at, n, &term, 0, 3, table, a, b)
+}
+
+// Questions 5 and 8, and then S(v) as bare term bytes at the start of the output.
+pub fn put_value(event: &[u8], at: usize, n: usize, v: u16, out: &mut [u8]) -> Emit
+    requires { ⌜ Bets (now event) at n ⌝ }
+    requires { ⌜ length (now event) ≤ 32768 ⌝ }
+    ensures { λ r. ⌜ ((p : Bets (now (event .entry)) at n) → Replied (reply-into (length (now (out .entry))) (value (p .bets) v)) (now (out .entry)) r (now (out .exit))) ⌝ }
+{
+    if out.len() < 32768 {
+        return Emit {
+            number: 5,
+            length: 0,
+        };
+    }
+    let mut table: [usize; 4096] = [0; 4096];
+    let mut a: [u8; 8192] = [0; 8192];
+    let mut b: [u8; 8192] = [0; 8192];
+    let Sized::Fits(m) = variable_value(event, at, n, v, &mut table, &mut a, &mut b) else {
+        return Emit {
+            number: 8,
+            length: 0,
+        };
+    };
+    let length = put_range(out, 0, &a, Range { from: 0, to: m });
+    Emit { number: 0, length }
+}
+
+// The value service: S(v) under the bet stack of an event, for every event record, v and output.
+pub fn value(event: &[u8], v: u16, out: &mut [u8]) -> Emit
+    ensures { λ r. ⌜ Replied (value-reply (read-event (now (event .entry))) (length (now (out .entry))) v) (now (out .entry)) r (now (out .exit)) ⌝ }
+{
+    let number = event_number(event_verdict(event));
+    if number != 0 {
+        return Emit { number, length: 0 };
+    }
+    let places = event_places(event);
+    let bets = places.bets;
+    put_value(event, bets.from, bets.count, v, out)
+}

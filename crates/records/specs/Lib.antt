@@ -40,3 +40,4 @@ pub mod EventEnds
 pub mod Places
 pub mod Same
 pub mod Written
+pub mod Children

@@ -16,7 +16,7 @@ use Rattle.terms.specs.Unify.{bindings, unify}
 use Rattle.terms.specs.Nodes.{at, Nodes, nodes, count, In, number, IsVariable, Table, Graph}
 use Rattle.terms.specs.Lengths.{Expansion, length-cap}
 use Rattle.terms.specs.SolveLaws.{Unmet}
-use Rattle.terms.specs.Laid.{Laid}
+use Rattle.terms.specs.Laid.{Layable, Laid}
 use Rattle.terms.specs.ClassTerms.{ClassTable}
 use Rattle.terms.specs.declared.unifier.Pairs.{Pairs}
 use Rattle.terms.specs.declared.unifier.Outcome.{Outcome}
@@ -144,6 +144,12 @@ pub record Answer (n : Nodes) (rep size : List ℕ) (s t : Term) (r : Outcome) :
 -- whatever terms are laid in the table
 pub record Decides (n : Nodes) (m : ℕ) (rep size : List ℕ) (r : Outcome) : Type 0 where
   pub each : (s t : Term) → TermFormed s → TermFormed t → Laid n s t m → Answer n rep size s t r
+
+-- two values, and tables with room for them
+pub record Unifiable (a b kinds numbers nexts rep size : List ℕ) : Type 0 where
+  pub layable : Layable a b kinds numbers nexts
+  pub rep-long : length rep ≡ length kinds
+  pub size-long : length size ≡ length kinds
 
 -- the unifier of two values: whether there is one, its length, and the tables that hold it
 pub record Unification (kinds numbers nexts rep size : List ℕ) (r : Outcome) (s t : Term) : Type 0 where

@@ -20,10 +20,10 @@ use Rattle.terms.specs.Nodes.{at, Nodes, nodes, count, Table}
 use Rattle.terms.specs.Lengths.{Blank, Solution, Solved}
 use Rattle.terms.specs.SolveLaws.{found, found-most-general, found-expansion, found-unmet, solution-unify, apart-unify}
 use Rattle.terms.specs.LayLaws.{part-length}
-use Rattle.terms.specs.Laid.{IsValue, Laid, Lay, Lays}
+use Rattle.terms.specs.Laid.{Laid, Lay, Lays}
 use Rattle.terms.specs.LaidLaws.{term-of, children-of, laid-graph, laid-table, laid-second, laid-inside, laid-small}
 use Rattle.terms.specs.ClassTerms.{ClassTable}
-use Rattle.terms.specs.UnifierAnswer.{Gives, PairsLength, PairsFit, PairsPut, HoldsUnifier, UnifierFits, UnifierPut, is-found, found-length, Cleared, Decidable, Decides, Unifications}
+use Rattle.terms.specs.UnifierAnswer.{Gives, PairsLength, PairsFit, PairsPut, HoldsUnifier, UnifierFits, UnifierPut, is-found, found-length, Cleared, Decidable, Decides, Unifiable, Unifications}
 use Rattle.terms.specs.declared.load.Places.{Places}
 use Rattle.terms.specs.declared.unifier.Pairs.{Pairs}
 use Rattle.terms.specs.declared.unifier.Outcome.{Outcome}
@@ -152,45 +152,52 @@ module _ (kinds numbers nexts rep size : List ℕ) (m : ℕ) (out : List ℕ) (k
   }
 
 -- `unify_values`
-module _ (a b kinds numbers nexts : List ℕ) (p : Places) (lays : Lays a b kinds numbers nexts p) (first : IsValue a) (second : IsValue b) where
-  own : Lay kinds numbers nexts p (first .term) (second .term)
-  own = lays .each (first .term) (second .term) (first .formed) (second .formed) (first .same) (second .same)
+module _ (a b kinds₀ numbers₀ nexts₀ rep₀ size₀ : List ℕ) (able : Unifiable a b kinds₀ numbers₀ nexts₀ rep₀ size₀)
+    (kinds numbers nexts : List ℕ) (p : Places) (lays : Lays a b kinds numbers nexts p)
+    (k : length kinds ≡ length kinds₀) (m : length numbers ≡ length numbers₀) (x : length nexts ≡ length nexts₀) where
+  own : Lay kinds numbers nexts p (able .layable .first .term) (able .layable .second .term)
+  own =
+      let v = able .layable .first in
+      let w = able .layable .second in
+      lays .each (v .term) (w .term) (v .formed) (w .formed) (v .same) (w .same)
 
-  pub count-within : p .count ≤ length kinds
-  count-within = own .fits
+  pub count-within : (p .count ≤ length kinds) × (p .count ≤ length numbers) × (p .count ≤ length nexts) × (p .count ≤ length rep₀) × (p .count ≤ length size₀)
+  count-within =
+      let h = own .fits in
+      (h, omega (arith, able .layable .numbers-long), omega (arith, able .layable .nexts-long), omega (arith, able .rep-long), omega (arith, able .size-long))
 
-  pub laid-decidable : (rep size : List ℕ) → length rep ≡ length kinds → length size ≡ length kinds
-      → Decidable (nodes (take (p .count) kinds) (take (p .count) numbers) (take (p .count) nexts)) (take (p .count) rep) (take (p .count) size) (p .middle)
-  laid-decidable rep size r z = record {
-    s = first .term;
-    t = second .term;
+  pub laid-decidable : Decidable (nodes (take (p .count) kinds) (take (p .count) numbers) (take (p .count) nexts)) (take (p .count) rep₀) (take (p .count) size₀) (p .middle)
+  laid-decidable = record {
+    s = able .layable .first .term;
+    t = able .layable .second .term;
     laid = own .laid;
-    s-formed = first .formed;
-    t-formed = second .formed;
-    rep-long = part-length (p .count) rep (omega (arith, own .fits)) ∙ own .all ∙ sym (own .laid .long);
-    size-long = part-length (p .count) size (omega (arith, own .fits)) ∙ own .all ∙ sym (own .laid .long);
+    s-formed = able .layable .first .formed;
+    t-formed = able .layable .second .formed;
+    rep-long = part-length (p .count) rep₀ (count-within .3) ∙ own .all ∙ sym (own .laid .long);
+    size-long = part-length (p .count) size₀ (count-within .4) ∙ own .all ∙ sym (own .laid .long);
   }
 
-  pub decided-unification : length numbers ≡ length kinds → length nexts ≡ length kinds → (rep size rest more : List ℕ) (r : Outcome)
-      → length rep ≡ p .count → length size ≡ p .count
+  pub decided-unification : (rep size rest more : List ℕ) (r : Outcome) → length rep ≡ length (take (p .count) rep₀) → length size ≡ length (take (p .count) size₀)
       → Decides (nodes (take (p .count) kinds) (take (p .count) numbers) (take (p .count) nexts)) (p .middle) rep size r
       → Unifications a b kinds numbers nexts (rep ++ rest) (size ++ more) r
-  decided-unification u v rep size rest more r x y d = record {
-    each = λ s t f h e k.
-        let lay = lays .each s t f h e k in
+  decided-unification rep size rest more r y z d = record {
+    each = λ s t f h e g.
+        let lay = lays .each s t f h e g in
         let q = d .each s t f h (lay .laid) in
         let c : p .count ≡ r .nodes = lay .all ∙ sym (lay .laid .long) ∙ sym (q .all) in
+        let u : length rep ≡ p .count = y ∙ part-length (p .count) rep₀ (count-within .3) in
+        let v : length size ≡ p .count = z ∙ part-length (p .count) size₀ (count-within .4) in
         record {
           found = q .found;
           length-is = q .length-is;
-          holds = λ σ z. subst (λ m. HoldsUnifier kinds numbers nexts (rep ++ rest) (size ++ more) m σ) c (record {
-            kinds-long = own .fits;
-            numbers-long = omega (arith, own .fits);
-            nexts-long = omega (arith, own .fits);
+          holds = λ σ o. subst (λ j. HoldsUnifier kinds numbers nexts (rep ++ rest) (size ++ more) j σ) c (record {
+            kinds-long = count-within .0;
+            numbers-long = count-within .1;
+            nexts-long = count-within .2;
             rep-long = omega (arith, length-append rep rest);
             size-long = omega (arith, length-append size more);
-            classes = rw (take-at rep rest (p .count) x, take-at size more (p .count) y) (q .classes (q .found ∙ ap is-found z));
-            gives = rw (take-at rep rest (p .count) x) (q .gives σ z);
+            classes = rw (take-at rep rest (p .count) u, take-at size more (p .count) v) (q .classes (q .found ∙ ap is-found o));
+            gives = rw (take-at rep rest (p .count) u) (q .gives σ o);
           });
         };
   }

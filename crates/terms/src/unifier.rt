@@ -4,13 +4,11 @@ use crate::load::lay;
 use crate::solve::solve;
 use crate::write::write_term;
 use records::put::put_word;
-ghost use mathlib.Core.Path.{_≡_};
 ghost use Prim.Native.Nat.{_<_};
 ghost use lib.ListN.{length};
 ghost use Rattle.terms.specs.Nodes.{nodes};
-ghost use Rattle.terms.specs.Laid.{Layable};
 ghost use Rattle.terms.specs.ClassTerms.{ClassTable};
-ghost use Rattle.terms.specs.UnifierAnswer.{Classed, Tested, Least, Chosen, PairsLength, PairFits, PairPut, PairsFit, PairsPut, UnifierFits, UnifierPut, Cleared, Decidable, Decides, Unifications};
+ghost use Rattle.terms.specs.UnifierAnswer.{Classed, Tested, Least, Chosen, PairsLength, PairFits, PairPut, PairsFit, PairsPut, UnifierFits, UnifierPut, Cleared, Decidable, Decides, Unifiable, Unifications};
 
 // Whether node i is a variable whose class has another term.
 fn is_bound(kind: &[usize], number: &[usize], next: &[usize], rep: &[usize], i: usize) -> bool
@@ -235,8 +233,7 @@ pub fn unify_values(
     rep: &mut [usize],
     size: &mut [usize],
 ) -> Outcome
-    requires { ⌜ Layable (now a) (now b) (now kind) (now number) (now next) ⌝ }
-    requires { ⌜ (length (now rep) ≡ length (now kind)) × (length (now size) ≡ length (now kind)) ⌝ }
+    requires { ⌜ Unifiable (now a) (now b) (now kind) (now number) (now next) (now rep) (now size) ⌝ }
     ensures { λ r. ⌜ Unifications (now (a .entry)) (now (b .entry)) (now (kind .exit)) (now (number .exit)) (now (next .exit)) (now (rep .exit)) (now (size .exit)) r ⌝ }
 {
     let p = lay(a, b, kind, number, next);

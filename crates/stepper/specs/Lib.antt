@@ -1,6 +1,7 @@
 -- The stepper's definitions and laws. To read: what are the rules? `Listed`, and read back `Sources`. When is a step refused? `Refusals`. The
 -- step as a function: `Rules`, and for code `Back`. The services on bytes: `Services`, `Run`, `Lookup`, `Counts`. What they rest on: `Layers`,
--- and with the records and terms of this desk `Desk`. What is proved of steps and walks: `Demands`. The bench sheet: `Bench`.
+-- and with the records and terms of this desk `Desk`. What code looks at: `View`, `Numbers`, and the plans
+-- `Layouts`, `RulePlans`; that these are the listed rules: `RulePlanLaws`, `FoundLaws`. What is proved of steps and walks: `Demands`. The bench sheet: `Bench`.
 pub mod Walk
 pub mod WalkLaws
 pub mod Machine
@@ -39,3 +40,20 @@ pub mod LookupLaws
 pub mod Counts
 pub mod CountsLaws
 pub mod Bench
+pub mod View
+pub mod ViewLaws
+pub mod Layouts
+pub mod LayoutLaws
+pub mod PieceLaws
+pub mod PlanLaws
+pub mod Numbers
+pub mod RulePlans
+pub mod RuleNumbers
+pub mod RulePlanLaws
+pub mod Replied
+pub mod FirstLaws
+pub mod NoRuleLaws
+pub mod Halves
+pub mod HalfLaws
+pub mod UnlikeLaws
+pub mod FoundLaws

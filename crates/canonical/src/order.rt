@@ -1,0 +1,85 @@
+// Entries of clauses, sorted: each is one number, which rises with predicate, arity and place.
+use records::ends::Found;
+use records::ends::clause_end;
+use records::heads::Signature;
+use records::heads::clause_head;
+ghost use mathlib.Core.Path.{_≡_};
+ghost use Prim.Native.Nat.{_+_, _<_};
+ghost use lib.ListN.{length, getD, drop};
+ghost use Rattle.canonical.specs.Entries.{better, least, picked, top};
+ghost use Rattle.canonical.specs.Listing.{ClausesAt, entries};
+ghost use Rattle.canonical.specs.Runs.{key-of, run-length};
+
+// The entries of the clauses of a record, as they stand.
+pub fn list_clauses(s: &[u8], table: &mut [usize])
+    requires { ⌜ ClausesAt (now s) (length (now table)) ⌝ }
+    ensures { λ _. ⌜ ((a : ClausesAt (now (s .entry)) (length (now (table .entry)))) → now (table .exit) ≡ entries 5 (a .clauses)) ⌝ }
+{
+    let mut pos = 5;
+    let mut i = 0;
+    while i < table.len() {
+        let Signature::Predicate(p, k, _) = clause_head(s, pos) else {
+            return;
+        };
+        let Found::At(e) = clause_end(s, pos) else {
+            return;
+        };
+        table[i] = (p * 256 + k) * 65536 + pos;
+        pos = e;
+        i += 1;
+    }
+}
+
+// The lower of the two, if x is at least `low`.
+fn better(low: usize, best: usize, x: usize) -> usize
+    ensures { λ r. ⌜ r ≡ better low best x ⌝ }
+{
+    if x < low {
+        return best;
+    }
+    if x < best { x } else { best }
+}
+
+// The least entry that is at least `low`.
+fn least(table: &[usize], low: usize) -> usize
+    ensures { λ r. ⌜ r ≡ least low top (now (table .entry)) ⌝ }
+{
+    let mut best: usize = 1099511627776;
+    let mut i = 0;
+    while i < table.len() {
+        best = better(low, best, table[i]);
+        i += 1;
+    }
+    best
+}
+
+// The entries in their order, one least entry after the other.
+pub fn sort(table: &[usize], sorted: &mut [usize])
+    requires { ⌜ length (now sorted) ≡ length (now table) ⌝ }
+    ensures { λ _. ⌜ now (sorted .exit) ≡ picked (length (now (table .entry))) 0 (now (table .entry)) ⌝ }
+{
+    let mut low: usize = 0;
+    let mut i = 0;
+    while i < table.len() {
+        let e = least(table, low);
+        sorted[i] = e;
+        low = e + 1;
+        i += 1;
+    }
+}
+
+// Where the run of entries with the key of the i-th one ends.
+pub fn run_end(sorted: &[usize], i: usize) -> usize
+    requires { ⌜ i < length (now sorted) ⌝ }
+    ensures { λ r. ⌜ r ≡ i + run-length (key-of (getD (now (sorted .entry)) i 0)) (drop i (now (sorted .entry))) ⌝ }
+{
+    let key = sorted[i] / 65536;
+    let mut j = i;
+    while j < sorted.len() {
+        if sorted[j] / 65536 != key {
+            return j;
+        }
+        j += 1;
+    }
+    j
+}

@@ -1,0 +1,37 @@
+use Rattle.stepper.specs.ViewLaws.{accepted-room, view-is}
+use borrow.Author.Needs.{needs}
+use Rattle.stepper.proofs.view.event_view.Statement.{statement}
+use Rattle.stepper.proofs.view.event_view.Tie as tie
+
+event-places-requires : tie.Need-event-places-requires
+event-places-requires c κs = search needs
+
+goal-part-requires : tie.Need-goal-part-requires
+goal-part-requires c κs = accepted-room _ (c .before .shared-slice-known .given) (c .event-places .ensures) (c .before .before .pre) .goal-inside
+
+ancestor-top-requires : tie.Need-ancestor-top-requires
+ancestor-top-requires c κs = accepted-room _ (c .before .before .shared-slice-known .given) (c .before .event-places .ensures) (c .before .before .before .pre) .ancestor-inside
+
+stack-places-requires : tie.Need-stack-places-requires
+stack-places-requires c κs = accepted-room _ (c .before .before .before .shared-slice-known .given) (c .before .before .event-places .ensures) (c .before .before .before .before .pre) .ancestors-few
+
+bet-top-requires : tie.Need-bet-top-requires
+bet-top-requires c κs = accepted-room _ (c .before .before .before .before .shared-slice-known .given) (c .before .before .before .event-places .ensures) (c .before .before .before .before .before .pre) .bet-inside
+
+stack-places-requires-2 : tie.Need-stack-places-requires-2
+stack-places-requires-2 c κs = accepted-room _ (c .before .before .before .before .before .shared-slice-known .given) (c .before .before .before .before .event-places .ensures) (c .before .before .before .before .before .before .pre) .bets-few
+
+returns : tie.Need-returns
+returns c = view-is _ (c .before .before .before .before .before .before .shared-slice-known .given) (c .before .before .before .before .before .event-places .ensures) (c .before .before .before .before .goal-part .ensures) (c .before .before .before .ancestor-top .ensures) (c .before .before .stack-places .ensures) (c .before .bet-top .ensures) (c .stack-places2 .ensures)
+
+pub event-view-spec : {M : Type 1} → statement M
+event-view-spec =
+    tie.close
+    (tie.spec
+    event-places-requires
+    goal-part-requires
+    ancestor-top-requires
+    stack-places-requires
+    bet-top-requires
+    stack-places-requires-2
+    returns)

@@ -1,0 +1,21 @@
+-- Whether the goal of an event is the half that the ancestor on top selects, by the bytes.
+use mathlib.Core.Bool.{Bool}
+use mathlib.Core.List.{List}
+use Prim.Native.Nat.{ℕ}
+use lib.Dec.{eqb}
+use Rattle.records.specs.Heads.{pick}
+use Rattle.records.specs.Range.{cut, Inside}
+use Rattle.records.specs.Same.{same-bytes}
+use Rattle.stepper.specs.Layouts.{whole, first-of, second-of}
+use Rattle.stepper.specs.declared.view.View.{View}
+
+-- the goal and the halves lie in the event
+pub record HalvesInside (v : View) (s : List ℕ) : Type 0 where
+  pub goal-inside : Inside (whole (v .goal) .range) s
+  pub first-inside : Inside (first-of (v .ancestor) .range) s
+  pub second-inside : Inside (second-of (v .ancestor) .range) s
+
+unfoldable pub is-half : List ℕ → View → Bool
+is-half s v =
+    pick (eqb (v .ancestor .tag) 1) (same-bytes (cut s (whole (v .goal) .range)) (cut s (first-of (v .ancestor) .range)))
+    (same-bytes (cut s (whole (v .goal) .range)) (cut s (second-of (v .ancestor) .range)))

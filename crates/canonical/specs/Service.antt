@@ -45,6 +45,9 @@ pub record Reply : Type 0 where
   pub number : ℕ
   pub output : List ℕ
 
+abbrev pub replied : ℕ → List ℕ → Reply
+replied n after = record { number = n; output = after }
+
 -- a refusal leaves the output untouched, and a written record the bytes after it
 unfoldable pub reply : List ℕ → Answer → Reply
 unfolding question-number

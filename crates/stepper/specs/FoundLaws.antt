@@ -4,7 +4,7 @@ use Prim.Native.Nat.{ℕ}
 use mathlib.Core.Path.{_≡_, refl}
 use mathlib.Core.Bool.{true}
 use mathlib.Core.List.{List, [], _∷_}
-use Rattle.records.specs.Syntax.{truth, failure, equal, conj, disj, atom, first, second, called, in-conj, in-disj, unifier, or, by, call, exit, fail, redo, Event, event}
+use Rattle.records.specs.Syntax.{truth, failure, equal, conj, disj, atom, first, second, Ancestor, called, in-conj, in-disj, unifier, or, by, call, exit, fail, redo, Event, event}
 use Rattle.stepper.specs.Machine.{Machine}
 use Rattle.stepper.specs.Rules.{half}
 use Rattle.stepper.specs.Listed.{Rule, conj-call, conj-exit-first, conj-fail-first, conj-exit-second, conj-fail-second, conj-redo, disj-call, disj-fail-first, disj-fail-second, disj-exit-first, disj-exit-second, disj-redo, true-call, true-redo, fail-call, equal-redo, atom-exit, atom-fail, atom-redo}
@@ -15,15 +15,28 @@ use Rattle.stepper.specs.Halves.{is-half}
 use Rattle.stepper.specs.HalfLaws.{half-of-conj, half-of-disj}
 
 -- the ancestor on top is a conjunction or a disjunction
-abbrev pub Halved : Event → Type 0
-Halved (event p g [] s) = ⊥
-Halved (event p g (called q ts ∷ u) s) = ⊥
-Halved (event p g (in-conj h a b ∷ u) s) = Unit {0}
-Halved (event p g (in-disj h a b ∷ u) s) = Unit {0}
+abbrev pub Halved : List Ancestor → Type 0
+Halved [] = ⊥
+Halved (called q ts ∷ u) = ⊥
+Halved (in-conj h a b ∷ u) = Unit {0}
+Halved (in-disj h a b ∷ u) = Unit {0}
 
--- the goal is the half that the ancestor on top selects, where it selects one
+-- a step forward leaves a half from exit and fail, a step back from call and redo
+abbrev pub Leaves : Event → Type 0
+Leaves (event call g u s) = ⊥
+Leaves (event exit g u s) = Halved u
+Leaves (event fail g u s) = Halved u
+Leaves (event redo g u s) = ⊥
+
+abbrev pub LeavesBack : Event → Type 0
+LeavesBack (event call g u s) = Halved u
+LeavesBack (event exit g u s) = ⊥
+LeavesBack (event fail g u s) = ⊥
+LeavesBack (event redo g u s) = Halved u
+
+-- the goal is the half that the ancestor on top selects
 abbrev pub Like : List ℕ → Event → Type 0
-Like s e = Halved e → is-half s (event-view e) ≡ true
+Like s e = is-half s (event-view e) ≡ true
 
 -- numbers that are not a given one
 abbrev pub Not : ℕ → ℕ → Type 0
@@ -41,7 +54,7 @@ module _ (M : Machine) where
     pub rule : Rule M source e
     pub made : FromParts M rule
 
-  pub forward-found : (s : List ℕ) (e : Event) → PartsOf s e → Like s e → Not (forward-rule (event-view e)) 0 → Not (forward-rule (event-view e)) 16
+  pub forward-found : (s : List ℕ) (e : Event) → PartsOf s e → (Leaves e → Like s e) → Not (forward-rule (event-view e)) 0 → Not (forward-rule (event-view e)) 16
       → Not (forward-rule (event-view e)) 18 → LeadsOn e
   unfolding event-view forward-rule call-rule exit-rule fail-rule redo-rule half
   forward-found t (event call truth u s) w k n0 n16 n18 = record { next = _; rule = true-call; made = tt }
@@ -81,7 +94,7 @@ module _ (M : Machine) where
   forward-found t (event redo (atom p ts) u (or second ∷ s)) w k n0 n16 n18 = absurd (n0 refl)
   forward-found t (event redo (atom p ts) u (by c ∷ s)) w k n0 n16 n18 = record { next = _; rule = atom-redo; made = tt }
 
-  pub back-found : (s : List ℕ) (e : Event) → PartsOf s e → Like s e → Not (back-rule (event-view e)) 0 → Not (back-rule (event-view e)) 16
+  pub back-found : (s : List ℕ) (e : Event) → PartsOf s e → (LeavesBack e → Like s e) → Not (back-rule (event-view e)) 0 → Not (back-rule (event-view e)) 16
       → Not (back-rule (event-view e)) 17 → Not (back-rule (event-view e)) 18 → Not (back-rule (event-view e)) 20 → ComesFrom e
   unfolding event-view back-rule call-source exit-source fail-source redo-source half
   back-found t (event call g [] []) w k n0 n16 n17 n18 n20 = absurd (n0 refl)

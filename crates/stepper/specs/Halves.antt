@@ -1,5 +1,6 @@
 -- Whether the goal of an event is the half that the ancestor on top selects, by the bytes.
-use mathlib.Core.Bool.{Bool}
+use mathlib.Core.Path.{_≡_}
+use mathlib.Core.Bool.{Bool, true, _||_}
 use mathlib.Core.List.{List}
 use Prim.Native.Nat.{ℕ}
 use lib.Dec.{eqb}
@@ -19,3 +20,15 @@ unfoldable pub is-half : List ℕ → View → Bool
 is-half s v =
     pick (eqb (v .ancestor .tag) 1) (same-bytes (cut s (whole (v .goal) .range)) (cut s (first-of (v .ancestor) .range)))
     (same-bytes (cut s (whole (v .goal) .range)) (cut s (second-of (v .ancestor) .range)))
+
+-- one of two numbers
+unfoldable pub either : ℕ → ℕ → ℕ → Bool
+either n a b = eqb n a || eqb n b
+
+-- the halves lie in the event, where the ancestor on top is a conjunction or a disjunction
+pub record HalvesWhere (v : View) (s : List ℕ) : Type 0 where
+  pub inside : either (v .ancestor .kind) 0x30 0x31 ≡ true → HalvesInside v s
+
+-- question 7 for a step that leaves a half from one of two ports: 7 where the goal is another, else 0
+unfoldable pub unlike-number : List ℕ → View → (one other : ℕ) → ℕ
+unlike-number s v one other = pick (either (v .port) one other) (pick (either (v .ancestor .kind) 0x30 0x31) (pick (is-half s v) 0 7) 0) 0

@@ -77,7 +77,7 @@ halves {s} {at} {e} a b w h =
 
 -- stacks of an event: as it is, with one more on it
 module _ {A : Type 0} {s : List ℕ} {at e : ℕ} (bytes : A → List ℕ) (part : ℕ → A → Part) (l : List A) (w : Stands s at (counted bytes l) e) (h : e ≤ length s) where
-  items : Cuts s (record { from = at + 2; to = at + length (counted bytes l) }) (each bytes l)
+  pub items : Cuts s (record { from = at + 2; to = at + length (counted bytes l) }) (each bytes l)
   items = rw (← w .end) (cuts (stands-second (word (length l)) (each bytes l) w) h)
 
   pub stack-same : Stacks bytes s (same (stack-places bytes part at l)) l

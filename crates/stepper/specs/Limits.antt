@@ -14,7 +14,7 @@ use Rattle.stepper.specs.Walk.{Direction, forward, back}
 
 module _ (M : Machine) (ignores : IgnoresPort M) where
   -- two terms that can't be unified
-  clash-limit : (e : Event) → ununifiable M e ≡ true → Given (λ d. M .limit d ≡ M .limit e) (rule M e)
+  pub clash-limit : (e : Event) → ununifiable M e ≡ true → Given (λ d. M .limit d ≡ M .limit e) (rule M e)
   unfolding ununifiable rule
   clash-limit (event call truth u s) h = absurd (true≢false (sym h))
   clash-limit (event call failure u s) h = absurd (true≢false (sym h))

@@ -12,7 +12,7 @@ use Rattle.stepper.specs.Listed.{Rule, conj-call, conj-exit-first, conj-
 
 module _ (M : Machine) where
   -- each listed rule is followed
-  rule-follows : (e d : Event) → Rule M e d → rule M e ≡ gives d
+  pub rule-follows : (e d : Event) → Rule M e d → rule M e ≡ gives d
   unfolding rule
   rule-follows e d conj-call = refl
   rule-follows e d conj-exit-first = matching-yes (goal? _ _) _ refl

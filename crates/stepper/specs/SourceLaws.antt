@@ -48,7 +48,7 @@ module _ (M : Machine) where
       same p = cc
 
   -- and a candidate has its call's unifier or body
-  candidate-own : (e : Event) → Given (Own M) (candidate M e)
+  pub candidate-own : (e : Event) → Given (Own M) (candidate M e)
   unfolding candidate
   candidate-own (event call g [] []) = tt
   candidate-own (event call g [] (b ∷ s)) = tt

@@ -3,7 +3,7 @@ use crate::view::View;
 use records::compare::same_range;
 use records::put::Range;
 ghost use mathlib.Core.Path.{_≡_};
-ghost use Rattle.stepper.specs.Halves.{HalvesInside, is-half};
+ghost use Rattle.stepper.specs.Halves.{HalvesInside, is-half, either, HalvesWhere, unlike-number};
 
 // Whether the goal is the half that the ancestor on top selects.
 pub fn is_half(event: &[u8], v: View) -> bool
@@ -26,4 +26,26 @@ pub fn is_half(event: &[u8], v: View) -> bool
         to: v.ancestor.to,
     };
     same_range(event, goal, event, second)
+}
+
+// Whether n is one of two numbers.
+fn is_either(n: u8, one: u8, other: u8) -> bool
+    ensures { λ r. ⌜ r ≡ either n one other ⌝ }
+{
+    n == one || n == other
+}
+
+// Question 7 for a step that leaves a half, which it does from one of two ports: 7 where the goal is not the half that the ancestor on top
+// selects, else 0.
+pub fn unlike(event: &[u8], v: View, one: u8, other: u8) -> u8
+    requires { ⌜ HalvesWhere v (now event) ⌝ }
+    ensures { λ r. ⌜ r ≡ unlike-number (now (event .entry)) v one other ⌝ }
+{
+    if !is_either(v.port, one, other) {
+        return 0;
+    }
+    if !is_either(v.ancestor.kind, 0x30, 0x31) {
+        return 0;
+    }
+    if is_half(event, v) { 0 } else { 7 }
 }

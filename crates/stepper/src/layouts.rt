@@ -15,7 +15,7 @@ ghost use Rattle.stepper.specs.Layouts.{kept, bet-dropped, first-entered
 ghost use Rattle.stepper.specs.Layouts.{left, left-with-or, atom-left, atom-left-by, body-entered};
 
 // A part as it stands.
-fn whole(part: Part) -> Piece
+pub fn whole(part: Part) -> Piece
     ensures { λ r. ⌜ r ≡ whole part ⌝ }
 {
     Piece {
@@ -115,7 +115,7 @@ fn or_tag(tag: u8) -> Piece
     }
 }
 
-fn same(stack: StackPlaces) -> Stack
+pub fn same(stack: StackPlaces) -> Stack
     ensures { λ r. ⌜ r ≡ same stack ⌝ }
 {
     Stack {
@@ -149,7 +149,7 @@ fn dropped(stack: StackPlaces) -> Stack
 }
 
 // A stack with a piece put on it.
-fn pushed(stack: StackPlaces, top: Piece) -> Stack
+pub fn pushed(stack: StackPlaces, top: Piece) -> Stack
     ensures { λ r. ⌜ r ≡ pushed stack top ⌝ }
 {
     Stack {
@@ -176,7 +176,7 @@ fn replaced(stack: StackPlaces, top: Piece) -> Stack
     }
 }
 
-fn plan_of(port: u8, goal: Piece, ancestors: Stack, bets: Stack) -> Plan
+pub fn plan_of(port: u8, goal: Piece, ancestors: Stack, bets: Stack) -> Plan
     ensures { λ r. ⌜ r ≡ plan-of port goal ancestors bets ⌝ }
 {
     Plan {

@@ -65,3 +65,9 @@ pub mod LeastLaws
 pub mod GivesLaws
 pub mod UnifierAnswerLaws
 pub mod UnificationLaws
+pub mod Equality
+pub mod EqualityLaws
+pub mod Accepted
+pub mod Told
+pub mod AcceptedLaws
+pub mod UnifiedLaws

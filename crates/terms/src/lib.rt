@@ -3,6 +3,7 @@ pub mod apply; // apply.rt: a bet stack applied to a term
 pub mod body; // body.rt: the numbered body of an atom
 pub mod classes; // classes.rt: the classes of nodes that a unifier must make equal
 pub mod definitions; // definitions.rt: the definition of a predicate and an arity
+pub mod equality; // equality.rt: the unifier of the values of two terms of an event
 pub mod lengths; // lengths.rt: the lengths of the classes' terms
 pub mod load; // load.rt: two terms in one table of nodes
 pub mod solve; // solve.rt: whether two terms have a unifier

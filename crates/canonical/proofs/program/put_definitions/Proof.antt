@@ -1,0 +1,68 @@
+-- `put_definitions`: the definitions of the runs before i are written; `defining-run` is the next one.
+use native.Mathlib.Omega.{arith}
+use Prim.Native.Nat.{_-_}
+use lib.ListN.{length}
+use Rattle.records.specs.Encode.{each, definition-bytes}
+use Rattle.canonical.specs.Filling.{filling-length}
+use Rattle.canonical.specs.Remaining.{program-of}
+use Rattle.canonical.specs.DefiningLaws.{Defining, defining-start, defining-run, defining-locals, defining-room, defining-next, defining-end}
+use borrow.Author.Needs.{needs}
+use Rattle.canonical.proofs.program.put_definitions.Statement.{statement}
+use Rattle.canonical.proofs.program.put_definitions.Tie as tie
+
+abbrev Inv-loop : tie.InvT-loop
+Inv-loop out₀ first s sorted at₀ i₀ out at i = Defining s sorted (each definition-bytes (program-of s)) out₀ first out at i
+
+abbrev μ-loop : tie.MeasureT-loop
+μ-loop out₀ first s sorted at₀ i₀ out at i = length sorted - i
+
+loop-holds : tie.Need-loop-holds Inv-loop μ-loop
+loop-holds c = defining-start (c .before .before .before .pre .0) (c .before .before .before .pre .1 .0) _ _
+
+run-end-requires : tie.Need-run-end-requires Inv-loop μ-loop
+run-end-requires c κs = omega arith
+
+mul-put-definition : tie.Need-mul-put-definition Inv-loop μ-loop
+mul-put-definition c = search needs
+
+sub-put-definition : tie.Need-sub-put-definition Inv-loop μ-loop
+sub-put-definition c = let r = defining-run (c .before .before .before .loop .inv) (omega arith) (c .before .run-end .ensures) in omega (arith, r .forth, r .within)
+
+part-put-definition-start : tie.Need-part-put-definition-start Inv-loop μ-loop
+part-put-definition-start c = let r = defining-run (c .before .before .before .loop .inv) (omega arith) (c .before .run-end .ensures) in omega (arith, r .forth, r .within)
+
+part-put-definition-end : tie.Need-part-put-definition-end Inv-loop μ-loop
+part-put-definition-end c = let r = defining-run (c .before .before .before .loop .inv) (omega arith) (c .before .run-end .ensures) in omega (arith, r .forth, r .within)
+
+put-definition-requires : tie.Need-put-definition-requires Inv-loop μ-loop
+put-definition-requires c κs = let r = defining-run (c .before .before .before .before .loop .inv) (omega arith) (c .before .before .run-end .ensures) in (r .run, (omega (arith, r .long, r .forth), (defining-locals (c .before .before .before .before .loop .inv) (omega arith) (c .before .before .run-end .ensures), defining-room (c .before .before .before .before .loop .inv) (omega arith) (c .before .before .run-end .ensures) (c .before .before .before .before .before .before .before .before .pre .1 .1))))
+
+loop-less : tie.Need-loop-less Inv-loop μ-loop
+loop-less c = let r = defining-run (c .before .before .before .before .before .before .before .loop .inv) (omega arith) (c .before .before .before .before .before .run-end .ensures) in omega (arith, r .forth, r .within)
+
+loop-again : tie.Need-loop-again Inv-loop μ-loop
+loop-again c = defining-next (c .before .before .before .before .before .before .before .loop .inv) (omega arith) (c .before .before .before .before .before .run-end .ensures) (c .before .before .put-definition .ensures)
+
+same-length : tie.Need-same-length Inv-loop μ-loop
+same-length c = filling-length (c .before .loop .inv .filling)
+
+returns : tie.Need-returns Inv-loop μ-loop
+returns c = defining-end (c .before .loop .inv) (omega arith)
+
+pub put-definitions-spec : {M : Type 1} → statement M
+put-definitions-spec =
+    tie.close
+    (tie.spec
+    Inv-loop
+    μ-loop
+    loop-holds
+    run-end-requires
+    mul-put-definition
+    sub-put-definition
+    part-put-definition-start
+    part-put-definition-end
+    put-definition-requires
+    loop-less
+    loop-again
+    same-length
+    returns)

@@ -1,0 +1,119 @@
+-- Laws of the reply: what the measuring says of questions 9 and 10, and the record that is written.
+use mathlib.Core.Path.{_≡_, refl, sym, ap, _∙_}
+use mathlib.Core.Bool.{Bool, true, false, cond}
+use mathlib.Core.List.{List, [], _∷_}
+use Prim.Native.Nat.{ℕ, _+_, _≤_, _<_}
+use native.Mathlib.Omega.{arith}
+use lib.ListN.{length}
+use borrow.Author.Tests.{le-leb, lt-leb}
+use Rattle.records.specs.Syntax.{Definition, Clause}
+use Rattle.records.specs.Encode.{word, each, counted, definition-bytes, record-of, program-record}
+use Rattle.records.specs.RecordRules.{every}
+use Rattle.records.specs.Patched.{Put, put-then, put-front}
+use Rattle.records.specs.Question.{Asked, framing, version, grammar, rules, of-program, number as question-number}
+use Rattle.records.specs.Gate.{Reading, refused, tree, Accepted, asked-verdict, verdict, program-number, read-clauses}
+use Rattle.canonical.specs.Service.{locals-fit, made, answered, Reply, replied, reply, canonical-record}
+use Rattle.canonical.specs.Remaining.{program-of}
+use Rattle.canonical.specs.AcceptedLaws.{accepted-tree}
+use Rattle.canonical.specs.Survey.{surveyed}
+use Rattle.canonical.specs.declared.program.Survey.the-variants.{Within, TooMany}
+
+-- a program's record: the length, the version, the count, and the definitions
+program-length : (ds : List Definition) → length (program-record ds) ≡ 5 + length (each definition-bytes ds)
+unfolding record-of
+program-length ds = omega arith
+
+-- what the measuring said
+pub record Measured (ds : List Definition) (count size : ℕ) : Type 0 where
+  pub fit : every locals-fit ds ≡ true
+  pub counts : count ≡ length ds
+  pub sizes : size ≡ length (each definition-bytes ds)
+
+pub measured : (ds : List Definition) {count size : ℕ} → Within count size ≡ surveyed ds → Measured ds count size
+unfolding surveyed
+measured ds {count} {size} e = go (every locals-fit ds) refl e
+  where
+    go : (b : Bool) → every locals-fit ds ≡ b → Within count size ≡ cond b (Within (length ds) (length (each definition-bytes ds))) TooMany → Measured ds count size
+    go true f q = record { fit = f; counts = cc; sizes = cc }
+    go false f q = absurd (let z : _≡_ {A = ℕ} 0 1 = cc in omega arith)
+
+too-many : (ds : List Definition) → TooMany ≡ surveyed ds → every locals-fit ds ≡ false
+unfolding surveyed
+too-many ds e = go (every locals-fit ds) refl e
+  where
+    go : (b : Bool) → every locals-fit ds ≡ b → TooMany ≡ cond b (Within (length ds) (length (each definition-bytes ds))) TooMany → every locals-fit ds ≡ false
+    go true f q = absurd (let z : _≡_ {A = ℕ} 0 1 = cc in omega arith)
+    go false f q = f
+
+module _ (out : List ℕ) (ds : List Definition) (roomy : 32768 ≤ length out) where
+  -- question 9 says no
+  pub reply-many : TooMany ≡ surveyed ds → replied 9 out ≡ reply out (made (length out) ds)
+  unfolding reply made question-number
+  reply-many e = rw (le-leb 32768 (length out) roomy, too-many ds e)
+
+  module _ {count size : ℕ} (m : Measured ds count size) where
+    -- question 10 says no
+    pub reply-long : 32763 < size → replied 10 out ≡ reply out (made (length out) ds)
+    unfolding reply made question-number
+    reply-long h =
+        let n : 32768 < length (program-record ds) = omega (arith, program-length ds, m .sizes) in
+        rw (le-leb 32768 (length out) roomy, m .fit, lt-leb (length (program-record ds)) 32768 n)
+
+    -- the record is written
+    pub reply-whole : {after : List ℕ} {n : ℕ} → size ≤ 32763 → Put out 0 (program-record ds) after n → replied 0 after ≡ reply out (made (length out) ds)
+    unfolding reply made
+    reply-whole {after} h p =
+        let k : length (program-record ds) ≤ 32768 = omega (arith, program-length ds, m .sizes) in
+        rw (le-leb 32768 (length out) roomy, m .fit, le-leb (length (program-record ds)) 32768 k)
+        (ap (replied 0) (put-front p (omega arith)))
+
+-- a record is written by its length, its version, its count and its definitions, one after the other
+pub put-program : {ds : List Definition} {before one two three after : List ℕ} {count size a b c d : ℕ} → Measured ds count size
+    → Put before 0 (word (size + 3)) one a → Put one a (1 ∷ []) two b → Put two b (word count) three c → Put three c (each definition-bytes ds) after d
+    → Put before 0 (program-record ds) after d
+unfolding record-of
+put-program {ds} {count = count} {size = size} m p q r v =
+    let n : size + 3 ≡ 1 + length (counted definition-bytes ds) = omega (arith, m .sizes) in
+    put-then (rw n at p) (put-then q (put-then (rw (m .counts) at r) v))
+
+-- the code's number for each answer of the gate is the question's
+program-number-is : (q : Asked) → program-number (asked-verdict q) ≡ question-number (of-program q)
+unfolding question-number
+program-number-is framing = refl
+program-number-is version = refl
+program-number-is grammar = refl
+program-number-is rules = refl
+
+-- a record that is refused
+pub replied-refused : (s out : List ℕ) {k : ℕ} → k ≡ program-number (verdict (read-clauses s)) → (k ≡ 0 → ⊥) → replied k out ≡ canonical-record s out
+unfolding canonical-record answered reply
+replied-refused s out {k} e h = go (read-clauses s) e
+  where
+    go : (r : Reading (List Clause)) → k ≡ program-number (verdict r) → replied k out ≡ reply out (answered (length out) r)
+    go (refused q) i = ap (λ (n : ℕ). replied n out) (i ∙ program-number-is q)
+    go (tree cs) i = absurd (h i)
+
+-- one that is not
+pub number-accepted : (r : Reading (List Clause)) {k : ℕ} → k ≡ program-number (verdict r) → k ≡ 0 → Accepted r
+number-accepted (tree a) e h = tt
+number-accepted (refused framing) e h = absurd (omega arith)
+number-accepted (refused version) e h = absurd (omega arith)
+number-accepted (refused grammar) e h = absurd (omega arith)
+number-accepted (refused rules) e h = absurd (omega arith)
+
+reply-short : (out : List ℕ) (ds : List Definition) → length out < 32768 → replied 5 out ≡ reply out (made (length out) ds)
+unfolding reply made question-number
+reply-short out ds h = rw (lt-leb 32768 (length out) h)
+
+module _ (s out : List ℕ) (a : Accepted (read-clauses s)) where
+  -- the reply is the one for the record's program
+  reply-made : canonical-record s out ≡ reply out (made (length out) (program-of s))
+  unfolding canonical-record answered program-of
+  reply-made = ap (λ (r : Reading (List Clause)). reply out (answered (length out) r)) (accepted-tree s a)
+
+  -- an output that is too short
+  pub replied-short : length out < 32768 → replied 5 out ≡ canonical-record s out
+  replied-short h = reply-short out (program-of s) h ∙ sym reply-made
+
+  pub replied-made : {r : Reply} → r ≡ reply out (made (length out) (program-of s)) → r ≡ canonical-record s out
+  replied-made e = e ∙ sym reply-made

@@ -1,0 +1,14 @@
+-- What the measuring of a program answers, before anything is written.
+use mathlib.Core.Bool.{cond}
+use mathlib.Core.List.{List}
+use lib.ListN.{length}
+use Rattle.records.specs.Syntax.{Definition}
+use Rattle.records.specs.Encode.{each, definition-bytes}
+use Rattle.records.specs.RecordRules.{every}
+use Rattle.canonical.specs.Service.{locals-fit}
+use Rattle.canonical.specs.declared.program.Survey.{Survey}
+use Rattle.canonical.specs.declared.program.Survey.the-variants.{Within, TooMany}
+
+-- how many definitions there are, with their bytes, or question 9 says no
+unfoldable pub surveyed : List Definition → Survey
+surveyed ds = cond (every locals-fit ds) (Within (length ds) (length (each definition-bytes ds))) TooMany

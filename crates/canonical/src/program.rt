@@ -1,0 +1,89 @@
+// All definitions, from the sorted entries: measured, which answers questions 9 and 10, and written as a program.
+use crate::definition::put_definition;
+use crate::definition::run_totals;
+use crate::order::run_end;
+use records::put::put_byte;
+use records::put::put_word;
+ghost use mathlib.Core.Path.{_≡_};
+ghost use mathlib.Core.Bool.{true};
+ghost use Prim.Native.Nat.{_+_, _≤_};
+ghost use lib.ListN.{length};
+ghost use Rattle.records.specs.Encode.{each, definition-bytes, program-record};
+ghost use Rattle.records.specs.RecordRules.{every};
+ghost use Rattle.records.specs.Patched.{Put};
+ghost use Rattle.canonical.specs.Service.{locals-fit, made, replied, reply};
+ghost use Rattle.canonical.specs.Remaining.{Remaining, program-of};
+ghost use Rattle.canonical.specs.Survey.{surveyed};
+ghost use Rattle.canonical.specs.declared.program.Survey.the-variants.{Within};
+
+// How many definitions there are, with their bytes, or question 9 says no.
+pub enum Survey {
+    Within(usize, usize),
+    TooMany,
+}
+
+pub fn measure_program(s: &[u8], sorted: &[usize]) -> Survey
+    requires { ⌜ Remaining (now s) (now sorted) 0 (program-of (now s)) ⌝ }
+    ensures { λ r. ⌜ r ≡ surveyed (program-of (now (s .entry))) ⌝ }
+{
+    let mut count: usize = 0;
+    let mut size: usize = 0;
+    let mut i = 0;
+    while i < sorted.len() {
+        let j = run_end(sorted, i);
+        let totals = run_totals(s, &sorted[i..j]);
+        if 255 < totals.locals {
+            return Survey::TooMany;
+        }
+        count += 1;
+        size += 3 + totals.size;
+        i = j;
+    }
+    Survey::Within(count, size)
+}
+
+fn put_definitions(out: &mut [u8], first: usize, s: &[u8], sorted: &[usize]) -> usize
+    requires { ⌜ Remaining (now s) (now sorted) 0 (program-of (now s)) ⌝ }
+    requires { ⌜ every locals-fit (program-of (now s)) ≡ true ⌝ }
+    requires { ⌜ first + length (each definition-bytes (program-of (now s))) ≤ length (now out) ⌝ }
+    ensures { λ r. ⌜ Put (now (out .entry)) first (each definition-bytes (program-of (now (s .entry)))) (now (out .exit)) r ⌝ }
+{
+    let mut at = first;
+    let mut i = 0;
+    while i < sorted.len() {
+        let j = run_end(sorted, i);
+        at = put_definition(out, at, s, &sorted[i..j]);
+        i = j;
+    }
+    at
+}
+
+// The record of so many definitions of so many bytes.
+fn put_record(s: &[u8], sorted: &[usize], count: usize, size: usize, out: &mut [u8]) -> usize
+    requires { ⌜ Remaining (now s) (now sorted) 0 (program-of (now s)) ⌝ }
+    requires { ⌜ Within count size ≡ surveyed (program-of (now s)) ⌝ }
+    requires { ⌜ size ≤ 32763 ⌝ }
+    requires { ⌜ 32768 ≤ length (now out) ⌝ }
+    ensures { λ r. ⌜ Put (now (out .entry)) 0 (program-record (program-of (now (s .entry)))) (now (out .exit)) r ⌝ }
+{
+    let version_at = put_word(out, 0, size + 3);
+    let count_at = put_byte(out, version_at, 1);
+    let first = put_word(out, count_at, count);
+    put_definitions(out, first, s, sorted)
+}
+
+// Questions 9 and 10, and then the record.
+pub fn put_program(s: &[u8], sorted: &[usize], out: &mut [u8]) -> u8
+    requires { ⌜ Remaining (now s) (now sorted) 0 (program-of (now s)) ⌝ }
+    requires { ⌜ 32768 ≤ length (now out) ⌝ }
+    ensures { λ r. ⌜ replied r (now (out .exit)) ≡ reply (now (out .entry)) (made (length (now (out .entry))) (program-of (now (s .entry)))) ⌝ }
+{
+    let Survey::Within(count, size) = measure_program(s, sorted) else {
+        return 9;
+    };
+    if 32763 < size {
+        return 10;
+    }
+    put_record(s, sorted, count, size, out);
+    0
+}

@@ -1,0 +1,57 @@
+// Clauses to canonical program: from a clause record to a program record.
+use crate::order::list_clauses;
+use crate::order::sort;
+use crate::program::put_program;
+use records::gate::clauses_verdict;
+use records::gate::program_number;
+use records::heads::Word;
+use records::heads::word_at;
+ghost use mathlib.Core.Path.{_≡_};
+ghost use Prim.Native.Nat.{_≤_};
+ghost use lib.ListN.{length};
+ghost use Rattle.records.specs.Gate.{Accepted, read-clauses};
+ghost use Rattle.canonical.specs.Service.{made, replied, reply, canonical-record};
+ghost use Rattle.canonical.specs.Remaining.{record-clauses, program-of};
+
+// The program of an accepted clause record, by way of its clauses' entries: as they stand in the table, and then sorted.
+fn put_sorted(s: &[u8], table: &mut [usize], sorted: &mut [usize], out: &mut [u8]) -> u8
+    requires { ⌜ Accepted (read-clauses (now s)) ⌝ }
+    requires { ⌜ length (now table) ≡ length (record-clauses (now s)) ⌝ }
+    requires { ⌜ length (now sorted) ≡ length (now table) ⌝ }
+    requires { ⌜ 32768 ≤ length (now out) ⌝ }
+    ensures { λ r. ⌜ replied r (now (out .exit)) ≡ reply (now (out .entry)) (made (length (now (out .entry))) (program-of (now (s .entry)))) ⌝ }
+{
+    list_clauses(s, table);
+    sort(table, sorted);
+    put_program(s, sorted, out)
+}
+
+// The same with tables that any record's entries fit: a clause has five bytes or more, so there are at most 6,552.
+fn put_canonical(s: &[u8], table: &mut [usize], sorted: &mut [usize], out: &mut [u8]) -> u8
+    requires { ⌜ Accepted (read-clauses (now s)) ⌝ }
+    requires { ⌜ 6552 ≤ length (now table) ⌝ }
+    requires { ⌜ 6552 ≤ length (now sorted) ⌝ }
+    requires { ⌜ 32768 ≤ length (now out) ⌝ }
+    ensures { λ r. ⌜ replied r (now (out .exit)) ≡ reply (now (out .entry)) (made (length (now (out .entry))) (program-of (now (s .entry)))) ⌝ }
+{
+    let Word::Number(n) = word_at(s, 3) else {
+        return 0;
+    };
+    put_sorted(s, &mut table[0..n], &mut sorted[0..n], out)
+}
+
+// The service, for every slice and every output.
+pub fn canonical(clauses: &[u8], out: &mut [u8]) -> u8
+    ensures { λ r. ⌜ replied r (now (out .exit)) ≡ canonical-record (now (clauses .entry)) (now (out .entry)) ⌝ }
+{
+    let number = program_number(clauses_verdict(clauses));
+    if number != 0 {
+        return number;
+    }
+    if out.len() < 32768 {
+        return 5;
+    }
+    let mut table: [usize; 6552] = [0; 6552];
+    let mut sorted: [usize; 6552] = [0; 6552];
+    put_canonical(clauses, &mut table, &mut sorted, out)
+}

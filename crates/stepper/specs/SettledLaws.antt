@@ -1,0 +1,132 @@
+-- Plans that take a unifier or a body from another source than the event, and what is emitted of them.
+use mathlib.Core.Path.{_≡_, refl, subst}
+use mathlib.Core.Bool.{false}
+use mathlib.Core.List.{List, [], _∷_, _++_}
+use Prim.Native.Nat.{ℕ, _+_, _≤_, _<_}
+use native.Mathlib.Omega.{arith}
+use lib.ListN.{length, length-append}
+use borrow.Author.Tests.{lt-ltb}
+use Rattle.records.specs.Syntax.{Term, Terms, Goal, equal, atom, Ancestor, called, Binding, Bet, unifier, Port, Event, event}
+use Rattle.records.specs.Encode.{goal-bytes, ancestor-bytes, bet-bytes, counted, port-byte, event-bytes, event-record, record-of}
+use Rattle.records.specs.Question.{values, locals, fits, number}
+use Rattle.records.specs.HeadLaws.{Known, bytes-all}
+use Rattle.records.specs.Gate.{tree, read-event}
+use Rattle.records.specs.GateLaws.{event-tree}
+use Rattle.records.specs.Stands.{Stands}
+use Rattle.records.specs.Plan.{planned, Within}
+use Rattle.records.specs.PlanLaws.{stack-pushed, planned-event}
+use Rattle.records.specs.Emitted.{Emitted, length-record-of}
+use Rattle.records.specs.Places.{Parts, event-parts}
+use Rattle.records.specs.declared.plan.Lead.the-variants.{Bare, One}
+use Rattle.records.specs.declared.plan.Emit.{Emit}
+use Rattle.records.specs.declared.plan.Piece.{Piece}
+use Rattle.records.specs.declared.plan.Stack.{Stack}
+use Rattle.records.specs.declared.plan.Plan.{Plan}
+use Rattle.terms.specs.Outcome.{Unified}
+use Rattle.terms.specs.Body.{Body}
+use Rattle.terms.specs.BodyBytes as bodies
+use Rattle.terms.specs.Equality.{unifier-bytes, Answered}
+use Rattle.terms.specs.Told.{Told, told, BodyTold, body-told}
+use Rattle.terms.specs.declared.equality.UnifierAnswer.{UnifierAnswer}
+use Rattle.terms.specs.declared.body.BodyAnswer.{BodyAnswer}
+use Rattle.stepper.specs.Machine.{refused, gives}
+use Rattle.stepper.specs.Rules.{fitting}
+use Rattle.stepper.specs.Services.{too-long, record-limit}
+use Rattle.stepper.specs.View.{event-view, bet-part, bets-at}
+use Rattle.stepper.specs.Layouts.{kept, plan-of, pushed}
+use Rattle.stepper.specs.LayoutLaws.{cuts, piece, items}
+use Rattle.stepper.specs.PieceLaws.{goal-whole, ancestors-same, ancestors-more, bets-same}
+use Rattle.stepper.specs.PlanLaws.{kept-plans}
+use Rattle.stepper.specs.Stepped.{Stepped}
+use Rattle.stepper.specs.SteppedLaws.{stepped-refused, stepped-emitted}
+use Rattle.stepper.specs.Settled.{within-record, settled-equality, settled-atom, ProgramRead, EqualityViewed, AtomViewed, with-unifier, with-body}
+use Rattle.stepper.specs.declared.view.View.{View}
+
+-- a plan over three sources gives the record of the event e, and its ranges lie in them
+pub record PlansFrom (s goals bets : List ℕ) (p : Plan) (e : Event) : Type 0 where
+  pub is : planned p s goals bets ≡ event-record e
+  pub within : Within p s goals bets
+
+-- what is emitted of such a plan
+pub stepped-from : {s goals bets : List ℕ} {p : Plan} {e : Event} {before after : List ℕ} {emit : Emit} → 32768 ≤ length before → PlansFrom s goals bets p e
+    → Emitted before (planned p s goals bets) emit after → Stepped (fitting false (record-limit e) (gives e)) before emit after
+stepped-from {e = e} h w m = stepped-emitted e h (rw (w .is) at m)
+
+-- a record that is too long is refused
+pub long-refused : {before : List ℕ} (e : Event) → 32768 < length (event-record e) → Stepped (fitting false (record-limit e) (gives e)) before (record { number = 10; length = 0 }) before
+unfolding fitting record-limit too-long number
+long-refused e h = rw (lt-ltb 32768 (length (event-record e)) h) (stepped-refused fits refl)
+
+module _ {s x : List ℕ} {p : Port} (q : Port) {u : List Ancestor} {b : List Bet} {n : ℕ} where
+  -- a unifier put on the bets
+  pub unifier-plans : {g : Goal} (σ : List Binding) → Parts s p g u b → Stands x 0 (unifier-bytes σ) n → n ≤ length x
+      → PlansFrom s s x (with-unifier (event-view (event p g u b)) (port-byte q) n) (event q g u (unifier σ ∷ b))
+  unfolding event-view with-unifier plan-of pushed
+  unifier-plans {g} σ w z i =
+      let goal = goal-whole w in
+      let ancestors = ancestors-same w in
+      let top = piece (One 0x20) (cuts z i) in
+      let rest = items bet-bytes bet-part b (w .bets-stand) (omega arith) in
+      record {
+        is = planned-event (with-unifier (event-view (event p g u b)) (port-byte q) n) q g u (unifier σ ∷ b) s s x refl (goal .is) (ancestors .is)
+            (stack-pushed bet-bytes (unifier σ) b (with-unifier (event-view (event p g u b)) (port-byte q) n .bets) x s (omega arith) (top .is) (rest .is));
+        within = record {
+          goal-inside = goal .inside;
+          ancestor-inside = ancestors .top-inside;
+          ancestors-inside = ancestors .rest-inside;
+          bet-inside = top .inside;
+          bets-inside = rest .inside;
+        };
+      }
+
+  -- a body under its atom
+  pub body-plans : {k : ℕ} {ts : Terms} (g : Goal) → Parts s p (atom k ts) u b → Stands x 0 (goal-bytes g) n → n ≤ length x
+      → PlansFrom s x s (with-body (event-view (event p (atom k ts) u b)) (port-byte q) n) (event q g (called k ts ∷ u) b)
+  unfolding event-view with-body plan-of
+  body-plans {k} {ts} g w z i =
+      let goal = piece Bare (cuts z i) in
+      let ancestors = ancestors-more w (called k ts) (goal-whole w) in
+      let bets = bets-same w in
+      record {
+        is = planned-event (with-body (event-view (event p (atom k ts) u b)) (port-byte q) n) q g (called k ts ∷ u) b s x s refl (goal .is) (ancestors .is) (bets .is);
+        within = record {
+          goal-inside = goal .inside;
+          ancestor-inside = ancestors .top-inside;
+          ancestors-inside = ancestors .rest-inside;
+          bet-inside = bets .top-inside;
+          bets-inside = bets .rest-inside;
+        };
+      }
+
+-- an event is longer than its goal, and longer than its top bet
+pub goal-shorter : (p : Port) (g : Goal) (u : List Ancestor) (s : List Bet) → length (goal-bytes g) < length (event-record (event p g u s))
+unfolding record-of
+goal-shorter p g u s = simp length-append (omega arith)
+
+pub unifier-shorter : (p : Port) (g : Goal) (u : List Ancestor) (σ : List Binding) (s : List Bet) → length (unifier-bytes σ) < length (event-record (event p g u (unifier σ ∷ s)))
+unfolding record-of
+unifier-shorter p g u σ s = simp length-append (omega arith)
+
+-- what an answer of terms tells, where the code matched on it
+pub told-as : {before after : List ℕ} {u : Unified} {r x : UnifierAnswer} → Answered before after u r → length after ≡ length before → r ≡ x → Told before after u x
+told-as {before} {after} {u} w l e = subst (Told before after u) e (told w l)
+
+pub body-told-as : {before after : List ℕ} {b : Body} {r x : BodyAnswer} → bodies.Answered before after b r → length after ≡ length before → r ≡ x
+    → BodyTold before after b x
+body-told-as {before} {after} {b} w l e = subst (BodyTold before after b) e (body-told w l)
+
+-- an accepted event is a record
+pub event-short : (s : List ℕ) → Known s → {e : Event} → read-event s ≡ tree e → length s ≤ 32768
+event-short s known {e} h = event-tree s (bytes-all s known) e h .short
+
+-- the port has no part in where a plan's ranges lie
+pub within-port : {x y : ℕ} {goal : Piece} {ancestors bets : Stack} {s goals tops : List ℕ}
+    → Within (record { port = x; goal = goal; ancestors = ancestors; bets = bets }) s goals tops
+    → Within (record { port = y; goal = goal; ancestors = ancestors; bets = bets }) s goals tops
+within-port h = record {
+  goal-inside = h .goal-inside;
+  ancestor-inside = h .ancestor-inside;
+  ancestors-inside = h .ancestors-inside;
+  bet-inside = h .bet-inside;
+  bets-inside = h .bets-inside;
+}

@@ -1,0 +1,77 @@
+-- Laws of a step inside a run: refused, or emitted from a plan; and what the gate's number says.
+use mathlib.Core.Path.{_≡_, refl, sym, _∙_}
+use mathlib.Core.Bool.{Bool, true, false}
+use mathlib.Core.List.{List}
+use mathlib.Core.Option.{none}
+use Prim.Native.Nat.{ℕ, _≤_}
+use native.Mathlib.Omega.{arith}
+use lib.Dec.{ltb}
+use lib.ListN.{length}
+use borrow.Author.Tests.{le-ltb, ltb-false}
+use Rattle.records.specs.Syntax.{Event, Definition}
+use Rattle.records.specs.Encode.{event-record}
+use Rattle.records.specs.Question.{Question, of-program, of-event, output, number}
+use Rattle.records.specs.Gate.{Reading, tree, read-program, read-event}
+use Rattle.records.specs.Plan.{planned}
+use Rattle.records.specs.Emitted.{Emitted, outcome}
+use Rattle.records.specs.declared.plan.Emit.{Emit}
+use Rattle.records.specs.declared.plan.Plan.{Plan}
+use Rattle.stepper.specs.Machine.{Answer, refused, gives}
+use Rattle.stepper.specs.Walk.{Direction}
+use Rattle.stepper.specs.Rules.{fitting, on-room, attempt, step}
+use Rattle.stepper.specs.Services.{too-long, record-limit, machine, reply, reading, step-answer, step-record}
+use Rattle.stepper.specs.ServiceLaws.{number-positive}
+use Rattle.stepper.specs.Desk.{layers}
+use Rattle.stepper.specs.LayoutLaws.{Plans}
+use Rattle.stepper.specs.Replied.{Replied}
+use Rattle.stepper.specs.Stepped.{answer-length, Stepped, Passed, gate-number}
+
+pub stepped-refused : {before : List ℕ} {n : ℕ} (q : Question) → n ≡ number q → Stepped (refused q) before (record { number = n; length = 0 }) before
+unfolding answer-length reply number
+stepped-refused q e = record { number-is = e; length-is = refl; output-is = refl }
+
+-- what is emitted of an event's record, where the output passes question 5, is the answer under question 10
+pub stepped-emitted : (e : Event) {before after : List ℕ} {emit : Emit} → 32768 ≤ length before → Emitted before (event-record e) emit after
+    → Stepped (fitting false (record-limit e) (gives e)) before emit after
+unfolding outcome reply fitting record-limit too-long number answer-length
+stepped-emitted e {before} {after} {emit} h m = go (ltb 32768 (length (event-record e))) refl
+  where
+    go : (b : Bool) → ltb 32768 (length (event-record e)) ≡ b → Stepped (fitting false (record-limit e) (gives e)) before emit after
+    go true q = rw q (record { number-is = m .number ∙ rw (le-ltb _ _ h, q); length-is = m .length ∙ rw (le-ltb _ _ h, q); output-is = m .output ∙ rw (le-ltb _ _ h, q) })
+    go false q = rw q (record { number-is = m .number ∙ rw (le-ltb _ _ h, q); length-is = m .length ∙ rw (le-ltb _ _ h, q); output-is = m .output ∙ rw (le-ltb _ _ h, q) })
+
+-- so is what is emitted of its plan
+pub stepped-planned : {s : List ℕ} {p : Plan} {e : Event} {before after : List ℕ} {emit : Emit} → 32768 ≤ length before → Plans s p e
+    → Emitted before (planned p s s s) emit after → Stepped (fitting false (record-limit e) (gives e)) before emit after
+stepped-planned {e = e} h w m = stepped-emitted e h (rw (w .is) at m)
+
+-- the gate says yes
+pub gate-passed : (program s : List ℕ) {room : ℕ} → gate-number program s room ≡ 0 → Passed program s × (32768 ≤ room)
+unfolding gate-number reading
+gate-passed program s {room} h = go (read-program program) refl (read-event s) refl (ltb room 32768) refl h
+  where
+    go : (r : Reading (List Definition)) → read-program program ≡ r → (q : Reading Event) → read-event s ≡ q → (b : Bool) → ltb room 32768 ≡ b
+        → gate-number program s room ≡ 0 → Passed program s × (32768 ≤ room)
+    go (Reading.refused a) e q f b k h = absurd (number-positive (of-program a) (sym (rw e) ∙ h))
+    go (tree P) e (Reading.refused a) f b k h = absurd (number-positive (of-event a) (sym (rw (e, f)) ∙ h))
+    go (tree P) e (tree x) f true k h = absurd (number-positive output (sym (rw (e, f, k)) ∙ h))
+    go (tree P) e (tree x) f false k h = (record { definitions = P; program-reads = e; event = x; reads = f }, ltb-false room 32768 k)
+
+-- the gate says no
+pub gate-refused : (d : Direction) (program s out : List ℕ) {n : ℕ} → n ≡ gate-number program s (length out) → (n ≡ 0 → ⊥)
+    → Replied (step-record layers d program s out) n out
+unfolding gate-number reading step-record step-answer attempt on-room reply
+gate-refused d program s out {n} e z = go (read-program program) refl (read-event s) refl (ltb (length out) 32768) refl
+  where
+    go : (r : Reading (List Definition)) → read-program program ≡ r → (q : Reading Event) → read-event s ≡ q → (b : Bool) → ltb (length out) 32768 ≡ b
+        → Replied (step-record layers d program s out) n out
+    go (Reading.refused a) p q f b k = rw p (record { number-is = e ∙ rw p; output-is = refl })
+    go (tree P) p (Reading.refused a) f b k = rw (p, f) (record { number-is = e ∙ rw (p, f); output-is = refl })
+    go (tree P) p (tree x) f true k = rw (p, f, k) (record { number-is = e ∙ rw (p, f, k); output-is = refl })
+    go (tree P) p (tree x) f false k = absurd (z (e ∙ rw (p, f, k)))
+
+-- a step inside is the service's, once the gate said yes
+pub stepped-replied : (d : Direction) {program s out after : List ℕ} {emit : Emit} (w : Passed program s) → 32768 ≤ length out
+    → Stepped (step (machine layers (w .definitions)) d (w .event)) out emit after → Replied (step-record layers d program s out) (emit .number) after
+unfolding step-record step-answer reading attempt on-room
+stepped-replied d {out = out} w h m = rw (w .program-reads, w .reads, le-ltb (length out) 32768 h) (record { number-is = m .number-is; output-is = m .output-is })

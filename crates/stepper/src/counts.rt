@@ -1,0 +1,85 @@
+// The port counts of a walk: an accepted event's port is added, and a refused event changes none.
+use records::gate::event_number;
+use records::gate::event_verdict;
+use records::places::event_places;
+ghost use mathlib.Core.Path.{_≡_};
+ghost use Rattle.stepper.specs.Counts.{one-more, count-record};
+ghost use Rattle.stepper.specs.PortCounts.{counts-of, reply-with, reply-of, with-port};
+
+// How many events of each port a walk passed.
+pub struct Counts {
+    pub calls: u32,
+    pub exits: u32,
+    pub fails: u32,
+    pub redos: u32,
+}
+
+// 0, or the number that refuses the event, and the counts afterwards.
+pub struct Counted {
+    pub number: u8,
+    pub counts: Counts,
+}
+
+// One more, up to 4,294,967,295.
+fn one_more(n: u32) -> u32
+    ensures { λ r. ⌜ r ≡ one-more n ⌝ }
+{
+    if n < 4294967295 { n + 1 } else { n }
+}
+
+// The counts with one more at a port, 1 to 4.
+fn with_port(counts: Counts, port: u8) -> Counts
+    ensures { λ r. ⌜ r ≡ with-port counts port ⌝ }
+{
+    match port {
+        1 => Counts {
+            calls: one_more(counts.calls),
+            exits: counts.exits,
+            fails: counts.fails,
+            redos: counts.redos,
+        },
+        2 => Counts {
+            calls: counts.calls,
+            exits: one_more(counts.exits),
+            fails: counts.fails,
+            redos: counts.redos,
+        },
+        3 => Counts {
+            calls: counts.calls,
+            exits: counts.exits,
+            fails: one_more(counts.fails),
+            redos: counts.redos,
+        },
+        _ => Counts {
+            calls: counts.calls,
+            exits: counts.exits,
+            fails: counts.fails,
+            redos: one_more(counts.redos),
+        },
+    }
+}
+
+// The counter by value: 11 to 14 of the event, or its port is added.
+pub fn count(counts: Counts, event: &[u8]) -> Counted
+    ensures { λ r. ⌜ reply-of r ≡ count-record (now (event .entry)) (counts-of counts) ⌝ }
+{
+    let number = event_number(event_verdict(event));
+    if number != 0 {
+        return Counted { number, counts };
+    }
+    let places = event_places(event);
+    let next = with_port(counts, places.port);
+    Counted {
+        number: 0,
+        counts: next,
+    }
+}
+
+// The counter on counts that are lent: they become the counts afterwards.
+pub fn add_event(counts: &mut Counts, event: &[u8]) -> u8
+    ensures { λ r. ⌜ reply-with r (now (counts .exit)) ≡ count-record (now (event .entry)) (counts-of (now (counts .entry))) ⌝ }
+{
+    let counted = count(*counts, event);
+    *counts = counted.counts;
+    counted.number
+}

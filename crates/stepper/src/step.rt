@@ -1,0 +1,93 @@
+// A step inside a run, from an accepted event under an accepted program: forward to the next event, back to the one it came from.
+// Nothing is validated again, and the dispatch is flat. The output passes question 5.
+use crate::back::back_plan;
+use crate::back::back_rule;
+use crate::forward::forward_plan;
+use crate::forward::forward_rule;
+use crate::half::unlike;
+use crate::same::same_body;
+use crate::same::same_unifier;
+use crate::settle::refusal;
+use crate::settle::settle_atom;
+use crate::settle::settle_equality;
+use crate::view::View;
+use crate::view::event_view;
+use records::plan::Emit;
+use records::plan::Plan;
+use records::plan::emit_plan;
+ghost use mathlib.Core.Path.{_≡_};
+ghost use Prim.Native.Nat.{_≤_};
+ghost use lib.ListN.{length};
+ghost use Rattle.records.specs.Plan.{planned, Within};
+ghost use Rattle.stepper.specs.Rules.{step-forward, step-back};
+ghost use Rattle.stepper.specs.Services.{machine};
+ghost use Rattle.stepper.specs.Desk.{layers};
+ghost use Rattle.stepper.specs.NoRuleNumbers.{no-rule-number, no-source-number};
+ghost use Rattle.stepper.specs.Stepped.{Stepped, Passed, EmittedUnless};
+
+// The number where no rule has the event as its left side: 6 from exit and fail, else 7.
+fn no_rule(v: View) -> u8
+    ensures { λ r. ⌜ r ≡ no-rule-number v ⌝ }
+{
+    let port = v.port;
+    match port {
+        2 => 6,
+        3 => 6,
+        _ => 7,
+    }
+}
+
+// The number where no rule has the event as its right side: 6 from call without bets (then it has no ancestors either), else 7.
+fn no_source(v: View) -> u8
+    ensures { λ r. ⌜ r ≡ no-source-number v ⌝ }
+{
+    if v.port != 1 {
+        return 7;
+    }
+    if v.bets.count == 0 { 6 } else { 7 }
+}
+
+// Emits a plan over the event, unless a question said no by its number.
+fn emit_unless(number: u8, event: &[u8], p: Plan, out: &mut [u8]) -> Emit
+    requires { ⌜ (number ≡ 0 → Within p (now event) (now event) (now event)) ⌝ }
+    ensures { λ r. ⌜ EmittedUnless number (now (out .entry)) (planned p (now (event .entry)) (now (event .entry)) (now (event .entry))) r (now (out .exit)) ⌝ }
+{
+    if number != 0 {
+        return refusal(number);
+    }
+    emit_plan(out, p, event, event, event)
+}
+
+// One step forward.
+pub fn next_event(program: &[u8], event: &[u8], out: &mut [u8]) -> Emit
+    requires { ⌜ Passed (now program) (now event) ⌝ }
+    requires { ⌜ 32768 ≤ length (now out) ⌝ }
+    ensures { λ r. ⌜ ((w : Passed (now (program .entry)) (now (event .entry))) → Stepped (step-forward (machine layers (w .definitions)) (w .event)) (now (out .entry)) r (now (out .exit))) ⌝ }
+{
+    let v = event_view(event);
+    let n = forward_rule(v);
+    match n {
+        0 => refusal(no_rule(v)),
+        16 => settle_equality(event, v, 3, 2, out),
+        18 => settle_atom(program, event, v, 3, 1, out),
+        _ => emit_unless(unlike(event, v, 2, 3), event, forward_plan(v, n), out),
+    }
+}
+
+// One step back.
+pub fn source_event(program: &[u8], event: &[u8], out: &mut [u8]) -> Emit
+    requires { ⌜ Passed (now program) (now event) ⌝ }
+    requires { ⌜ 32768 ≤ length (now out) ⌝ }
+    ensures { λ r. ⌜ ((w : Passed (now (program .entry)) (now (event .entry))) → Stepped (step-back (machine layers (w .definitions)) (w .event)) (now (out .entry)) r (now (out .exit))) ⌝ }
+{
+    let v = event_view(event);
+    let n = back_rule(v);
+    match n {
+        0 => refusal(no_source(v)),
+        16 => emit_unless(same_unifier(event, v), event, back_plan(v, 16), out),
+        17 => settle_equality(event, v, 1, 4, out),
+        18 => emit_unless(same_body(program, event, v), event, back_plan(v, 18), out),
+        20 => settle_atom(program, event, v, 1, 3, out),
+        _ => emit_unless(unlike(event, v, 1, 4), event, back_plan(v, n), out),
+    }
+}

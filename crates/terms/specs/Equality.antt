@@ -1,0 +1,45 @@
+-- The answer for an equality under a bet stack, and the bytes of its unifier.
+use mathlib.Core.Path.{_≡_}
+use mathlib.Core.List.{List}
+use mathlib.Core.Bool.{cond}
+use Prim.Native.Nat.{ℕ, _≤_}
+use lib.Dec.{leb}
+use lib.ListN.{length}
+use Rattle.records.specs.Syntax.{Term, Binding}
+use Rattle.records.specs.Encode.{term-bytes, binding-bytes, counted}
+use Rattle.records.specs.Formed.{TermFormed}
+use Rattle.records.specs.Patched.{Put}
+use Rattle.terms.specs.Unify.{unify}
+use Rattle.terms.specs.Outcome.{value-limit, Unified, too-large, clash, unified, outcome}
+use Rattle.terms.specs.Laid.{IsValue}
+use Rattle.terms.specs.declared.equality.UnifierAnswer.{UnifierAnswer}
+use Rattle.terms.specs.declared.equality.UnifierAnswer.the-variants.{TooLarge, Clash, Unifier, TooLong}
+
+-- the count and pairs of a unifier as bytes
+abbrev pub unifier-bytes : List Binding → List ℕ
+unifier-bytes σ = counted binding-bytes σ
+
+-- the answer for a unifier of so many bytes, where the output has so many
+abbrev pub length-answer : (room size : ℕ) → UnifierAnswer
+length-answer room size = cond (leb size 32768) (cond (leb size room) (Unifier size) TooLong) TooLong
+
+-- the answer for an outcome
+abbrev pub answer-for : ℕ → Unified → UnifierAnswer
+answer-for room too-large = TooLarge
+answer-for room clash = Clash
+answer-for room (unified σ) = length-answer room (length (unifier-bytes σ))
+
+-- the answer is the outcome's; a unifier that fits stands at the start of the output, with the rest as it was; else nothing changes
+pub record Answered (before after : List ℕ) (u : Unified) (r : UnifierAnswer) : Type 0 where
+  pub number : r ≡ answer-for (length before) u
+  pub written : (σ : List Binding) → u ≡ unified σ → {n : ℕ} → r ≡ Unifier n → Put before 0 (unifier-bytes σ) after n
+  pub kept : ((n : ℕ) → r ≡ Unifier n → ⊥) → after ≡ before
+
+-- a value within question 8's limit
+pub record OneValue (a : List ℕ) : Type 0 where
+  pub value : IsValue a
+  pub short : length a ≤ value-limit
+
+-- the answer for whatever terms the values are
+pub record Answers (a b before after : List ℕ) (r : UnifierAnswer) : Type 0 where
+  pub each : (s t : Term) → TermFormed s → TermFormed t → a ≡ term-bytes s → b ≡ term-bytes t → Answered before after (outcome (unify s t)) r

@@ -1,0 +1,114 @@
+-- Laws of the event of a case of kind u: it is refused, its goal is no equality, or its sides and its bets are found.
+use mathlib.Core.Path.{_≡_, refl, sym, ap, _∙_}
+use mathlib.Core.List.{List}
+use native.Mathlib.Omega.{arith}
+use Prim.Native.Nat.{ℕ, _+_, _≤_}
+use lib.ListN.{length}
+use Rattle.records.specs.Syntax.{Goal, Ancestor, Bet, Port, Event}
+use Rattle.records.specs.Syntax.Goal.{truth, failure, equal, conj, disj, atom}
+use Rattle.records.specs.Syntax.Event.{event}
+use Rattle.records.specs.Encode.{term-bytes}
+use Rattle.records.specs.Heads.{goal-head-at}
+use Rattle.records.specs.HeadLaws.{Known, bytes-all}
+use Rattle.records.specs.Gate.{Reading, Accepted, verdict, event-number, read-event}
+use Rattle.records.specs.Gate.Reading.{tree}
+use Rattle.records.specs.GateLaws.{event-tree}
+use Rattle.records.specs.Places.{goal-end, event-places}
+use Rattle.records.specs.Stands.{head-of-goal}
+use Rattle.records.specs.Walk.{end-at}
+use Rattle.records.specs.declared.ends.Found.the-variants.{At, Nothing}
+use Rattle.records.specs.declared.places.Places.{Places}
+use Rattle.terms.specs.Accepted.{bets-at, accepted-bets, left-side, right-side, bets-moved, term-moved}
+use Rattle.terms.specs.AcceptedLaws.{event-refused, goal-told, left-ends}
+use Rattle.terms.specs.Applied.{TermAt}
+use Rattle.terms.specs.BetRow.{Bets}
+use Rattle.terms.specs.Outcome.{outcome, unified-under}
+use Rattle.terms_cases.specs.Kinds.{kind-of}
+use Rattle.terms_cases.specs.Equalities.{other, is, goal-equality, equality-of, EqualityAt, equality-event, answer-for, bytes-for, Replied}
+use Rattle.terms_cases.specs.declared.unify.Unifying.{Unifying}
+use Rattle.terms_cases.specs.declared.unify.Unifying.the-variants.{Refused, NoEquality}
+
+-- the event is refused
+pub refused-replied : {before : List ℕ} {k : ℕ} (r : Reading Event) → k ≡ event-number (verdict r) → (k ≡ 0 → ⊥) → Replied (equality-of r) before before (Refused k)
+unfolding answer-for bytes-for
+refused-replied r e h = let w = event-refused r e h in rw (w .reading) (record { answer = ap Refused (w .is); output = refl })
+
+-- its goal is no equality
+other-goal : (g : Goal) (bets : List Bet) → (kind-of (head-of-goal g) ≡ 0x12 → ⊥) → goal-equality g bets ≡ other
+other-goal truth bets h = refl
+other-goal failure bets h = refl
+other-goal (equal t u) bets h = absurd (h refl)
+other-goal (conj a b) bets h = refl
+other-goal (disj a b) bets h = refl
+other-goal (atom p ts) bets h = refl
+
+equality-goal : (p : Port) (g : Goal) (u : List Ancestor) (bets : List Bet) {s : List ℕ} → kind-of (head-of-goal g) ≡ 0x12 → read-event s ≡ tree (event p g u bets) → EqualityAt s
+equality-goal p (equal t r) u bets h e = record { port = p; left = t; right = r; ancestors = u; bets = bets; read = e }
+equality-goal p truth u bets h e = absurd (omega arith)
+equality-goal p failure u bets h e = absurd (omega arith)
+equality-goal p (conj a b) u bets h e = absurd (omega arith)
+equality-goal p (disj a b) u bets h e = absurd (omega arith)
+equality-goal p (atom q ts) u bets h e = absurd (omega arith)
+
+module _ (s : List ℕ) (known : Known s) (e : Event) (read : read-event s ≡ tree e) where
+  pub other-replied : {before : List ℕ} → (kind-of (goal-head-at s 4) ≡ 0x12 → ⊥) → Replied (equality-of (read-event s)) before before NoEquality
+  unfolding answer-for bytes-for
+  other-replied {before} h = go e read
+    where
+      go : (e : Event) → read-event s ≡ tree e → Replied (equality-of (read-event s)) before before NoEquality
+      go (event p g u bets) i = rw (i, other-goal g bets (rw (goal-told s known p g u bets i) at h)) (record { answer = refl; output = refl })
+
+  pub equality-found : kind-of (goal-head-at s 4) ≡ 0x12 → EqualityAt s
+  equality-found h = go e read
+    where
+      go : (e : Event) → read-event s ≡ tree e → EqualityAt s
+      go (event p g u bets) i = equality-goal p g u bets (rw (goal-told s known p g u bets i) at h) i
+
+-- such an event is accepted
+pub equality-accepted : {s : List ℕ} → EqualityAt s → Accepted (read-event s)
+equality-accepted q = rw (q .read) tt
+
+pub equality-short : {s : List ℕ} → Known s → EqualityAt s → length s ≤ 32768
+equality-short {s} known q = event-tree s (bytes-all s known) (equality-event q) (q .read) .short
+
+-- where its sides and its bets stand
+module _ {s : List ℕ} (known : Known s) (q : EqualityAt s) {places : Places} (i : places ≡ event-places (equality-event q)) where
+  pub bets-from : places .bets .from ≡ bets-at (equal (q .left) (q .right)) (q .ancestors) + 2
+  unfolding event-places
+  bets-from = rw i refl
+
+  pub bets-count : places .bets .count ≡ length (q .bets)
+  unfolding event-places
+  bets-count = rw i refl
+
+  pub goal-to : places .goal .to ≡ goal-end 4 (equal (q .left) (q .right))
+  unfolding event-places
+  goal-to = rw i refl
+
+  abbrev pub bets-there : Bets s (places .bets .from) (places .bets .count)
+  bets-there = bets-moved bets-from bets-count (accepted-bets s known (equal (q .left) (q .right)) (q .read))
+
+  module _ {middle : ℕ} (m : end-at s 5 1 0 ≡ At middle) where
+    pub middle-is : middle ≡ 5 + length (term-bytes (q .left))
+    middle-is = same (sym m ∙ left-ends s known (q .left) (q .right) (q .read))
+      where
+        same : {a b : ℕ} → At a ≡ At b → a ≡ b
+        same e = cc
+
+    abbrev pub left-there : TermAt s 5 middle
+    left-there = term-moved refl middle-is (left-side s known (q .left) (q .right) (q .read))
+
+    abbrev pub right-there : TermAt s middle (places .goal .to)
+    right-there = term-moved middle-is goal-to (right-side s known (q .left) (q .right) (q .read))
+
+  -- the left side has an end
+  pub left-lost : {P : Type 0} → end-at s 5 1 0 ≡ Nothing → P
+  left-lost h = lost (sym (left-ends s known (q .left) (q .right) (q .read)) ∙ h)
+    where
+      lost : {P : Type 0} {e : ℕ} → At e ≡ Nothing → P
+      lost e = absurd (let z : _≡_ {A = ℕ} 0 1 = cc in omega arith)
+
+-- the outcome for its sides is the event's
+pub event-replied : {s : List ℕ} (q : EqualityAt s) {before after : List ℕ} {r : Unifying} → Replied (is (unified-under (q .bets) (q .left) (q .right))) before after r
+    → Replied (equality-of (read-event s)) before after r
+event-replied q w = rw (q .read) w

@@ -1,0 +1,64 @@
+// The body of an event's atom under a program.
+use crate::kind::goal_kind;
+use records::gate::event_number;
+use records::gate::event_verdict;
+use records::gate::program_number;
+use records::gate::program_verdict;
+use records::heads::goal_head;
+use records::places::event_places;
+use terms::body::BodyAnswer;
+use terms::body::atom_body;
+use terms::variables::Frame;
+ghost use Rattle.records.specs.Gate.{read-program, read-event};
+ghost use Rattle.terms.specs.Definitions.{ProgramAt};
+ghost use Rattle.terms.specs.Body.{body};
+ghost use Rattle.terms.specs.BodyBytes.{Answered};
+ghost use Rattle.terms_cases.specs.Bodies.{AtomGoal, Replied, body-case};
+
+// The number that refuses a record; the event's goal is no atom; or the answer.
+pub enum BodyCase {
+    Refused(u8),
+    NoAtom,
+    Answered(BodyAnswer),
+}
+
+// The body of the atom that the event's goal is.
+fn atom_goal(program: &[u8], event: &[u8], out: &mut [u8]) -> BodyAnswer
+    requires { ⌜ ProgramAt (now program) ⌝ }
+    requires { ⌜ AtomGoal (now event) ⌝ }
+    ensures { λ r. ⌜ ((d : ProgramAt (now (program .entry))) (a : AtomGoal (now (event .entry))) → Answered (now (out .entry)) (now (out .exit)) (body (d .definitions) (a .predicate) (a .terms) (a .ancestors) (a .bets)) r) ⌝ }
+{
+    let places = event_places(event);
+    let ancestors = places.ancestors;
+    let bets = places.bets;
+    atom_body(
+        program,
+        event,
+        Frame {
+            goal: 4,
+            ancestors: ancestors.from,
+            depth: ancestors.count,
+            bets: bets.from,
+            height: bets.count,
+        },
+        out,
+    )
+}
+
+// What the event's atom comes to, for every two slices: the program is questioned first.
+pub fn body_case(program: &[u8], event: &[u8], out: &mut [u8]) -> BodyCase
+    ensures { λ r. ⌜ Replied (body-case (read-program (now (program .entry))) (read-event (now (event .entry)))) (now (out .entry)) (now (out .exit)) r ⌝ }
+{
+    let first = program_number(program_verdict(program));
+    if first != 0 {
+        return BodyCase::Refused(first);
+    }
+    let second = event_number(event_verdict(event));
+    if second != 0 {
+        return BodyCase::Refused(second);
+    }
+    if goal_kind(goal_head(event, 4)) != 0x15 {
+        return BodyCase::NoAtom;
+    }
+    BodyCase::Answered(atom_goal(program, event, out))
+}

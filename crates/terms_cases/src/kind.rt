@@ -1,0 +1,19 @@
+// The kind of a goal.
+use records::heads::GoalHead;
+ghost use mathlib.Core.Path.{_≡_};
+ghost use Rattle.terms_cases.specs.Kinds.{kind-of};
+
+// The kind byte of an equality and of an atom; 0 for any other goal.
+pub fn goal_kind(h: GoalHead) -> u8
+    ensures { λ r. ⌜ r ≡ kind-of h ⌝ }
+{
+    match h {
+        GoalHead::Truth => 0,
+        GoalHead::Failure => 0,
+        GoalHead::Equal => 0x12,
+        GoalHead::Conj => 0,
+        GoalHead::Disj => 0,
+        GoalHead::Atom(_, _) => 0x15,
+        GoalHead::NoGoal => 0,
+    }
+}

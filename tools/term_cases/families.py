@@ -55,12 +55,12 @@ def full(n):
 left, right = doublings(11)
 equality('n = 11, 28,638 bytes', [(k, full(k)) for k in range(1, 12)], f(*left), f(*right), size=28638)
 left, right = doublings(12)
-equality('n = 12', 'long 40000', f(*left), f(*right), check=False)
+equality('n = 12', 'long', f(*left), f(*right), check=False)
 # 797 is the most that a value of 8,192 bytes holds: 7,970 bytes of doublings and 54 symbols around them.
 left, right = doublings(797)
-equality('n = 797', 'long 40000', row(left), row(right), check=False)
-equality('n = 797, the last first', 'long 40000', row(left[::-1]), row(right[::-1]), check=False)
-equality('n = 797, the sides exchanged', 'long 40000', row(right), row(left), check=False)
+equality('n = 797', 'long', row(left), row(right), check=False)
+equality('n = 797, the last first', 'long', row(left[::-1]), row(right[::-1]), check=False)
+equality('n = 797, the sides exchanged', 'long', row(right), row(left), check=False)
 
 
 def halved(n):
@@ -70,14 +70,14 @@ def halved(n):
 
 
 left, right = halved(800)
-equality('n = 800, every other one exchanged', 'long 40000', row(left), row(right), check=False)
-equality('the same, the last first', 'long 40000', row(left[::-1]), row(right[::-1]), check=False)
+equality('n = 800, every other one exchanged', 'long', row(left), row(right), check=False)
+equality('the same, the last first', 'long', row(left[::-1]), row(right[::-1]), check=False)
 equality('n = 800, and a = b at the end', 'none', row(left + [A]), row(right + [B]), check=False)
-equality('n = 800, and X0 = a at the end', 'long 40000', row(left + [X(0)]), row(right + [A]), check=False)
+equality('n = 800, and X0 = a at the end', 'long', row(left + [X(0)]), row(right + [A]), check=False)
 equality('n = 800, and X0 = g(X800, X800) at the end', 'none', row(left + [X(0)]), row(right + [g(X(800), X(800))]), check=False)
 left, right = doublings(390)
 more, most = [var(1000 + k) for k in range(1, 391)], [g(var(999 + k), var(999 + k)) for k in range(1, 391)]
-equality('X and Y, 390 each, and X390 = Y390', 'long 40000', row(left + more + [X(390)]), row(right + most + [var(1390)]), check=False)
+equality('X and Y, 390 each, and X390 = Y390', 'long', row(left + more + [X(390)]), row(right + most + [var(1390)]), check=False)
 
 heading('the deepest unifier')
 # Every argument on the way down is a level of the writer. All but a few of the terms of both values lie on one way.

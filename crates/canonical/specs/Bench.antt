@@ -15,22 +15,22 @@ use Rattle.canonical.specs.Canonical.{canonical}
 use Rattle.canonical.specs.Service.{Reply, canonical-record}
 
 -- the constant a, and f of one term
-abbrev a : Term
+abbrev pub a : Term
 a = app 1 nil
 
-abbrev f : Term → Term
+abbrev pub f : Term → Term
 f t = app 3 (cons t nil)
 
 -- the atom q(t)
-abbrev q : Term → Goal
+abbrev pub q : Term → Goal
 q t = atom 7 (cons t nil)
 
 -- q(a). q(f(Z)) :- q(Z).
-abbrev q-clauses : List Clause
+abbrev pub q-clauses : List Clause
 q-clauses = clause 7 0 (cons a nil) truth ∷ (clause 7 1 (cons (f (var 0)) nil) (q (var 0)) ∷ [])
 
 -- (X0=a, true) ; (X0=f(V1), q(V1))
-abbrev q-body : Goal
+abbrev pub q-body : Goal
 q-body = disj (conj (equal (var 0) a) truth) (conj (equal (var 0) (f (var 1))) (q (var 1)))
 
 -- q(a). q(f(Z)) :- q(Z). becomes (X0=a, true) ; (X0=f(V1), q(V1)), one local

@@ -39,7 +39,6 @@ pub mod Lookup
 pub mod LookupLaws
 pub mod Counts
 pub mod CountsLaws
-pub mod Bench
 pub mod View
 pub mod ViewLaws
 pub mod Layouts

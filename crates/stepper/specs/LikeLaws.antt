@@ -1,13 +1,11 @@
 -- What the number of question 7 for a half says: 0 where the goal is the half or no half is left, else 7, and the step is refused by it.
 use Prim.Native.Nat.{ℕ}
-use native.Mathlib.Omega.{arith}
-use mathlib.Core.Path.{_≡_, refl, _∙_}
+use mathlib.Core.Path.{_≡_, refl}
 use mathlib.Core.Bool.{Bool, true, false, true≢false}
 use mathlib.Core.List.{List, [], _∷_}
-use Rattle.records.specs.Syntax.{Goal, Half, Ancestor, called, in-conj, in-disj, Bet, Port, call, exit, fail, redo, Event, event}
+use Rattle.records.specs.Syntax.{Half, called, in-conj, in-disj, call, exit, fail, redo, Event, event}
 use Rattle.records.specs.Question.{matches}
 use Rattle.records.specs.Heads.{pick}
-use Rattle.records.specs.Places.{Parts}
 use Rattle.stepper.specs.Machine.{Machine, Answer, refused}
 use Rattle.stepper.specs.Rules.{rule, candidate}
 use Rattle.stepper.specs.View.{event-view}

@@ -1,5 +1,5 @@
 -- A source that is made of an event's parts has nothing to show: only the redo of an equality and the fail of a body do.
-use Rattle.records.specs.Syntax.{first, second, Event}
+use Rattle.records.specs.Syntax.{Event}
 use Rattle.stepper.specs.Machine.{Machine}
 use Rattle.stepper.specs.Listed.{Rule, conj-call, conj-exit-first, conj-fail-first, conj-exit-second, conj-fail-second, conj-redo, disj-call, disj-fail-first, disj-fail-second, disj-exit-first, disj-exit-second, disj-redo, true-call, true-redo, fail-call, equal-call, equal-clash, equal-redo, atom-call, atom-undefined, atom-exit, atom-fail, atom-redo}
 use Rattle.stepper.specs.RuleNumbers.{FromParts}

@@ -1,23 +1,21 @@
 -- The loop of a run: what holds with some steps taken, how a turn keeps it, and what it comes to at the end.
 use mathlib.Core.Path.{_≡_, refl, sym, _∙_, ap}
-use mathlib.Core.List.{List, _++_}
+use mathlib.Core.List.{List}
 use mathlib.Core.Option.{none, some}
-use Prim.Native.Nat.{ℕ, zero, suc, _+_, _-_, _≤_, _<_}
+use Prim.Native.Nat.{ℕ, suc, _+_, _-_, _≤_, _<_}
 use native.Mathlib.Omega.{arith}
 use lib.ListN.{length, take, length-take}
 use Rattle.records.specs.Syntax.{Event}
-use Rattle.records.specs.Encode.{event-record}
-use Rattle.records.specs.Question.{Question, number}
-use Rattle.records.specs.HeadLaws.{Bytes, Known, bytes-all}
+use Rattle.records.specs.Question.{number}
+use Rattle.records.specs.HeadLaws.{Known, bytes-all}
 use Rattle.records.specs.Gate.{tree, read-event}
 use Rattle.records.specs.Written.{event-written}
 use Rattle.records.specs.declared.plan.Emit.{Emit}
-use Rattle.stepper.specs.Layers.{Lawful}
 use Rattle.stepper.specs.Machine.{Machine, Answer, refused, gives}
 use Rattle.stepper.specs.Rules.{step}
 use Rattle.stepper.specs.Services.{machine, reply}
-use Rattle.stepper.specs.ServiceLaws.{Recordable, limit-fits, read-recordable, number-positive, done-gives}
-use Rattle.stepper.specs.Run.{Ran, run, stop-number}
+use Rattle.stepper.specs.ServiceLaws.{Recordable, limit-fits, read-recordable, done-gives}
+use Rattle.stepper.specs.Run.{run, stop-number}
 use Rattle.stepper.specs.RunLaws.{later, run-start, run-step, run-stop, run-end}
 use Rattle.stepper.specs.Walk.{Direction}
 use Rattle.stepper.specs.Desk.{layers, lawful}

@@ -1,5 +1,5 @@
 -- The run service in bytes: the event is put into a buffer, the run goes on from there, and the record reached is put into the output.
-use mathlib.Core.Path.{_≡_, refl, sym, _∙_, ap}
+use mathlib.Core.Path.{_≡_, refl, _∙_}
 use mathlib.Core.Bool.{Bool, true, false}
 use mathlib.Core.List.{List, _++_}
 use Prim.Native.Nat.{ℕ, _+_, _-_, _≤_}
@@ -13,7 +13,6 @@ use Rattle.records.specs.Syntax.{Event, Definition}
 use Rattle.records.specs.Encode.{event-record}
 use Rattle.records.specs.HeadLaws.{Known, bytes-all}
 use Rattle.records.specs.Gate.{Reading, tree, read-program, read-event}
-use Rattle.records.specs.GateLaws.{event-tree}
 use Rattle.records.specs.Patched.{Put, put-front}
 use Rattle.records.specs.Range.{size, cut, Inside}
 use Rattle.stepper.specs.Services.{machine, reply, reading}
@@ -23,7 +22,7 @@ use Rattle.stepper.specs.RunServiceLaws.{run-recordable}
 use Rattle.stepper.specs.Walk.{Direction}
 use Rattle.stepper.specs.Desk.{layers, lawful}
 use Rattle.stepper.specs.Stepped.{Passed, gate-number}
-use Rattle.stepper.specs.Running.{Front, RanTo, RunReplied}
+use Rattle.stepper.specs.Running.{RanTo, RunReplied}
 use Rattle.stepper.specs.declared.run.Reached.{Reached}
 
 -- the gate says no

@@ -4,21 +4,19 @@ use mathlib.Core.List.{List, [], _∷_, _++_}
 use Prim.Native.Nat.{ℕ, zero, suc, _+_, _-_, _≤_}
 use native.Mathlib.Omega.{arith}
 use native.Mathlib.Numerals.{unary-clauses}
-use lib.ListN.{length, take, drop, length-append, length-take}
+use lib.ListN.{length, take, drop, length-append}
 use lib.Seq.{take-append-seam}
 use Rattle.records.specs.Syntax.{Event}
 use Rattle.records.specs.Encode.{event-record}
 use Rattle.records.specs.Question.{Question, number}
 use Rattle.records.specs.HeadLaws.{Bytes, Known, bytes-all}
-use Rattle.records.specs.Gate.{tree, read-event}
 use Rattle.records.specs.Patched.{Put, put-front}
 use Rattle.records.specs.Range.{size, cut, Inside}
 use Rattle.records.specs.declared.plan.Emit.{Emit}
-use Rattle.stepper.specs.Layers.{Lawful}
 use Rattle.stepper.specs.Machine.{Answer, refused, gives}
 use Rattle.stepper.specs.Rules.{step}
-use Rattle.stepper.specs.Services.{machine, reply, Program}
-use Rattle.stepper.specs.ServiceLaws.{Recordable, limit-fits, read-recordable, step-recordable, done-gives}
+use Rattle.stepper.specs.Services.{machine, reply}
+use Rattle.stepper.specs.ServiceLaws.{Recordable, read-recordable, step-recordable, done-gives}
 use Rattle.stepper.specs.Walk.{Direction}
 use Rattle.stepper.specs.Desk.{layers, lawful}
 use Rattle.stepper.specs.Stepped.{answer-length, Stepped, Passed}

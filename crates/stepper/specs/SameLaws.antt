@@ -3,23 +3,22 @@ use mathlib.Core.Path.{_≡_, refl, sym, ap, _∙_}
 use mathlib.Core.Bool.{Bool, true, false, true≢false}
 use mathlib.Core.List.{List, [], _∷_}
 use mathlib.Core.Logic.{⊎-elim}
-use Prim.Native.Nat.{ℕ, _+_, _-_, _≤_, _<_}
+use Prim.Native.Nat.{ℕ, _+_, _≤_, _<_}
 use native.Mathlib.Omega.{arith}
 use lib.ListN.{length}
-use Rattle.records.specs.Syntax.{Goal, equal, called, Binding, unifier, event}
-use Rattle.records.specs.Encode.{term-bytes, goal-bytes, ancestor-bytes, bet-bytes}
+use Rattle.records.specs.Syntax.{Goal, equal, called, Binding, unifier}
+use Rattle.records.specs.Encode.{term-bytes, goal-bytes, bet-bytes}
 use Rattle.records.specs.Formed.{GoalFormed, BetFormed}
-use Rattle.records.specs.Question.{values, locals, matches, number}
+use Rattle.records.specs.Question.{number}
 use Rattle.records.specs.HeadLaws.{Known, bytes-all}
 use Rattle.records.specs.Heads.{pick}
-use Rattle.records.specs.Range.{cut, Inside}
+use Rattle.records.specs.Range.{cut}
 use Rattle.records.specs.Same.{same-bytes, same-true, same-refl}
 use Rattle.records.specs.Stands.{stands-second, same-tree}
 use Rattle.records.specs.ItemLaws.{goal-exact}
 use Rattle.records.specs.Exact.{bet-exact}
 use Rattle.records.specs.GateLaws.{program-tree, event-tree}
 use Rattle.records.specs.Places.{goal-end, Parts, event-parts}
-use Rattle.records.specs.declared.put.Range.{Range}
 use Rattle.terms.specs.Outcome.{Unified, too-large, clash, unified, unified-under}
 use Rattle.terms.specs.OutcomeLaws.{unified-formed}
 use Rattle.terms.specs.Body.{Body, too-many, undefined, defined, body}

@@ -3,8 +3,8 @@
 use mathlib.Core.Path.{_≡_}
 use mathlib.Core.Bool.{false}
 use mathlib.Core.List.{List, _∷_}
-use Prim.Native.Nat.{ℕ, _+_}
-use Rattle.records.specs.Syntax.{Term, Terms, Goal, equal, atom, Ancestor, called, Binding, Bet, unifier, Port, Event, event, Definition}
+use Prim.Native.Nat.{ℕ}
+use Rattle.records.specs.Syntax.{Term, Terms, Goal, equal, atom, Ancestor, called, Binding, Bet, unifier, Port, event, Definition}
 use Rattle.records.specs.Question.{matches, values, locals, number}
 use Rattle.records.specs.Gate.{tree, read-program, read-event}
 use Rattle.records.specs.declared.plan.Lead.the-variants.{Bare, One}

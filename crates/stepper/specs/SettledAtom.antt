@@ -1,7 +1,7 @@
 -- An atom in bytes: where it stands with its stacks, and what each answer for its body makes of the step.
 use mathlib.Core.Path.{_≡_, refl, ap}
 use mathlib.Core.List.{List, _∷_}
-use Prim.Native.Nat.{ℕ, _≤_, _<_}
+use Prim.Native.Nat.{ℕ, _≤_}
 use native.Mathlib.Omega.{arith}
 use lib.ListN.{length}
 use Rattle.records.specs.Syntax.{atom, called, Port, call, event, Definition}

@@ -1,22 +1,22 @@
 -- Plans that take a unifier or a body from another source than the event, and what is emitted of them.
 use mathlib.Core.Path.{_≡_, refl, subst}
 use mathlib.Core.Bool.{false}
-use mathlib.Core.List.{List, [], _∷_, _++_}
-use Prim.Native.Nat.{ℕ, _+_, _≤_, _<_}
+use mathlib.Core.List.{List, _∷_}
+use Prim.Native.Nat.{ℕ, _≤_, _<_}
 use native.Mathlib.Omega.{arith}
 use lib.ListN.{length, length-append}
 use borrow.Author.Tests.{lt-ltb}
-use Rattle.records.specs.Syntax.{Term, Terms, Goal, equal, atom, Ancestor, called, Binding, Bet, unifier, Port, Event, event}
-use Rattle.records.specs.Encode.{goal-bytes, ancestor-bytes, bet-bytes, counted, port-byte, event-bytes, event-record, record-of}
-use Rattle.records.specs.Question.{values, locals, fits, number}
+use Rattle.records.specs.Syntax.{Terms, Goal, atom, Ancestor, called, Binding, Bet, unifier, Port, Event, event}
+use Rattle.records.specs.Encode.{goal-bytes, bet-bytes, port-byte, event-record, record-of}
+use Rattle.records.specs.Question.{fits, number}
 use Rattle.records.specs.HeadLaws.{Known, bytes-all}
 use Rattle.records.specs.Gate.{tree, read-event}
 use Rattle.records.specs.GateLaws.{event-tree}
 use Rattle.records.specs.Stands.{Stands}
 use Rattle.records.specs.Plan.{planned, Within}
 use Rattle.records.specs.PlanLaws.{stack-pushed, planned-event}
-use Rattle.records.specs.Emitted.{Emitted, length-record-of}
-use Rattle.records.specs.Places.{Parts, event-parts}
+use Rattle.records.specs.Emitted.{Emitted}
+use Rattle.records.specs.Places.{Parts}
 use Rattle.records.specs.declared.plan.Lead.the-variants.{Bare, One}
 use Rattle.records.specs.declared.plan.Emit.{Emit}
 use Rattle.records.specs.declared.plan.Piece.{Piece}
@@ -32,15 +32,13 @@ use Rattle.terms.specs.declared.body.BodyAnswer.{BodyAnswer}
 use Rattle.stepper.specs.Machine.{refused, gives}
 use Rattle.stepper.specs.Rules.{fitting}
 use Rattle.stepper.specs.Services.{too-long, record-limit}
-use Rattle.stepper.specs.View.{event-view, bet-part, bets-at}
-use Rattle.stepper.specs.Layouts.{kept, plan-of, pushed}
+use Rattle.stepper.specs.View.{event-view, bet-part}
+use Rattle.stepper.specs.Layouts.{plan-of, pushed}
 use Rattle.stepper.specs.LayoutLaws.{cuts, piece, items}
 use Rattle.stepper.specs.PieceLaws.{goal-whole, ancestors-same, ancestors-more, bets-same}
-use Rattle.stepper.specs.PlanLaws.{kept-plans}
 use Rattle.stepper.specs.Stepped.{Stepped}
 use Rattle.stepper.specs.SteppedLaws.{stepped-refused, stepped-emitted}
-use Rattle.stepper.specs.Settled.{within-record, settled-equality, settled-atom, ProgramRead, EqualityViewed, AtomViewed, with-unifier, with-body}
-use Rattle.stepper.specs.declared.view.View.{View}
+use Rattle.stepper.specs.Settled.{with-unifier, with-body}
 
 -- a plan over three sources gives the record of the event e, and its ranges lie in them
 pub record PlansFrom (s goals bets : List ℕ) (p : Plan) (e : Event) : Type 0 where

@@ -1,17 +1,17 @@
 -- The rules with a unifier or a body as steps: forward from call, and back from fail, from exit of an equality and from call of a body.
 use mathlib.Core.Path.{_≡_, refl, sym, _∙_, ap}
-use mathlib.Core.Bool.{Bool, true, false}
+use mathlib.Core.Bool.{Bool, false}
 use mathlib.Core.List.{List, _∷_}
 use mathlib.Core.Option.{none}
 use Prim.Native.Nat.{ℕ, _≤_}
 use native.Mathlib.Omega.{arith}
 use lib.ListN.{length, length-append}
 use Rattle.records.specs.Syntax.{Term, Terms, Goal, equal, atom, Ancestor, called, Binding, Bet, unifier, Port, call, exit, fail, redo, Event, event, Definition}
-use Rattle.records.specs.Encode.{goal-bytes, event-record, record-of}
+use Rattle.records.specs.Encode.{event-record, record-of}
 use Rattle.records.specs.Question.{matches, values, locals, number}
 use Rattle.records.specs.HeadLaws.{Known}
 use Rattle.records.specs.Gate.{tree}
-use Rattle.records.specs.Plan.{planned, Within}
+use Rattle.records.specs.Plan.{planned}
 use Rattle.records.specs.declared.plan.Emit.{Emit}
 use Rattle.records.specs.declared.plan.Plan.{Plan}
 use Rattle.terms.specs.Outcome.{Unified, too-large, clash, unified, unified-under}
@@ -28,14 +28,12 @@ use Rattle.stepper.specs.Limits.{put-always}
 use Rattle.stepper.specs.PutLaws.{back-settled, back-refuses}
 use Rattle.stepper.specs.Desk.{layers}
 use Rattle.stepper.specs.View.{event-view}
-use Rattle.stepper.specs.RulePlans.{back-plan}
 use Rattle.stepper.specs.LayoutLaws.{Plans}
-use Rattle.stepper.specs.PlanLaws.{bet-dropped-plans, atom-left-plans}
 use Rattle.stepper.specs.KindLaws.{EqualityOf, AtomOf, UnifierOf, BodyOf}
 use Rattle.stepper.specs.Stepped.{Stepped, Passed, EmittedUnless}
 use Rattle.stepper.specs.SteppedLaws.{stepped-planned}
 use Rattle.stepper.specs.Settled.{within-record, settled-equality, settled-atom, compared-number, unifier-number, body-number, ProgramRead, EqualityViewed, AtomViewed, UnifierViewed, BodyViewed}
-use Rattle.stepper.specs.StepLaws.{ignores, parts-of, within-limit, stepped-no}
+use Rattle.stepper.specs.StepLaws.{ignores, stepped-no}
 use Rattle.stepper.specs.declared.view.View.{View}
 
 limited-record : (P : List Definition) (a : Answer) → limited (machine layers P) false a ≡ within-record a

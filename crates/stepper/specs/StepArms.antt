@@ -1,12 +1,12 @@
 -- The ways of a step's dispatch that look beyond the event's parts, from what the code found to the step's answer.
 use mathlib.Core.Path.{_≡_, _∙_, ap}
-use mathlib.Core.List.{List, _∷_}
+use mathlib.Core.List.{List}
 use mathlib.Core.Option.{none}
 use Prim.Native.Nat.{ℕ, _≤_}
 use lib.ListN.{length}
-use Rattle.records.specs.Syntax.{equal, atom, called, unifier, call, exit, fail, redo, Event, event}
+use Rattle.records.specs.Syntax.{equal, atom, call, exit, fail, redo, Event, event}
 use Rattle.records.specs.HeadLaws.{Known}
-use Rattle.records.specs.Gate.{tree, read-event}
+use Rattle.records.specs.Gate.{tree}
 use Rattle.records.specs.Plan.{planned}
 use Rattle.records.specs.Places.{event-parts}
 use Rattle.records.specs.declared.plan.Emit.{Emit}

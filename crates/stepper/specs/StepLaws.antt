@@ -1,12 +1,11 @@
 -- What the code of a step inside a run rests on: each way of the dispatch gives the step's answer.
-use mathlib.Core.Path.{_≡_, refl, sym, _∙_, ap, subst}
-use mathlib.Core.Bool.{false}
-use mathlib.Core.List.{List, _∷_}
+use mathlib.Core.Path.{_≡_, refl, sym, _∙_, ap}
+use mathlib.Core.List.{List}
 use mathlib.Core.Option.{none}
 use Prim.Native.Nat.{ℕ, _≤_}
 use native.Mathlib.Omega.{arith}
 use lib.ListN.{length}
-use Rattle.records.specs.Syntax.{call, exit, fail, redo, Event, event, Definition}
+use Rattle.records.specs.Syntax.{Event, event, Definition}
 use Rattle.records.specs.Encode.{record-of}
 use Rattle.records.specs.Question.{matches, number}
 use Rattle.records.specs.HeadLaws.{Known, bytes-all}
@@ -15,14 +14,14 @@ use Rattle.records.specs.Plan.{planned, Within}
 use Rattle.records.specs.Places.{event-parts}
 use Rattle.records.specs.declared.plan.Emit.{Emit}
 use Rattle.stepper.specs.Machine.{Machine, IgnoresPort, Answer, refused, gives}
-use Rattle.stepper.specs.Rules.{fitting, rule, limited, step-forward, candidate, step-back}
+use Rattle.stepper.specs.Rules.{rule, step-forward, candidate, step-back}
 use Rattle.stepper.specs.Services.{record-limit, machine}
 use Rattle.stepper.specs.ServiceLaws.{read-recordable}
 use Rattle.stepper.specs.Desk.{layers, lawful}
 use Rattle.stepper.specs.View.{event-view}
 use Rattle.stepper.specs.Numbers.{forward-rule, back-rule}
 use Rattle.stepper.specs.RulePlans.{forward-plan, back-plan}
-use Rattle.stepper.specs.RuleNumbers.{PartsOf, rule-number, source-number, FromParts}
+use Rattle.stepper.specs.RuleNumbers.{PartsOf}
 use Rattle.stepper.specs.RulePlanLaws.{forward-numbered, forward-plans, back-numbered, back-plans}
 use Rattle.stepper.specs.LayoutLaws.{Plans}
 use Rattle.stepper.specs.NoRuleLaws.{no-rule, no-source, forward-none, back-none}
@@ -31,8 +30,6 @@ use Rattle.stepper.specs.Halves.{HalvesWhere, unlike-number}
 use Rattle.stepper.specs.FoundLaws.{Leaves, LeavesBack, Like, Not, LeadsOn, ComesFrom, forward-found, back-found}
 use Rattle.stepper.specs.LikeLaws.{halves-where, Half?, right, wrong, forward-half, back-half}
 use Rattle.stepper.specs.PutLaws.{forward-put, back-put, forward-refuses, back-refuses}
-use Rattle.stepper.specs.Sources.{Own}
-use Rattle.stepper.specs.Listed.{Rule}
 use Rattle.stepper.specs.OwnLaws.{made-own}
 use Rattle.stepper.specs.Stepped.{Stepped, Passed, EmittedUnless}
 use Rattle.stepper.specs.SteppedLaws.{stepped-refused, stepped-planned}

@@ -2,9 +2,7 @@
 use mathlib.Core.Path.{_≡_, refl, sym, _∙_}
 use mathlib.Core.Bool.{Bool, true, false}
 use mathlib.Core.List.{List}
-use mathlib.Core.Option.{none}
 use Prim.Native.Nat.{ℕ, _≤_}
-use native.Mathlib.Omega.{arith}
 use lib.Dec.{ltb}
 use lib.ListN.{length}
 use borrow.Author.Tests.{le-ltb, ltb-false}
@@ -16,7 +14,7 @@ use Rattle.records.specs.Plan.{planned}
 use Rattle.records.specs.Emitted.{Emitted, outcome}
 use Rattle.records.specs.declared.plan.Emit.{Emit}
 use Rattle.records.specs.declared.plan.Plan.{Plan}
-use Rattle.stepper.specs.Machine.{Answer, refused, gives}
+use Rattle.stepper.specs.Machine.{refused, gives}
 use Rattle.stepper.specs.Walk.{Direction}
 use Rattle.stepper.specs.Rules.{fitting, on-room, attempt, step}
 use Rattle.stepper.specs.Services.{too-long, record-limit, machine, reply, reading, step-answer, step-record}

@@ -1,12 +1,12 @@
--- What code tells of records: by the gate's number, that one is refused or accepted; by the bytes of an accepted event, that its goal is an
--- equality, whose sides part there, or an atom.
-use mathlib.Core.Path.{_≡_, refl, sym, ap, _∙_}
+-- What code tells of records: by the gate's number, that one is refused or accepted; by the bytes of an accepted event, the head of its goal,
+-- and where the left side of an equality ends.
+use mathlib.Core.Path.{_≡_, refl, ap}
 use mathlib.Core.List.{List}
 use native.Mathlib.Omega.{arith}
 use Prim.Native.Nat.{ℕ, _+_}
 use lib.ListN.{length}
-use Rattle.records.specs.Syntax.{Term, Terms, Goal, Ancestor, Bet, Port, Event, arity}
-use Rattle.records.specs.Syntax.Goal.{truth, failure, equal, conj, disj, atom}
+use Rattle.records.specs.Syntax.{Term, Goal, Ancestor, Bet, Port}
+use Rattle.records.specs.Syntax.Goal.{equal}
 use Rattle.records.specs.Syntax.Event.{event}
 use Rattle.records.specs.Encode.{term-bytes}
 use Rattle.records.specs.Formed.{TermFormed}
@@ -21,7 +21,6 @@ use Rattle.records.specs.Places.{event-parts}
 use Rattle.records.specs.Stands.{Stands, walk-term, head-of-goal, goal-stands}
 use Rattle.records.specs.Walk.{end-at, walk-end}
 use Rattle.records.specs.declared.ends.Found.the-variants.{At}
-use Rattle.records.specs.declared.heads.GoalHead.the-variants.{Equal, Atom}
 use Rattle.terms.specs.Accepted.{left-side}
 
 -- a number other than 0 is that of the question that refuses the record
@@ -60,53 +59,10 @@ pub term-ends : {s : List ℕ} {at e : ℕ} (t : Term) → TermFormed t → Stan
 unfolding end-at
 term-ends t f w = ap walk-end (walk-term t f w)
 
--- an event whose goal is an equality, and one whose goal is an atom of n arguments
-pub record EqualityEvent (e : Event) : Type 0 where
-  pub port : Port
-  pub left : Term
-  pub right : Term
-  pub ancestors : List Ancestor
-  pub bets : List Bet
-  pub is : e ≡ event port (equal left right) ancestors bets
-
-pub record AtomEvent (e : Event) (k n : ℕ) : Type 0 where
-  pub port : Port
-  pub terms : Terms
-  pub ancestors : List Ancestor
-  pub bets : List Bet
-  pub is : e ≡ event port (atom k terms) ancestors bets
-  pub many : arity terms ≡ n
-
--- by the head of its goal
-equality-by : (p : Port) (g : Goal) (u : List Ancestor) (b : List Bet) → head-of-goal g ≡ Equal → EqualityEvent (event p g u b)
-equality-by p (equal l r) u b e = record { port = p; left = l; right = r; ancestors = u; bets = b; is = refl }
-equality-by p truth u b e = absurd (let z : _≡_ {A = ℕ} 0 1 = cc in omega arith)
-equality-by p failure u b e = absurd (let z : _≡_ {A = ℕ} 0 1 = cc in omega arith)
-equality-by p (conj a c) u b e = absurd (let z : _≡_ {A = ℕ} 0 1 = cc in omega arith)
-equality-by p (disj a c) u b e = absurd (let z : _≡_ {A = ℕ} 0 1 = cc in omega arith)
-equality-by p (atom k ts) u b e = absurd (let z : _≡_ {A = ℕ} 0 1 = cc in omega arith)
-
-atom-by : (p : Port) (g : Goal) (u : List Ancestor) (b : List Bet) {k n : ℕ} → head-of-goal g ≡ Atom k n → AtomEvent (event p g u b) k n
-atom-by p (atom q ts) u b {k} {n} e =
-    let i : q ≡ k = cc in
-    let j : arity ts ≡ n = cc in
-    rw (← i) (record { port = p; terms = ts; ancestors = u; bets = b; is = refl; many = j })
-atom-by p (equal l r) u b e = absurd (let z : _≡_ {A = ℕ} 0 1 = cc in omega arith)
-atom-by p truth u b e = absurd (let z : _≡_ {A = ℕ} 0 1 = cc in omega arith)
-atom-by p failure u b e = absurd (let z : _≡_ {A = ℕ} 0 1 = cc in omega arith)
-atom-by p (conj a c) u b e = absurd (let z : _≡_ {A = ℕ} 0 1 = cc in omega arith)
-atom-by p (disj a c) u b e = absurd (let z : _≡_ {A = ℕ} 0 1 = cc in omega arith)
-
 module _ (s : List ℕ) (known : Known s) where
   -- the head at position 4 is the goal's
   pub goal-told : (p : Port) (g : Goal) (u : List Ancestor) (b : List Bet) → read-event s ≡ tree (event p g u b) → goal-head-at s 4 ≡ head-of-goal g
   goal-told p g u b e = let w = event-parts s known p g u b e in goal-stands g (w .formed .0) (w .goal-stands)
-
-  pub equality-told : (e : Event) → read-event s ≡ tree e → goal-head-at s 4 ≡ Equal → EqualityEvent e
-  equality-told (event p g u b) e h = equality-by p g u b (sym (goal-told p g u b e) ∙ h)
-
-  pub atom-told : (e : Event) → read-event s ≡ tree e → {k n : ℕ} → goal-head-at s 4 ≡ Atom k n → AtomEvent e k n
-  atom-told (event p g u b) e h = atom-by p g u b (sym (goal-told p g u b e) ∙ h)
 
   -- where the left side of an equality ends
   pub left-ends : {p : Port} {u : List Ancestor} {b : List Bet} (l r : Term) → read-event s ≡ tree (event p (equal l r) u b) → end-at s 5 1 0 ≡ At (5 + length (term-bytes l))

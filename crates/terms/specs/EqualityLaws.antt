@@ -2,14 +2,14 @@
 use mathlib.Core.Path.{_≡_, refl, sym, ap, _∙_}
 use mathlib.Core.Bool.{true, false}
 use mathlib.Core.List.{List}
-use mathlib.Core.Option.{none, some}
+use mathlib.Core.Option.{some}
 use native.Mathlib.Omega.{arith}
 use native.Mathlib.Numerals.{unary-clauses}
-use Prim.Native.Nat.{ℕ, _+_, _≤_, _<_}
+use Prim.Native.Nat.{ℕ, _≤_, _<_}
 use lib.ListN.{length, take, length-take}
 use borrow.Author.Tests.{le-leb, lt-leb}
 use Rattle.records.specs.Syntax.{Term, Binding, Bet}
-use Rattle.records.specs.Encode.{term-bytes, binding-bytes, counted}
+use Rattle.records.specs.Encode.{term-bytes}
 use Rattle.records.specs.Formed.{All, TermFormed, BetFormed}
 use Rattle.records.specs.Patched.{Put}
 use Rattle.records.specs.Range.{cut, size}
@@ -18,14 +18,11 @@ use Rattle.terms.specs.Substitution.{apply}
 use Rattle.terms.specs.SubstitutionLaws.{term-length-least}
 use Rattle.terms.specs.FormedLaws.{apply-formed}
 use Rattle.terms.specs.Unify.{unify}
-use Rattle.terms.specs.Outcome.{value-limit, value-under, Unified, too-large, clash, unified, outcome, outcome-of, unified-under}
-use Rattle.terms.specs.Laid.{IsValue}
+use Rattle.terms.specs.Outcome.{value-under, Unified, unified, outcome, outcome-of, unified-under}
 use Rattle.terms.specs.UnifierAnswer.{found-length, Unification, UnifierFits, UnifierPut}
 use Rattle.terms.specs.UnificationLaws.{not-found, found-one, exact-length, unifier-fits}
-use Rattle.terms.specs.Applied.{TermAt}
-use Rattle.terms.specs.BetRow.{Bets}
 use Rattle.terms.specs.Answered as applied
-use Rattle.terms.specs.Equality.{unifier-bytes, length-answer, answer-for, Answered, OneValue, Answers}
+use Rattle.terms.specs.Equality.{unifier-bytes, answer-for, Answered, OneValue}
 use Rattle.terms.specs.declared.unifier.Outcome.{Outcome}
 use Rattle.terms.specs.declared.substitute.Sized.{Sized}
 use Rattle.terms.specs.declared.substitute.Sized.the-variants.{Fits, TooLarge as TooLargeValue}

@@ -70,4 +70,3 @@ pub mod EqualityLaws
 pub mod Accepted
 pub mod Told
 pub mod AcceptedLaws
-pub mod UnifiedLaws

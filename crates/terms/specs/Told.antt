@@ -15,7 +15,7 @@ use Rattle.terms.specs.Outcome.{Unified, too-large, clash, unified}
 use Rattle.terms.specs.Body.{Body, too-many, undefined, defined}
 use Rattle.terms.specs.Applied.{put-stands}
 use Rattle.terms.specs.BodyBytes as bodies
-use Rattle.terms.specs.Equality.{unifier-bytes, length-answer, answer-for, Answered}
+use Rattle.terms.specs.Equality.{unifier-bytes, answer-for, Answered}
 use Rattle.terms.specs.declared.equality.UnifierAnswer.{UnifierAnswer}
 use Rattle.terms.specs.declared.equality.UnifierAnswer.the-variants.{TooLarge, Clash, Unifier, TooLong}
 use Rattle.terms.specs.declared.body.BodyAnswer.{BodyAnswer}

@@ -4,12 +4,13 @@ use crate::substitute::Sized;
 use crate::unifier::put_unifier;
 use crate::unifier::unify_values;
 use records::put::Range;
-ghost use Prim.Native.Nat.{_≤_};
+ghost use Prim.Native.Nat.{_+_, _*_, _≤_};
 ghost use lib.ListN.{length};
 ghost use Rattle.terms.specs.Applied.{TermAt};
 ghost use Rattle.terms.specs.BetRow.{Bets};
 ghost use mathlib.Core.Option.{some};
 ghost use Rattle.terms.specs.Outcome.{value-under, outcome-of, unified-under};
+ghost use Rattle.terms.specs.UnifierAnswer.{Unifiable};
 ghost use Rattle.terms.specs.Equality.{OneValue, Answered, Answers};
 
 // Question 8 says no, there is no unifier, its count and pairs have so many bytes, or they are too long for a record or the output.
@@ -20,17 +21,21 @@ pub enum UnifierAnswer {
     TooLong,
 }
 
-// The unifier of two values, its count and pairs written from the start of the output on. 5,462 nodes are enough for two values.
-fn write_unifier(a: &[u8], b: &[u8], out: &mut [u8]) -> UnifierAnswer
-    requires { ⌜ OneValue (now a) × OneValue (now b) ⌝ }
+// The unifier of two values, by tables that are lent, its count and pairs written from the start of the output on.
+fn unifier_in(
+    a: &[u8],
+    b: &[u8],
+    kind: &mut [usize],
+    number: &mut [usize],
+    next: &mut [usize],
+    rep: &mut [usize],
+    size: &mut [usize],
+    out: &mut [u8],
+) -> UnifierAnswer
+    requires { ⌜ Unifiable (now a) (now b) (now kind) (now number) (now next) (now rep) (now size) ⌝ }
     ensures { λ r. ⌜ Answers (now (a .entry)) (now (b .entry)) (now (out .entry)) (now (out .exit)) r ⌝ }
 {
-    let mut kind: [usize; 5462] = [0; 5462];
-    let mut number: [usize; 5462] = [0; 5462];
-    let mut next: [usize; 5462] = [0; 5462];
-    let mut rep: [usize; 5462] = [0; 5462];
-    let mut size: [usize; 5462] = [0; 5462];
-    let o = unify_values(a, b, &mut kind, &mut number, &mut next, &mut rep, &mut size);
+    let o = unify_values(a, b, kind, number, next, rep, size);
     if !o.found {
         return UnifierAnswer::Clash;
     }
@@ -40,8 +45,64 @@ fn write_unifier(a: &[u8], b: &[u8], out: &mut [u8]) -> UnifierAnswer
     if out.len() < o.length {
         return UnifierAnswer::TooLong;
     }
-    put_unifier(&kind, &number, &next, &rep, &size, o.nodes, out, 0);
+    put_unifier(kind, number, next, rep, size, o.nodes, out, 0);
     UnifierAnswer::Unifier(o.length)
+}
+
+// For values of at most 384 bytes together, which have at most 128 nodes: large tables would cost more than the rest of a step.
+fn unify_short(a: &[u8], b: &[u8], out: &mut [u8]) -> UnifierAnswer
+    requires { ⌜ OneValue (now a) × OneValue (now b) ⌝ }
+    requires { ⌜ length (now a) + length (now b) ≤ 384 ⌝ }
+    ensures { λ r. ⌜ Answers (now (a .entry)) (now (b .entry)) (now (out .entry)) (now (out .exit)) r ⌝ }
+{
+    let mut kind: [usize; 128] = [0; 128];
+    let mut number: [usize; 128] = [0; 128];
+    let mut next: [usize; 128] = [0; 128];
+    let mut rep: [usize; 128] = [0; 128];
+    let mut size: [usize; 128] = [0; 128];
+    unifier_in(
+        a,
+        b,
+        &mut kind,
+        &mut number,
+        &mut next,
+        &mut rep,
+        &mut size,
+        out,
+    )
+}
+
+// For any two values, which have at most 5,462 nodes.
+fn unify_long(a: &[u8], b: &[u8], out: &mut [u8]) -> UnifierAnswer
+    requires { ⌜ OneValue (now a) × OneValue (now b) ⌝ }
+    ensures { λ r. ⌜ Answers (now (a .entry)) (now (b .entry)) (now (out .entry)) (now (out .exit)) r ⌝ }
+{
+    let mut kind: [usize; 5462] = [0; 5462];
+    let mut number: [usize; 5462] = [0; 5462];
+    let mut next: [usize; 5462] = [0; 5462];
+    let mut rep: [usize; 5462] = [0; 5462];
+    let mut size: [usize; 5462] = [0; 5462];
+    unifier_in(
+        a,
+        b,
+        &mut kind,
+        &mut number,
+        &mut next,
+        &mut rep,
+        &mut size,
+        out,
+    )
+}
+
+fn write_unifier(a: &[u8], b: &[u8], out: &mut [u8]) -> UnifierAnswer
+    requires { ⌜ OneValue (now a) × OneValue (now b) ⌝ }
+    ensures { λ r. ⌜ Answers (now (a .entry)) (now (b .entry)) (now (out .entry)) (now (out .exit)) r ⌝ }
+{
+    if a.len() + b.len() <= 384 {
+        unify_short(a, b, out)
+    } else {
+        unify_long(a, b, out)
+    }
 }
 
 // The unifier of the value a and the value that the n bets at `bets` of the event give the term at one of its ranges.
@@ -51,15 +112,15 @@ fn unifier_with(
     n: usize,
     a: &[u8],
     right: Range,
+    table: &mut [usize],
     out: &mut [u8],
 ) -> UnifierAnswer
     requires { ⌜ Bets (now event) bets n ⌝ }
     requires { ⌜ TermAt (now event) (right .from) (right .to) ⌝ }
-    requires { ⌜ length (now event) ≤ 32768 ⌝ }
+    requires { ⌜ length (now event) ≤ 8 * length (now table) ⌝ }
     requires { ⌜ OneValue (now a) ⌝ }
     ensures { λ r. ⌜ ((p : Bets (now (event .entry)) bets n) (v : OneValue (now (a .entry))) (t : TermAt (now (event .entry)) (right .from) (right .to)) → Answered (now (out .entry)) (now (out .exit)) (outcome-of (some (v .value .term)) (value-under (p .bets) (t .term))) r) ⌝ }
 {
-    let mut table: [usize; 4096] = [0; 4096];
     let mut b: [u8; 8192] = [0; 8192];
     let mut work: [u8; 8192] = [0; 8192];
     let Sized::Fits(m) = apply_bets(
@@ -69,13 +130,85 @@ fn unifier_with(
         event,
         right.from,
         right.to,
-        &mut table,
+        table,
         &mut b,
         &mut work,
     ) else {
         return UnifierAnswer::TooLarge;
     };
     write_unifier(a, &b[..m], out)
+}
+
+// The unifier of the values that the n bets at `bets` of the event give the terms at two of its ranges. The table is for the bets' places.
+fn unifier_by(
+    event: &[u8],
+    bets: usize,
+    n: usize,
+    left: Range,
+    right: Range,
+    table: &mut [usize],
+    out: &mut [u8],
+) -> UnifierAnswer
+    requires { ⌜ Bets (now event) bets n ⌝ }
+    requires { ⌜ TermAt (now event) (left .from) (left .to) ⌝ }
+    requires { ⌜ TermAt (now event) (right .from) (right .to) ⌝ }
+    requires { ⌜ length (now event) ≤ 8 * length (now table) ⌝ }
+    ensures { λ r. ⌜ ((p : Bets (now (event .entry)) bets n) (s : TermAt (now (event .entry)) (left .from) (left .to)) (t : TermAt (now (event .entry)) (right .from) (right .to)) → Answered (now (out .entry)) (now (out .exit)) (unified-under (p .bets) (s .term) (t .term)) r) ⌝ }
+{
+    let mut a: [u8; 8192] = [0; 8192];
+    let mut work: [u8; 8192] = [0; 8192];
+    let Sized::Fits(k) = apply_bets(
+        event,
+        bets,
+        n,
+        event,
+        left.from,
+        left.to,
+        table,
+        &mut a,
+        &mut work,
+    ) else {
+        return UnifierAnswer::TooLarge;
+    };
+    unifier_with(event, bets, n, &a[..k], right, table, out)
+}
+
+// For an event of at most 2,048 bytes: a small table suffices.
+fn unifier_of_short(
+    event: &[u8],
+    bets: usize,
+    n: usize,
+    left: Range,
+    right: Range,
+    out: &mut [u8],
+) -> UnifierAnswer
+    requires { ⌜ Bets (now event) bets n ⌝ }
+    requires { ⌜ TermAt (now event) (left .from) (left .to) ⌝ }
+    requires { ⌜ TermAt (now event) (right .from) (right .to) ⌝ }
+    requires { ⌜ length (now event) ≤ 2048 ⌝ }
+    ensures { λ r. ⌜ ((p : Bets (now (event .entry)) bets n) (s : TermAt (now (event .entry)) (left .from) (left .to)) (t : TermAt (now (event .entry)) (right .from) (right .to)) → Answered (now (out .entry)) (now (out .exit)) (unified-under (p .bets) (s .term) (t .term)) r) ⌝ }
+{
+    let mut table: [usize; 256] = [0; 256];
+    unifier_by(event, bets, n, left, right, &mut table, out)
+}
+
+// For any event.
+fn unifier_of_long(
+    event: &[u8],
+    bets: usize,
+    n: usize,
+    left: Range,
+    right: Range,
+    out: &mut [u8],
+) -> UnifierAnswer
+    requires { ⌜ Bets (now event) bets n ⌝ }
+    requires { ⌜ TermAt (now event) (left .from) (left .to) ⌝ }
+    requires { ⌜ TermAt (now event) (right .from) (right .to) ⌝ }
+    requires { ⌜ length (now event) ≤ 32768 ⌝ }
+    ensures { λ r. ⌜ ((p : Bets (now (event .entry)) bets n) (s : TermAt (now (event .entry)) (left .from) (left .to)) (t : TermAt (now (event .entry)) (right .from) (right .to)) → Answered (now (out .entry)) (now (out .exit)) (unified-under (p .bets) (s .term) (t .term)) r) ⌝ }
+{
+    let mut table: [usize; 4096] = [0; 4096];
+    unifier_by(event, bets, n, left, right, &mut table, out)
 }
 
 // The unifier of the values that the n bets at `bets` of the event give the terms at two of its ranges.
@@ -93,21 +226,9 @@ pub fn unifier_under(
     requires { ⌜ length (now event) ≤ 32768 ⌝ }
     ensures { λ r. ⌜ ((p : Bets (now (event .entry)) bets n) (s : TermAt (now (event .entry)) (left .from) (left .to)) (t : TermAt (now (event .entry)) (right .from) (right .to)) → Answered (now (out .entry)) (now (out .exit)) (unified-under (p .bets) (s .term) (t .term)) r) ⌝ }
 {
-    let mut table: [usize; 4096] = [0; 4096];
-    let mut a: [u8; 8192] = [0; 8192];
-    let mut work: [u8; 8192] = [0; 8192];
-    let Sized::Fits(k) = apply_bets(
-        event,
-        bets,
-        n,
-        event,
-        left.from,
-        left.to,
-        &mut table,
-        &mut a,
-        &mut work,
-    ) else {
-        return UnifierAnswer::TooLarge;
-    };
-    unifier_with(event, bets, n, &a[..k], right, out)
+    if event.len() <= 2048 {
+        unifier_of_short(event, bets, n, left, right, out)
+    } else {
+        unifier_of_long(event, bets, n, left, right, out)
+    }
 }

@@ -1,22 +1,19 @@
 -- What a case of kind u comes to: the unifier of an event's equality under its bets, and the program's answer.
 use mathlib.Core.Path.{_≡_}
-use mathlib.Core.Bool.{Bool, true, false}
-use mathlib.Core.List.{List, [], _++_}
+use mathlib.Core.List.{List}
 use Prim.Native.Nat.{ℕ}
-use lib.Dec.{leb}
-use lib.ListN.{length, drop}
-use Rattle.records.specs.Syntax.{Term, Goal, Ancestor, Binding, Bet, Port, Event}
+use Rattle.records.specs.Syntax.{Term, Goal, Ancestor, Bet, Port, Event}
 use Rattle.records.specs.Syntax.Goal.{truth, failure, equal, conj, disj, atom}
 use Rattle.records.specs.Syntax.Event.{event}
-use Rattle.records.specs.Encode.{counted, binding-bytes}
 use Rattle.records.specs.Gate.{Reading, read-event}
 use Rattle.records.specs.Gate.Reading.{refused, tree}
 use Rattle.records.specs.Question.{Question, number}
 use Rattle.records.specs.Question.Question.{of-event}
-use Rattle.terms.specs.Outcome.{Unified, too-large, clash, unified, unified-under}
-use Rattle.terms.specs.UnifierAnswer.{written-length}
+use Rattle.terms.specs.Outcome.{Unified, unified-under}
+use Rattle.terms.specs.Equality.{Answered}
+use Rattle.terms.specs.declared.equality.UnifierAnswer.{UnifierAnswer}
 use Rattle.terms_cases.specs.declared.unify.Unifying.{Unifying}
-use Rattle.terms_cases.specs.declared.unify.Unifying.the-variants.{Refused, NoEquality, TooLarge, Clash, Long, Written}
+use Rattle.terms_cases.specs.declared.unify.Unifying.the-variants.{Refused, NoEquality, Answered as TheAnswer}
 
 -- a question refuses the event, its goal is no equality, or this is the equality's outcome
 pub data Equality : Type 0 where
@@ -51,36 +48,11 @@ pub record EqualityAt (s : List ℕ) : Type 0 where
 abbrev pub equality-event : {s : List ℕ} → EqualityAt s → Event
 equality-event q = event (q .port) (equal (q .left) (q .right)) (q .ancestors) (q .bets)
 
--- a unifier of up to 32,768 bytes is written, and the output has room for it
-abbrev pub fits : List Binding → Bool
-fits σ = leb (length (counted binding-bytes σ)) 32768
+-- the program's answer; without a unifier that fits, the output is as it was
+abbrev pub Reply : Equality → List ℕ → List ℕ → Unifying → Type 0
+Reply (no q) before after r = (r ≡ Refused (number q)) × (after ≡ before)
+Reply other before after r = (r ≡ NoEquality) × (after ≡ before)
+Reply (is u) before after r = (a : UnifierAnswer) × (r ≡ TheAnswer a) × Answered before after u a
 
--- the answer for a unifier, and the bytes written, by whether it fits
-abbrev pub unifier-answer : Bool → List Binding → Unifying
-unifier-answer true σ = Written (length (counted binding-bytes σ))
-unifier-answer false σ = Long (written-length σ)
-
-abbrev pub unifier-bytes : Bool → List Binding → List ℕ
-unifier-bytes true σ = counted binding-bytes σ
-unifier-bytes false σ = []
-
--- the program's answer
-unfoldable pub answer-for : Equality → Unifying
-answer-for (no q) = Refused (number q)
-answer-for other = NoEquality
-answer-for (is too-large) = TooLarge
-answer-for (is clash) = Clash
-answer-for (is (unified σ)) = unifier-answer (fits σ) σ
-
--- what it writes: the unifier where it fits, else nothing
-unfoldable pub bytes-for : Equality → List ℕ
-bytes-for (no q) = []
-bytes-for other = []
-bytes-for (is too-large) = []
-bytes-for (is clash) = []
-bytes-for (is (unified σ)) = unifier-bytes (fits σ) σ
-
--- both, the rest of the output being as it was
 pub record Replied (e : Equality) (before after : List ℕ) (r : Unifying) : Type 0 where
-  pub answer : r ≡ answer-for e
-  pub output : after ≡ bytes-for e ++ drop (length (bytes-for e)) before
+  pub reply : Reply e before after r

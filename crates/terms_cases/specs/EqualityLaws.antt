@@ -1,4 +1,4 @@
--- Laws of the event of a case of kind u: it is refused, its goal is no equality, or its sides and its bets are found.
+-- Laws of a case of kind u, in the order of the code: the event is refused, its goal is no equality, its sides and its bets are found, the unifier.
 use mathlib.Core.Path.{_≡_, refl, sym, ap, _∙_}
 use mathlib.Core.List.{List}
 use native.Mathlib.Omega.{arith}
@@ -22,16 +22,16 @@ use Rattle.terms.specs.Accepted.{bets-at, accepted-bets, left-side, right-side,
 use Rattle.terms.specs.AcceptedLaws.{event-refused, goal-told, left-ends}
 use Rattle.terms.specs.Applied.{TermAt}
 use Rattle.terms.specs.BetRow.{Bets}
-use Rattle.terms.specs.Outcome.{outcome, unified-under}
+use Rattle.terms.specs.Outcome.{unified-under}
+use Rattle.terms.specs.Equality.{Answered}
+use Rattle.terms.specs.declared.equality.UnifierAnswer.{UnifierAnswer}
 use Rattle.terms_cases.specs.Kinds.{kind-of}
-use Rattle.terms_cases.specs.Equalities.{other, is, goal-equality, equality-of, EqualityAt, equality-event, answer-for, bytes-for, Replied}
-use Rattle.terms_cases.specs.declared.unify.Unifying.{Unifying}
-use Rattle.terms_cases.specs.declared.unify.Unifying.the-variants.{Refused, NoEquality}
+use Rattle.terms_cases.specs.Equalities.{other, goal-equality, equality-of, EqualityAt, equality-event, Replied}
+use Rattle.terms_cases.specs.declared.unify.Unifying.the-variants.{Refused, NoEquality, Answered as TheAnswer}
 
 -- the event is refused
 pub refused-replied : {before : List ℕ} {k : ℕ} (r : Reading Event) → k ≡ event-number (verdict r) → (k ≡ 0 → ⊥) → Replied (equality-of r) before before (Refused k)
-unfolding answer-for bytes-for
-refused-replied r e h = let w = event-refused r e h in rw (w .reading) (record { answer = ap Refused (w .is); output = refl })
+refused-replied r e h = let w = event-refused r e h in rw (w .reading) (record { reply = (ap Refused (w .is), refl) })
 
 -- its goal is no equality
 other-goal : (g : Goal) (bets : List Bet) → (kind-of (head-of-goal g) ≡ 0x12 → ⊥) → goal-equality g bets ≡ other
@@ -52,11 +52,10 @@ equality-goal p (atom q ts) u bets h e = absurd (omega arith)
 
 module _ (s : List ℕ) (known : Known s) (e : Event) (read : read-event s ≡ tree e) where
   pub other-replied : {before : List ℕ} → (kind-of (goal-head-at s 4) ≡ 0x12 → ⊥) → Replied (equality-of (read-event s)) before before NoEquality
-  unfolding answer-for bytes-for
   other-replied {before} h = go e read
     where
       go : (e : Event) → read-event s ≡ tree e → Replied (equality-of (read-event s)) before before NoEquality
-      go (event p g u bets) i = rw (i, other-goal g bets (rw (goal-told s known p g u bets i) at h)) (record { answer = refl; output = refl })
+      go (event p g u bets) i = rw (i, other-goal g bets (rw (goal-told s known p g u bets i) at h)) (record { reply = (refl, refl) })
 
   pub equality-found : kind-of (goal-head-at s 4) ≡ 0x12 → EqualityAt s
   equality-found h = go e read
@@ -108,7 +107,7 @@ module _ {s : List ℕ} (known : Known s) (q : EqualityAt s) {places : Places} (
       lost : {P : Type 0} {e : ℕ} → At e ≡ Nothing → P
       lost e = absurd (let z : _≡_ {A = ℕ} 0 1 = cc in omega arith)
 
--- the outcome for its sides is the event's
-pub event-replied : {s : List ℕ} (q : EqualityAt s) {before after : List ℕ} {r : Unifying} → Replied (is (unified-under (q .bets) (q .left) (q .right))) before after r
-    → Replied (equality-of (read-event s)) before after r
-event-replied q w = rw (q .read) w
+-- the unifier of its sides is the answer for the event
+pub unifier-replied : {s : List ℕ} (q : EqualityAt s) {before after : List ℕ} {a : UnifierAnswer} → Answered before after (unified-under (q .bets) (q .left) (q .right)) a
+    → Replied (equality-of (read-event s)) before after (TheAnswer a)
+unifier-replied q {a = a} w = rw (q .read) (record { reply = (a, refl, w) })

@@ -2,6 +2,5 @@ pub mod Fields
 pub mod Kinds
 pub mod Equalities
 pub mod EqualityLaws
-pub mod UnifierLaws
 pub mod Bodies
 pub mod BodyLaws

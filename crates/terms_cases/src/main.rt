@@ -1,7 +1,7 @@
 // Puts cases from standard input to the crate terms, and prints a line for each: its ordinal from 1, its kind, the answer.
 // A case is a kind byte and fields; a field is a four-byte length, high byte first, and that many bytes.
 // v: an event, and a variable's number with the length of the output, two bytes each. The number of the value service and, where it is 0, S(v).
-// u: an event, whose goal is an equality. 11 to 14, other, 8, none, long and a length, or 0 and the unifier's count and pairs.
+// u: an event, whose goal is an equality. 11 to 14, other, 8, none, long, or 0 and the unifier's count and pairs.
 // b: a program and an event, whose goal is an atom. 1 to 4, 11 to 14, other, 9, none, long, or 0 and the body.
 mod body;
 mod input;

@@ -4,6 +4,7 @@ use crate::input::wide;
 use crate::unify::Unifying;
 use records::plan::Emit;
 use terms::body::BodyAnswer;
+use terms::equality::UnifierAnswer;
 
 // The 32-bit FNV-1a checksum.
 fn checksum(bytes: &[u8]) -> u64 {
@@ -67,6 +68,21 @@ pub fn print_value(ordinal: u64, emit: Emit, out: &[u8]) {
     print_end();
 }
 
+fn print_unifier_answer(answer: UnifierAnswer, out: &[u8]) {
+    match answer {
+        UnifierAnswer::TooLarge => {
+            io::write_all(1, b"8");
+        }
+        UnifierAnswer::Clash => {
+            io::write_all(1, b"none");
+        }
+        UnifierAnswer::TooLong => {
+            io::write_all(1, b"long");
+        }
+        UnifierAnswer::Unifier(n) => print_answer(out, n),
+    }
+}
+
 pub fn print_unifier(ordinal: u64, answer: Unifying, out: &[u8]) {
     print_start(ordinal, b'u');
     match answer {
@@ -76,17 +92,7 @@ pub fn print_unifier(ordinal: u64, answer: Unifying, out: &[u8]) {
         Unifying::NoEquality => {
             io::write_all(1, b"other");
         }
-        Unifying::TooLarge => {
-            io::write_all(1, b"8");
-        }
-        Unifying::Clash => {
-            io::write_all(1, b"none");
-        }
-        Unifying::Long(length) => {
-            io::write_all(1, b"long ");
-            io::print_decimal(1, length as u64);
-        }
-        Unifying::Written(n) => print_answer(out, n),
+        Unifying::Answered(unifier) => print_unifier_answer(unifier, out),
     }
     print_end();
 }

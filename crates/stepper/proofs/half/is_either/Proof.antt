@@ -2,15 +2,11 @@ use Rattle.stepper.specs.Halves.{either}
 use borrow.Author.Tests.{eq-eqb, ne-eqb}
 use Rattle.stepper.proofs.half.is_either.Statement.{statement}
 use Rattle.stepper.proofs.half.is_either.Tie as tie
-use Rattle.stepper.proofs.half.is_either.Reads as reads
-use Rattle.stepper.proofs.half.is_either.Lts as lts
 
--- src/half.rt:32:1
 returns : tie.Need-returns
 unfolding either
 returns c = simp (eq-eqb _ _ (c .if1 .taken))
 
--- src/half.rt:32:1
 returns-2 : tie.Need-returns-2
 unfolding either
 returns-2 c = simp (ne-eqb _ _ (c .if1 .left))

@@ -7,57 +7,41 @@ use native.Mathlib.Omega.{arith}
 use borrow.Author.Needs.{needs}
 use Rattle.stepper.proofs.run.run.Statement.{statement}
 use Rattle.stepper.proofs.run.run.Tie as tie
-use Rattle.stepper.proofs.run.run.Reads as reads
-use Rattle.stepper.proofs.run.run.Lts as lts
-use Rattle.records.proofs.put.put_range.Reads as put-range-reads
-use Rattle.stepper.proofs.run.run_on.Reads as run-on-reads
-use Rattle.stepper.proofs.service.gate.Reads as gate-reads
 
--- src/run.rt:103:9
 gate-requires : tie.Need-gate-requires
 gate-requires c κs = search needs
 
--- src/run.rt:105:9
 returns : tie.Need-returns
 returns c =
     run-gate-refused (direction (c .before .before .before .before .before .args .back)) (c .before .before .before .before .before .args .steps) _ _ _ (c .before .gate .ensures) (λ z. omega arith)
 
--- src/run.rt:113:27
 slice-aggregate-put-range : tie.Need-slice-aggregate-put-range
 slice-aggregate-put-range c = search needs
 
--- src/run.rt:113:9
 put-range-requires : tie.Need-put-range-requires
 put-range-requires c κs =
     let w = gate-passed _ _ (sym (c .before .before .gate .ensures) ∙ omega arith) in let l = event-short _ (c .before .before .before .before .shared-slice-known2 .given) (w .0 .reads) in (whole-range _, omega arith)
 
--- src/run.rt:114:29
 slice-aggregate-run-on : tie.Need-slice-aggregate-run-on
 slice-aggregate-run-on c = search needs
 
--- src/run.rt:114:47
 slice-aggregate-run-on-2 : tie.Need-slice-aggregate-run-on-2
 slice-aggregate-run-on-2 c = search needs
 
--- src/run.rt:114:9
 run-on-requires : tie.Need-run-on-requires
 run-on-requires c κs =
     let w = gate-passed _ _ (sym (c .before .before .before .before .before .before .gate .ensures) ∙ omega arith) in let l = event-short _ (c .before .before .before .before .before .before .before .before .shared-slice-known2 .given) (w .0 .reads) in (moved-passed (w .0) (c .before .before .before .put-range .ensures) (omega arith), (moved-inside (w .0) (c .before .before .before .put-range .ensures) (omega arith) (search needs), (search needs, search needs)))
 
--- src/run.rt:119:23
 slice-aggregate-put-range-2 : tie.Need-slice-aggregate-put-range-2
 slice-aggregate-put-range-2 c = search needs
 
--- src/run.rt:119:5
 put-range-requires-2 : tie.Need-put-range-requires-2
 put-range-requires-2 c κs =
     let w = gate-passed _ _ (sym (c .before .before .before .before .before .before .before .before .before .before .before .gate .ensures) ∙ omega arith) in let l = event-short _ (c .before .before .before .before .before .before .before .before .before .before .before .before .before .shared-slice-known2 .given) (w .0 .reads) in reached-range (direction (c .before .before .before .before .before .before .before .before .before .before .before .before .before .before .before .args .back)) (c .before .before .before .before .before .before .before .before .before .before .before .before .before .before .before .args .steps) (c .before .before .before .before .before .before .before .before .before .before .before .before .before .before .shared-slice-known .given) (c .before .before .before .before .before .before .before .before .before .before .before .before .before .shared-slice-known2 .given) (w .0) (c .before .before .before .before .before .before .before .before .before .before .before .before .before .before .before .args .out .now) (w .1) (c .before .before .before .before .run-on .ensures (moved-passed (w .0) (c .before .before .before .before .before .before .before .before .put-range .ensures) (omega arith)))
 
--- src/run.rt:100:1
 same-length : tie.Need-same-length
 same-length c = search needs
 
--- src/run.rt:100:1
 returns-2 : tie.Need-returns-2
 returns-2 c =
     let w = gate-passed _ _ (sym (c .before .before .before .before .before .before .before .before .before .before .before .before .before .before .gate .ensures) ∙ omega arith) in let l = event-short _ (c .before .before .before .before .before .before .before .before .before .before .before .before .before .before .before .before .shared-slice-known2 .given) (w .0 .reads) in run-written (direction (c .before .before .before .before .before .before .before .before .before .before .before .before .before .before .before .before .before .before .args .back)) (c .before .before .before .before .before .before .before .before .before .before .before .before .before .before .before .before .before .before .args .steps) (c .before .before .before .before .before .before .before .before .before .before .before .before .before .before .before .before .before .shared-slice-known .given) (c .before .before .before .before .before .before .before .before .before .before .before .before .before .before .before .before .shared-slice-known2 .given) (w .0) (c .before .before .before .before .before .before .before .before .before .before .before .before .before .before .before .before .before .before .args .out .now) (w .1) (c .before .before .before .before .before .before .before .run-on .ensures (moved-passed (w .0) (c .before .before .before .before .before .before .before .before .before .before .before .put-range .ensures) (omega arith))) (c .before .before .put-range2 .ensures)

@@ -6,13 +6,10 @@ use Rattle.stepper.specs.Services.{machine}
 use borrow.Author.Needs.{needs}
 use lib.ListN.{length, take}
 use Prim.Native.Nat.{_-_, _≤_}
-use mathlib.Core.Path.{_≡_, refl, _∙_}
+use mathlib.Core.Path.{_≡_, refl}
 use native.Mathlib.Omega.{arith}
 use Rattle.stepper.proofs.run.run_on.Statement.{statement}
 use Rattle.stepper.proofs.run.run_on.Tie as tie
-use Rattle.stepper.proofs.run.run_on.Reads as reads
-use Rattle.stepper.proofs.run.run_on.Lts as lts
-use Rattle.stepper.proofs.run.turn.Reads as turn-reads
 
 abbrev Inv-loop : tie.InvT-loop
 Inv-loop program here₀ start there₀ steps back len₀ taken₀ here there len taken =
@@ -22,51 +19,40 @@ Inv-loop program here₀ start there₀ steps back len₀ taken₀ here there le
 abbrev μ-loop : tie.MeasureT-loop
 μ-loop program here₀ start there₀ steps back len₀ taken₀ here there len taken = steps - taken
 
--- src/run.rt:80:5
 loop-holds : tie.Need-loop-holds Inv-loop μ-loop
 loop-holds c =
     (λ w. midway-start (c .before .before .shared-slice-known .given) _ _ (c .before .slice-known .given) w (c .before .before .before .pre .1 .0), omega arith, refl, refl)
 
--- src/run.rt:81:13
 turn-requires : tie.Need-turn-requires Inv-loop μ-loop
 turn-requires c κs =
     let w = c .before .before .before .before .before .before .before .pre .0 in let m = c .before .before .before .loop .inv .0 w in (midway-passed (c .before .before .before .before .before .before .shared-slice-known .given) _ _ w m, (m .front .inside, (omega (arith, c .before .before .before .loop .inv .2, c .before .before .before .before .before .before .before .pre .1 .1 .0), omega (arith, c .before .before .before .loop .inv .3, c .before .before .before .before .before .before .before .pre .1 .1 .1))))
 
--- src/run.rt:83:13
 same-length : tie.Need-same-length Inv-loop μ-loop
 same-length c = search needs
 
--- src/run.rt:83:13
 same-length-2 : tie.Need-same-length-2 Inv-loop μ-loop
 same-length-2 c = search needs
 
--- src/run.rt:83:13
 returns : tie.Need-returns Inv-loop μ-loop
 returns c =
     λ w. let b = c .before .before .before .before .before .before .before .before .before .before .before .before .before .shared-slice-known .given in let m = c .before .before .before .before .before .before .before .before .before .before .loop .inv .0 w in midway-stopped b _ _ w m (c .before .before .before .before .before .before .turn .ensures (midway-passed b _ _ w m)) (λ z. omega arith) (omega arith)
 
--- src/run.rt:90:9
 add-taken : tie.Need-add-taken Inv-loop μ-loop
 add-taken c = omega arith
 
--- src/run.rt:80:5
 loop-less : tie.Need-loop-less Inv-loop μ-loop
 loop-less c = omega arith
 
--- src/run.rt:80:5
 loop-again : tie.Need-loop-again Inv-loop μ-loop
 loop-again c =
     (λ w. let b = c .before .before .before .before .before .before .before .before .before .before .before .before .before .shared-slice-known .given in let m = c .before .before .before .before .before .before .before .before .before .before .loop .inv .0 w in midway-on b _ _ w m (c .before .before .before .before .before .before .turn .ensures (midway-passed b _ _ w m)) (omega arith) (omega arith), omega arith, search needs, search needs)
 
--- src/run.rt:64:1
 same-length-3 : tie.Need-same-length-3 Inv-loop μ-loop
 same-length-3 c = c .before .loop .inv .2
 
--- src/run.rt:64:1
 same-length-4 : tie.Need-same-length-4 Inv-loop μ-loop
 same-length-4 c = c .before .loop .inv .3
 
--- src/run.rt:64:1
 returns-2 : tie.Need-returns-2 Inv-loop μ-loop
 returns-2 c =
     λ w. midway-done (c .before .before .before .before .shared-slice-known .given) _ _ w (c .before .loop .inv .0 w) (omega arith) (c .before .loop .inv .1)

@@ -1,35 +1,24 @@
-use Rattle.stepper.specs.Running.{direction}
 use Rattle.stepper.specs.Rules.{step}
 use borrow.Author.Needs.{needs}
 use Rattle.stepper.proofs.run.step_on.Statement.{statement}
 use Rattle.stepper.proofs.run.step_on.Tie as tie
-use Rattle.stepper.proofs.run.step_on.Reads as reads
-use Rattle.stepper.proofs.run.step_on.Lts as lts
-use Rattle.stepper.proofs.step.next_event.Reads as next-event-reads
-use Rattle.stepper.proofs.step.source_event.Reads as source-event-reads
 
--- src/run.rt:37:9
 source-event-requires : tie.Need-source-event-requires
 source-event-requires c κs = search needs
 
--- src/run.rt:39:9
 next-event-requires : tie.Need-next-event-requires
 next-event-requires c κs = search needs
 
--- src/run.rt:31:1
 same-length : tie.Need-same-length
 same-length c = search needs
 
--- src/run.rt:31:1
 returns : tie.Need-returns
 unfolding step
 returns c = λ w. rw (c .before .before .before .before .if1 .taken) (c .before .before .source-event .ensures w)
 
--- src/run.rt:31:1
 same-length-2 : tie.Need-same-length-2
 same-length-2 c = search needs
 
--- src/run.rt:31:1
 returns-2 : tie.Need-returns-2
 unfolding step
 returns-2 c = λ w. rw (c .before .before .before .before .if1 .left) (c .before .before .next-event .ensures w)

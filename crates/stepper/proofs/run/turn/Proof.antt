@@ -7,49 +7,35 @@ use native.Mathlib.Omega.{arith}
 use borrow.Author.Needs.{needs}
 use Rattle.stepper.proofs.run.turn.Statement.{statement}
 use Rattle.stepper.proofs.run.turn.Tie as tie
-use Rattle.stepper.proofs.run.turn.Reads as reads
-use Rattle.stepper.proofs.run.turn.Lts as lts
-use Rattle.records.proofs.put.put_range.Reads as put-range-reads
-use Rattle.stepper.proofs.run.step_on.Reads as step-on-reads
 
--- src/run.rt:51:33
 slice-reshare-prefix-step-on : tie.Need-slice-reshare-prefix-step-on
 slice-reshare-prefix-step-on c = search needs
 
--- src/run.rt:51:33
 slice-aggregate-step-on : tie.Need-slice-aggregate-step-on
 slice-aggregate-step-on c = sym (length-take-le _ _ (c .before .before .before .before .pre .1 .0))
 
--- src/run.rt:51:9
 step-on-requires : tie.Need-step-on-requires
 step-on-requires c κs = search needs
 
--- src/run.rt:53:9
 same-length : tie.Need-same-length
 same-length c = search needs
 
--- src/run.rt:53:9
 same-length-2 : tie.Need-same-length-2
 same-length-2 c = search needs
 
--- src/run.rt:53:9
 returns : tie.Need-returns
 returns c = λ w. turn-refused (c .before .before .before .before .step-on .ensures w) (λ z. omega arith)
 
--- src/run.rt:59:5
 put-range-requires : tie.Need-put-range-requires
 put-range-requires c κs =
     let w = c .before .before .before .before .before .before .before .before .before .before .before .before .pre .0 in let here = c .before .before .before .before .before .before .before .before .before .before .before .before .args .here .now in turn-range (c .before .before .before .before .before .before .step-on .ensures w) (omega arith) (λ d e. limit-fits d (next-recordable (c .before .before .before .before .before .before .before .before .before .before .before .shared-slice-known .given) (bytes-take (c .before .before .before .before .before .before .before .before .before .before .before .before .args .len) here (bytes-all here (c .before .before .before .before .before .before .before .before .before .before .slice-known .given))) w _ d e .1)) (c .before .before .before .before .before .before .before .before .before .before .before .before .pre .1 .1 .1) here (c .before .before .before .before .before .before .before .before .before .before .before .before .pre .1 .1 .0)
 
--- src/run.rt:44:1
 same-length-3 : tie.Need-same-length-3
 same-length-3 c = search needs
 
--- src/run.rt:44:1
 same-length-4 : tie.Need-same-length-4
 same-length-4 c = search needs
 
--- src/run.rt:44:1
 returns-2 : tie.Need-returns-2
 returns-2 c =
     λ w. let here = c .before .before .before .before .before .before .before .before .before .before .before .before .before .before .before .args .here .now in turn-moved (c .before .before .before .before .before .before .before .before .before .step-on .ensures w) (omega arith) (λ d e. limit-fits d (next-recordable (c .before .before .before .before .before .before .before .before .before .before .before .before .before .before .shared-slice-known .given) (bytes-take (c .before .before .before .before .before .before .before .before .before .before .before .before .before .before .before .args .len) here (bytes-all here (c .before .before .before .before .before .before .before .before .before .before .before .before .before .slice-known .given))) w _ d e .1)) (c .before .before .before .before .before .before .before .before .before .before .before .before .before .before .before .pre .1 .1 .1) (c .before .before .before .before .before .before .before .before .before .before .before .before .before .before .before .pre .1 .1 .0) (c .before .before .put-range .ensures)

@@ -2,70 +2,51 @@ use Rattle.stepper.specs.SameLaws.{under-atom, whole-goal, body-beyond, 
 use Rattle.stepper.specs.SettledLaws.{body-told-as}
 use Rattle.stepper.specs.LayoutLaws.{cuts}
 use Rattle.terms.specs.Accepted.{accepted-program}
-use native.Mathlib.Omega.{arith}
 use borrow.Author.Needs.{needs}
 use Rattle.stepper.proofs.same.same_body.Statement.{statement}
 use Rattle.stepper.proofs.same.same_body.Tie as tie
-use Rattle.stepper.proofs.same.same_body.Reads as reads
-use Rattle.stepper.proofs.same.same_body.Lts as lts
-use Rattle.stepper.proofs.same.ancestor_frame.Reads as ancestor-frame-reads
-use Rattle.stepper.proofs.same.same_front.Reads as same-front-reads
-use Rattle.terms.proofs.body.atom_body.Reads as atom-body-reads
 
--- src/same.rt:79:37
 ancestor-frame-requires : tie.Need-ancestor-frame-requires
 ancestor-frame-requires c κs = search needs
 
--- src/same.rt:79:56
 slice-aggregate-atom-body : tie.Need-slice-aggregate-atom-body
 slice-aggregate-atom-body c = search needs
 
--- src/same.rt:79:11
 atom-body-requires : tie.Need-atom-body-requires
 atom-body-requires c κs =
     let b = c .before .before .before .shared-slice-known .given in let k = c .before .before .shared-slice-known2 .given in let d = c .before .before .before .before .pre .0 in (accepted-program _ b (d .definitions) (d .reads), rw (c .before .ancestor-frame .ensures) (under-atom b k d (c .before .before .before .before .pre .1)))
 
--- src/same.rt:80:32
 enum-told : tie.Need-enum-told
 enum-told c = search needs
 
--- src/same.rt:81:34
 enum-told-2 : tie.Need-enum-told-2
 enum-told-2 c = search needs
 
--- src/same.rt:82:29
 enum-known-n : tie.Need-enum-known-n
 enum-known-n c = search needs
 
--- src/same.rt:82:46
 slice-aggregate-same-front : tie.Need-slice-aggregate-same-front
 slice-aggregate-same-front c = search needs
 
--- src/same.rt:82:35
 same-front-requires : tie.Need-same-front-requires
 same-front-requires c κs =
     let b = c .before .before .before .before .before .before .before .before .before .shared-slice-known .given in let k = c .before .before .before .before .before .before .before .before .shared-slice-known2 .given in let d = c .before .before .before .before .before .before .before .before .before .before .pre .0 in let w = c .before .before .before .before .before .before .before .before .before .before .pre .1 in let h = body-told-as ((rw (c .before .before .before .before .before .before .before .ancestor-frame .ensures) at (c .before .before .before .before .before .atom-body .ensures)) (accepted-program _ b (d .definitions) (d .reads)) (under-atom b k d w)) (search needs) (c .before .before .n .given .1) in (cuts (h .stands) (h .inside) .inside, whole-goal b k d w .inside)
 
--- src/same.rt:83:32
 enum-told-3 : tie.Need-enum-told-3
 enum-told-3 c = search needs
 
--- src/same.rt:69:1
 returns : tie.Need-returns
 returns c =
     λ d w. let b = c .before .before .before .before .before .before .before .shared-slice-known .given in let k = c .before .before .before .before .before .before .shared-slice-known2 .given in body-beyond b k d w (body-told-as ((rw (c .before .before .before .before .before .ancestor-frame .ensures) at (c .before .before .before .atom-body .ensures)) (accepted-program _ b (d .definitions) (d .reads)) (under-atom b k d w)) (search needs) (c .enum-told .given .1))
 
--- src/same.rt:69:1
 returns-2 : tie.Need-returns-2
 returns-2 c =
     λ d w. let b = c .before .before .before .before .before .before .before .shared-slice-known .given in let k = c .before .before .before .before .before .before .shared-slice-known2 .given in body-missing b k d w (body-told-as ((rw (c .before .before .before .before .before .ancestor-frame .ensures) at (c .before .before .before .atom-body .ensures)) (accepted-program _ b (d .definitions) (d .reads)) (under-atom b k d w)) (search needs) (c .enum-told2 .given .1))
 
--- src/same.rt:69:1
 returns-3 : tie.Need-returns-3
 returns-3 c =
     λ d w. let b = c .before .before .before .before .before .before .before .before .before .before .shared-slice-known .given in let k = c .before .before .before .before .before .before .before .before .before .shared-slice-known2 .given in body-same b k d w (body-told-as ((rw (c .before .before .before .before .before .before .before .before .ancestor-frame .ensures) at (c .before .before .before .before .before .before .atom-body .ensures)) (accepted-program _ b (d .definitions) (d .reads)) (under-atom b k d w)) (search needs) (c .before .before .before .n .given .1)) (c .same-front .ensures)
 
--- src/same.rt:69:1
 returns-4 : tie.Need-returns-4
 returns-4 c =
     λ d w. let b = c .before .before .before .before .before .before .before .shared-slice-known .given in let k = c .before .before .before .before .before .before .shared-slice-known2 .given in body-long b k d w (search needs) (body-told-as ((rw (c .before .before .before .before .before .ancestor-frame .ensures) at (c .before .before .before .atom-body .ensures)) (accepted-program _ b (d .definitions) (d .reads)) (under-atom b k d w)) (search needs) (c .enum-told3 .given .1))

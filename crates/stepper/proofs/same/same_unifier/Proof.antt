@@ -1,65 +1,48 @@
 use Rattle.stepper.specs.SameLaws.{rest-bets, unifier-left, unifier-right, top-unifier, unifier-large, unifier-clash, unifier-same, unifier-long}
 use Rattle.stepper.specs.SettledLaws.{told-as, event-short}
 use Rattle.stepper.specs.LayoutLaws.{cuts}
-use native.Mathlib.Omega.{arith}
 use borrow.Author.Needs.{needs}
 use Rattle.stepper.proofs.same.same_unifier.Statement.{statement}
 use Rattle.stepper.proofs.same.same_unifier.Tie as tie
-use Rattle.stepper.proofs.same.same_unifier.Reads as reads
-use Rattle.stepper.proofs.same.same_unifier.Lts as lts
-use Rattle.stepper.proofs.same.same_front.Reads as same-front-reads
-use Rattle.terms.proofs.equality.unifier_under.Reads as unifier-under-reads
 
--- src/same.rt:47:72
 slice-aggregate-unifier-under : tie.Need-slice-aggregate-unifier-under
 slice-aggregate-unifier-under c = search needs
 
--- src/same.rt:47:11
 unifier-under-requires : tie.Need-unifier-under-requires
 unifier-under-requires c κs =
     let k = c .before .shared-slice-known .given in let w = c .before .before .pre in (rest-bets k w, (unifier-left k w, (unifier-right k w, event-short _ k (w .reads))))
 
--- src/same.rt:48:36
 enum-told : tie.Need-enum-told
 enum-told c = search needs
 
--- src/same.rt:49:33
 enum-told-2 : tie.Need-enum-told-2
 enum-told-2 c = search needs
 
--- src/same.rt:50:32
 enum-known-n : tie.Need-enum-known-n
 enum-known-n c = search needs
 
--- src/same.rt:50:49
 slice-aggregate-same-front : tie.Need-slice-aggregate-same-front
 slice-aggregate-same-front c = search needs
 
--- src/same.rt:50:38
 same-front-requires : tie.Need-same-front-requires
 same-front-requires c κs =
     let k = c .before .before .before .before .before .before .before .shared-slice-known .given in let w = c .before .before .before .before .before .before .before .before .pre in let h = told-as (c .before .before .before .before .before .unifier-under .ensures (rest-bets k w) (unifier-left k w) (unifier-right k w)) (search needs) (c .before .before .n .given .1) in (cuts (h .stands) (h .inside) .inside, top-unifier k w .inside)
 
--- src/same.rt:51:35
 enum-told-3 : tie.Need-enum-told-3
 enum-told-3 c = search needs
 
--- src/same.rt:30:1
 returns : tie.Need-returns
 returns c =
     λ w. let k = c .before .before .before .before .before .shared-slice-known .given in unifier-large k w (told-as (c .before .before .before .unifier-under .ensures (rest-bets k w) (unifier-left k w) (unifier-right k w)) (search needs) (c .enum-told .given .1))
 
--- src/same.rt:30:1
 returns-2 : tie.Need-returns-2
 returns-2 c =
     λ w. let k = c .before .before .before .before .before .shared-slice-known .given in unifier-clash k w (told-as (c .before .before .before .unifier-under .ensures (rest-bets k w) (unifier-left k w) (unifier-right k w)) (search needs) (c .enum-told2 .given .1))
 
--- src/same.rt:30:1
 returns-3 : tie.Need-returns-3
 returns-3 c =
     λ w. let k = c .before .before .before .before .before .before .before .before .shared-slice-known .given in unifier-same k w (told-as (c .before .before .before .before .before .before .unifier-under .ensures (rest-bets k w) (unifier-left k w) (unifier-right k w)) (search needs) (c .before .before .before .n .given .1)) (c .same-front .ensures)
 
--- src/same.rt:30:1
 returns-4 : tie.Need-returns-4
 returns-4 c =
     λ w. let k = c .before .before .before .before .before .shared-slice-known .given in unifier-long k w (search needs) (told-as (c .before .before .before .unifier-under .ensures (rest-bets k w) (unifier-left k w) (unifier-right k w)) (search needs) (c .enum-told3 .given .1))

@@ -5,44 +5,30 @@ use mathlib.Core.Path.{ap, _∙_}
 use borrow.Author.Needs.{needs}
 use Rattle.stepper.proofs.service.gate.Statement.{statement}
 use Rattle.stepper.proofs.service.gate.Tie as tie
-use Rattle.stepper.proofs.service.gate.Reads as reads
-use Rattle.stepper.proofs.service.gate.Lts as lts
-use Rattle.records.proofs.gate.event_number.Reads as event-number-reads
-use Rattle.records.proofs.gate.event_verdict.Reads as event-verdict-reads
-use Rattle.records.proofs.gate.program_number.Reads as program-number-reads
-use Rattle.records.proofs.gate.program_verdict.Reads as program-verdict-reads
 
--- src/service.rt:19:28
 program-verdict-requires : tie.Need-program-verdict-requires
 program-verdict-requires c κs = search needs
 
--- src/service.rt:19:9
 program-number-requires : tie.Need-program-number-requires
 program-number-requires c κs = search needs
 
--- src/service.rt:21:9
 returns : tie.Need-returns
 returns c = gate-program _ _ _ (c .before .program-number .ensures ∙ ap program-number (c .before .before .program-verdict .ensures)) (λ z. omega arith)
 
--- src/service.rt:23:26
 event-verdict-requires : tie.Need-event-verdict-requires
 event-verdict-requires c κs = search needs
 
--- src/service.rt:23:9
 event-number-requires : tie.Need-event-number-requires
 event-number-requires c κs = search needs
 
--- src/service.rt:25:9
 returns-2 : tie.Need-returns-2
 returns-2 c =
     gate-event _ _ _ (c .before .before .before .before .program-number .ensures ∙ ap program-number (c .before .before .before .before .before .program-verdict .ensures)) (omega arith) (c .before .event-number .ensures ∙ ap event-number (c .before .before .event-verdict .ensures)) (λ z. omega arith)
 
--- src/service.rt:16:1
 returns-3 : tie.Need-returns-3
 returns-3 c =
     gate-short _ _ _ (c .before .before .before .before .before .program-number .ensures ∙ ap program-number (c .before .before .before .before .before .before .program-verdict .ensures)) (omega arith) (c .before .before .event-number .ensures ∙ ap event-number (c .before .before .before .event-verdict .ensures)) (omega arith) (omega arith)
 
--- src/service.rt:16:1
 returns-4 : tie.Need-returns-4
 returns-4 c =
     gate-open _ _ _ (c .before .before .before .before .before .program-number .ensures ∙ ap program-number (c .before .before .before .before .before .before .program-verdict .ensures)) (omega arith) (c .before .before .event-number .ensures ∙ ap event-number (c .before .before .before .event-verdict .ensures)) (omega arith) (omega arith)

@@ -6,28 +6,19 @@ use native.Mathlib.Omega.{arith}
 use borrow.Author.Needs.{needs}
 use Rattle.stepper.proofs.service.step_back.Statement.{statement}
 use Rattle.stepper.proofs.service.step_back.Tie as tie
-use Rattle.stepper.proofs.service.step_back.Reads as reads
-use Rattle.stepper.proofs.service.step_back.Lts as lts
-use Rattle.stepper.proofs.service.gate.Reads as gate-reads
-use Rattle.stepper.proofs.step.source_event.Reads as source-event-reads
 
--- src/service.rt:46:9
 gate-requires : tie.Need-gate-requires
 gate-requires c κs = search needs
 
--- src/service.rt:48:9
 returns : tie.Need-returns
 returns c = gate-refused back _ _ _ (c .before .gate .ensures) (λ z. omega arith)
 
--- src/service.rt:50:9
 source-event-requires : tie.Need-source-event-requires
 source-event-requires c κs = let w = gate-passed _ _ (sym (c .before .before .gate .ensures) ∙ omega arith) in (w .0, w .1)
 
--- src/service.rt:43:1
 same-length : tie.Need-same-length
 same-length c = search needs
 
--- src/service.rt:43:1
 returns-2 : tie.Need-returns-2
 unfolding step
 returns-2 c =

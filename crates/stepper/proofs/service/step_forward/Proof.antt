@@ -6,28 +6,19 @@ use native.Mathlib.Omega.{arith}
 use borrow.Author.Needs.{needs}
 use Rattle.stepper.proofs.service.step_forward.Statement.{statement}
 use Rattle.stepper.proofs.service.step_forward.Tie as tie
-use Rattle.stepper.proofs.service.step_forward.Reads as reads
-use Rattle.stepper.proofs.service.step_forward.Lts as lts
-use Rattle.stepper.proofs.service.gate.Reads as gate-reads
-use Rattle.stepper.proofs.step.next_event.Reads as next-event-reads
 
--- src/service.rt:34:9
 gate-requires : tie.Need-gate-requires
 gate-requires c κs = search needs
 
--- src/service.rt:36:9
 returns : tie.Need-returns
 returns c = gate-refused forward _ _ _ (c .before .gate .ensures) (λ z. omega arith)
 
--- src/service.rt:38:9
 next-event-requires : tie.Need-next-event-requires
 next-event-requires c κs = let w = gate-passed _ _ (sym (c .before .before .gate .ensures) ∙ omega arith) in (w .0, w .1)
 
--- src/service.rt:31:1
 same-length : tie.Need-same-length
 same-length c = search needs
 
--- src/service.rt:31:1
 returns-2 : tie.Need-returns-2
 unfolding step
 returns-2 c =

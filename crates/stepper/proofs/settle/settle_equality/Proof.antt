@@ -1,96 +1,69 @@
 use Rattle.stepper.specs.SettledEquality.{equality-bets, equality-left, equality-right, clash-within, found-within, equality-large, equality-clash, equality-found, equality-long}
 use Rattle.stepper.specs.SettledLaws.{told-as, event-short}
-use native.Mathlib.Omega.{arith}
 use borrow.Author.Needs.{needs}
 use Rattle.stepper.proofs.settle.settle_equality.Statement.{statement}
 use Rattle.stepper.proofs.settle.settle_equality.Tie as tie
-use Rattle.stepper.proofs.settle.settle_equality.Reads as reads
-use Rattle.stepper.proofs.settle.settle_equality.Lts as lts
-use Rattle.records.proofs.plan.emit_plan.Reads as emit-plan-reads
-use Rattle.stepper.proofs.layouts.kept.Reads as kept-reads
-use Rattle.stepper.proofs.settle.refusal.Reads as refusal-reads
-use Rattle.stepper.proofs.settle.with_unifier.Reads as with-unifier-reads
-use Rattle.terms.proofs.equality.unifier_under.Reads as unifier-under-reads
 
--- src/settle.rt:83:72
 slice-aggregate-unifier-under : tie.Need-slice-aggregate-unifier-under
 slice-aggregate-unifier-under c = search needs
 
--- src/settle.rt:83:11
 unifier-under-requires : tie.Need-unifier-under-requires
 unifier-under-requires c κs =
     let k = c .before .before .shared-slice-known .given in let w = c .before .before .before .pre .0 in (equality-bets k w, (equality-left k w, (equality-right k w, event-short _ k (w .reads))))
 
--- src/settle.rt:84:36
 enum-told : tie.Need-enum-told
 enum-told c = search needs
 
--- src/settle.rt:84:36
 refusal-requires : tie.Need-refusal-requires
 refusal-requires c κs = search needs
 
--- src/settle.rt:85:43
 enum-told-2 : tie.Need-enum-told-2
 enum-told-2 c = search needs
 
--- src/settle.rt:85:48
 kept-requires : tie.Need-kept-requires
 kept-requires c κs = search needs
 
--- src/settle.rt:85:33
 emit-plan-requires : tie.Need-emit-plan-requires
 emit-plan-requires c κs =
     rw (c .kept .ensures) (clash-within (c .before .before .before .before .before .before .before .before .shared-slice-known .given) (c .before .before .before .before .before .before .before .before .before .pre .0) _)
 
--- src/settle.rt:86:32
 enum-known-n : tie.Need-enum-known-n
 enum-known-n c = search needs
 
--- src/settle.rt:87:28
 with-unifier-requires : tie.Need-with-unifier-requires
 with-unifier-requires c κs = search needs
 
--- src/settle.rt:87:69
 slice-aggregate-emit-plan : tie.Need-slice-aggregate-emit-plan
 slice-aggregate-emit-plan c = search needs
 
--- src/settle.rt:87:13
 emit-plan-requires-2 : tie.Need-emit-plan-requires-2
 emit-plan-requires-2 c κs =
     let k = c .before .before .before .before .before .before .before .before .before .before .shared-slice-known .given in let w = c .before .before .before .before .before .before .before .before .before .before .before .pre .0 in rw (c .before .with-unifier .ensures) (found-within k w _ (told-as (c .before .before .before .before .before .before .before .unifier-under .ensures (equality-bets k w) (equality-left k w) (equality-right k w)) (search needs) (c .before .before .before .before .n .given .1)))
 
--- src/settle.rt:89:35
 enum-told-3 : tie.Need-enum-told-3
 enum-told-3 c = search needs
 
--- src/settle.rt:89:35
 refusal-requires-2 : tie.Need-refusal-requires-2
 refusal-requires-2 c κs = search needs
 
--- src/settle.rt:69:1
 returns : tie.Need-returns
 returns c =
     λ w p q cp fp. let k = c .before .before .before .before .before .before .before .shared-slice-known .given in rw (c .refusal .ensures) (equality-large k w p q cp fp (told-as (c .before .before .before .before .unifier-under .ensures (equality-bets k w) (equality-left k w) (equality-right k w)) (search needs) (c .before .enum-told .given .1)))
 
--- src/settle.rt:69:1
 same-length : tie.Need-same-length
 same-length c = search needs
 
--- src/settle.rt:69:1
 returns-2 : tie.Need-returns-2
 returns-2 c =
     λ w p q cp fp. let k = c .before .before .before .before .before .before .before .before .before .before .before .shared-slice-known .given in equality-clash k w p q cp fp (c .before .before .before .before .before .before .before .before .before .before .before .before .pre .1) (told-as (c .before .before .before .before .before .before .before .before .unifier-under .ensures (equality-bets k w) (equality-left k w) (equality-right k w)) (search needs) (c .before .before .before .before .before .enum-told2 .given .1)) (rw (c .before .before .before .kept .ensures) at (c .before .before .emit-plan .ensures))
 
--- src/settle.rt:69:1
 same-length-2 : tie.Need-same-length-2
 same-length-2 c = search needs
 
--- src/settle.rt:69:1
 returns-3 : tie.Need-returns-3
 returns-3 c =
     λ w p q cp fp. let k = c .before .before .before .before .before .before .before .before .before .before .before .before .before .shared-slice-known .given in equality-found k w p q cp fp (c .before .before .before .before .before .before .before .before .before .before .before .before .before .before .pre .1) (told-as (c .before .before .before .before .before .before .before .before .before .before .unifier-under .ensures (equality-bets k w) (equality-left k w) (equality-right k w)) (search needs) (c .before .before .before .before .before .before .before .n .given .1)) (rw (c .before .before .before .before .with-unifier .ensures) at (c .before .before .emit-plan2 .ensures))
 
--- src/settle.rt:69:1
 returns-4 : tie.Need-returns-4
 returns-4 c =
     λ w p q cp fp. let k = c .before .before .before .before .before .before .before .shared-slice-known .given in rw (c .refusal2 .ensures) (equality-long k w p q cp fp (search needs) (told-as (c .before .before .before .before .unifier-under .ensures (equality-bets k w) (equality-left k w) (equality-right k w)) (search needs) (c .before .enum-told3 .given .1)))

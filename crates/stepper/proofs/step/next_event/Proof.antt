@@ -3,91 +3,64 @@ use Rattle.stepper.specs.SettledStepLaws.{program-read, equality-viewed,
 use Rattle.stepper.specs.StepLaws.{view-halves, forward-nothing, forward-within, forward-parts}
 use Rattle.stepper.specs.KindLaws.{calls-equality, calls-atom}
 use Rattle.stepper.specs.Numbers.{forward-rule}
-use Rattle.records.specs.Syntax.{call, exit, fail, redo}
+use Rattle.records.specs.Syntax.{call, exit, fail}
 use mathlib.Core.Path.{refl, sym, ap, _∙_}
 use borrow.Author.Needs.{needs}
 use Rattle.stepper.proofs.step.next_event.Statement.{statement}
 use Rattle.stepper.proofs.step.next_event.Tie as tie
-use Rattle.stepper.proofs.step.next_event.Reads as reads
-use Rattle.stepper.proofs.step.next_event.Lts as lts
-use Rattle.stepper.proofs.forward.forward_plan.Reads as forward-plan-reads
-use Rattle.stepper.proofs.forward.forward_rule.Reads as forward-rule-reads
-use Rattle.stepper.proofs.half.unlike.Reads as unlike-reads
-use Rattle.stepper.proofs.settle.refusal.Reads as refusal-reads
-use Rattle.stepper.proofs.settle.settle_atom.Reads as settle-atom-reads
-use Rattle.stepper.proofs.settle.settle_equality.Reads as settle-equality-reads
-use Rattle.stepper.proofs.step.emit_unless.Reads as emit-unless-reads
-use Rattle.stepper.proofs.step.no_rule.Reads as no-rule-reads
-use Rattle.stepper.proofs.view.event_view.Reads as event-view-reads
 
--- src/step.rt:67:9
 event-view-requires : tie.Need-event-view-requires
 event-view-requires c κs = rw (c .before .before .before .pre .0 .reads) tt
 
--- src/step.rt:68:9
 forward-rule-requires : tie.Need-forward-rule-requires
 forward-rule-requires c κs = search needs
 
--- src/step.rt:70:22
 no-rule-requires : tie.Need-no-rule-requires
 no-rule-requires c κs = search needs
 
--- src/step.rt:70:14
 refusal-requires : tie.Need-refusal-requires
 refusal-requires c κs = search needs
 
--- src/step.rt:71:15
 settle-equality-requires : tie.Need-settle-equality-requires
 settle-equality-requires c κs =
     let w = c .before .before .before .before .before .before .before .pre .0 in let same = c .before .before .before .event-view .ensures (w .event) (w .reads) in (equality-viewed (c .before .before .before .before .before .shared-slice-known2 .given) w same (calls-equality (w .event) (sym (c .before .before .forward-rule .ensures ∙ ap forward-rule same) ∙ c .before .match .keys2)), c .before .before .before .before .before .before .before .pre .1)
 
--- src/step.rt:72:15
 settle-atom-requires : tie.Need-settle-atom-requires
 settle-atom-requires c κs =
     let w = c .before .before .before .before .before .before .before .pre .0 in let same = c .before .before .before .event-view .ensures (w .event) (w .reads) in (program-read (c .before .before .before .before .before .shared-slice-known2 .given) w same, (atom-viewed (c .before .before .before .before .before .shared-slice-known2 .given) w same (calls-atom (w .event) (sym (c .before .before .forward-rule .ensures ∙ ap forward-rule same) ∙ c .before .match .keys3)), c .before .before .before .before .before .before .before .pre .1))
 
--- src/step.rt:73:26
 unlike-requires : tie.Need-unlike-requires
 unlike-requires c κs =
     let w = c .before .before .before .before .before .before .pre .0 in view-halves (c .before .before .before .before .shared-slice-known2 .given) w (c .before .before .event-view .ensures (w .event) (w .reads))
 
--- src/step.rt:73:57
 forward-plan-requires : tie.Need-forward-plan-requires
 forward-plan-requires c κs = search needs
 
--- src/step.rt:73:14
 emit-unless-requires : tie.Need-emit-unless-requires
 emit-unless-requires c κs =
     let w = c .before .before .before .before .before .before .before .before .before .pre .0 in rw (c .before .forward-plan .ensures) (forward-within (c .before .before .before .before .before .before .before .shared-slice-known2 .given) w (c .before .before .before .before .before .event-view .ensures (w .event) (w .reads)) (c .before .before .before .before .forward-rule .ensures) (c .before .before .unlike .ensures) (c .before .before .before .match .rest .0 .0 .1) (c .before .before .before .match .rest .0 .1) (c .before .before .before .match .rest .1))
 
--- src/step.rt:62:1
 returns : tie.Need-returns
 returns c =
     λ w. rw (c .refusal .ensures) (forward-nothing (c .before .before .before .before .before .before .shared-slice-known2 .given) w (c .before .before .before .before .event-view .ensures (w .event) (w .reads)) (c .before .before .before .forward-rule .ensures) (c .before .before .match .keys1) (c .before .no-rule .ensures))
 
--- src/step.rt:62:1
 same-length : tie.Need-same-length
 same-length c = search needs
 
--- src/step.rt:62:1
 returns-2 : tie.Need-returns-2
 returns-2 c =
     λ w. let same = c .before .before .before .before .before .before .event-view .ensures (w .event) (w .reads) in let f = calls-equality (w .event) (sym (c .before .before .before .before .before .forward-rule .ensures ∙ ap forward-rule same) ∙ c .before .before .before .before .match .keys2) in forward-equality (c .before .before .before .before .before .before .before .before .shared-slice-known2 .given) w f (c .before .before .settle-equality .ensures (equality-viewed (c .before .before .before .before .before .before .before .before .shared-slice-known2 .given) w same f) fail exit refl refl)
 
--- src/step.rt:62:1
 same-length-2 : tie.Need-same-length-2
 same-length-2 c = search needs
 
--- src/step.rt:62:1
 returns-3 : tie.Need-returns-3
 returns-3 c =
     λ w. let same = c .before .before .before .before .before .before .event-view .ensures (w .event) (w .reads) in let f = calls-atom (w .event) (sym (c .before .before .before .before .before .forward-rule .ensures ∙ ap forward-rule same) ∙ c .before .before .before .before .match .keys3) in forward-atom (c .before .before .before .before .before .before .before .before .shared-slice-known2 .given) w f (c .before .before .settle-atom .ensures (program-read (c .before .before .before .before .before .before .before .before .shared-slice-known2 .given) w same) (atom-viewed (c .before .before .before .before .before .before .before .before .shared-slice-known2 .given) w same f) fail call refl refl)
 
--- src/step.rt:62:1
 same-length-3 : tie.Need-same-length-3
 same-length-3 c = search needs
 
--- src/step.rt:62:1
 returns-4 : tie.Need-returns-4
 returns-4 c =
     λ w. forward-parts (c .before .before .before .before .before .before .before .before .before .before .shared-slice-known2 .given) w (c .before .before .before .before .before .before .before .before .event-view .ensures (w .event) (w .reads)) (c .before .before .before .before .before .before .before .forward-rule .ensures) (c .before .before .before .before .before .unlike .ensures) (c .before .before .before .before .before .before .match .rest .0 .0 .1) (c .before .before .before .before .before .before .match .rest .0 .1) (c .before .before .before .before .before .before .match .rest .1) (c .before .before .before .before .before .before .before .before .before .before .before .before .pre .1) (rw (c .before .before .before .before .forward-plan .ensures) at (c .before .before .emit-unless .ensures))

@@ -3,20 +3,15 @@ use borrow.Author.Tests.{ne-eqb}
 use mathlib.Core.Path.{refl}
 use Rattle.stepper.proofs.step.no_rule.Statement.{statement}
 use Rattle.stepper.proofs.step.no_rule.Tie as tie
-use Rattle.stepper.proofs.step.no_rule.Reads as reads
-use Rattle.stepper.proofs.step.no_rule.Lts as lts
 
--- src/step.rt:29:1
 returns : tie.Need-returns
 unfolding no-rule-number
 returns c = rw (c .match .keys1) refl
 
--- src/step.rt:29:1
 returns-2 : tie.Need-returns-2
 unfolding no-rule-number
 returns-2 c = rw (c .match .keys2) refl
 
--- src/step.rt:29:1
 returns-3 : tie.Need-returns-3
 unfolding no-rule-number
 returns-3 c = rw (ne-eqb _ 2 (c .match .rest .0 .1), ne-eqb _ 3 (c .match .rest .1)) refl

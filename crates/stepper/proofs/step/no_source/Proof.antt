@@ -3,20 +3,15 @@ use borrow.Author.Tests.{eq-eqb, ne-eqb}
 use mathlib.Core.Path.{refl}
 use Rattle.stepper.proofs.step.no_source.Statement.{statement}
 use Rattle.stepper.proofs.step.no_source.Tie as tie
-use Rattle.stepper.proofs.step.no_source.Reads as reads
-use Rattle.stepper.proofs.step.no_source.Lts as lts
 
--- src/step.rt:45:9
 returns : tie.Need-returns
 unfolding no-source-number
 returns c = rw (ne-eqb _ 1 (c .if1 .taken)) refl
 
--- src/step.rt:41:1
 returns-2 : tie.Need-returns-2
 unfolding no-source-number
 returns-2 c = rw (eq-eqb _ 1 (c .before .before .if1 .left), eq-eqb _ 0 (c .if2 .taken)) refl
 
--- src/step.rt:41:1
 returns-3 : tie.Need-returns-3
 unfolding no-source-number
 returns-3 c = rw (eq-eqb _ 1 (c .before .before .if1 .left), ne-eqb _ 0 (c .if2 .left)) refl

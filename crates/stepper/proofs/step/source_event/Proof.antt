@@ -3,139 +3,100 @@ use Rattle.stepper.specs.SettledStepLaws.{program-read, equality-viewed,
 use Rattle.stepper.specs.StepLaws.{view-halves, back-nothing, back-within, back-parts}
 use Rattle.stepper.specs.KindLaws.{exits-equality, fails-equality, calls-body, fails-atom}
 use Rattle.stepper.specs.Numbers.{back-rule}
-use Rattle.records.specs.Syntax.{call, exit, fail, redo}
+use Rattle.records.specs.Syntax.{call, fail, redo}
 use mathlib.Core.Path.{refl, sym, ap, _∙_}
 use borrow.Author.Needs.{needs}
 use Rattle.stepper.proofs.step.source_event.Statement.{statement}
 use Rattle.stepper.proofs.step.source_event.Tie as tie
-use Rattle.stepper.proofs.step.source_event.Reads as reads
-use Rattle.stepper.proofs.step.source_event.Lts as lts
-use Rattle.stepper.proofs.back.back_plan.Reads as back-plan-reads
-use Rattle.stepper.proofs.back.back_rule.Reads as back-rule-reads
-use Rattle.stepper.proofs.half.unlike.Reads as unlike-reads
-use Rattle.stepper.proofs.same.same_body.Reads as same-body-reads
-use Rattle.stepper.proofs.same.same_unifier.Reads as same-unifier-reads
-use Rattle.stepper.proofs.settle.refusal.Reads as refusal-reads
-use Rattle.stepper.proofs.settle.settle_atom.Reads as settle-atom-reads
-use Rattle.stepper.proofs.settle.settle_equality.Reads as settle-equality-reads
-use Rattle.stepper.proofs.step.emit_unless.Reads as emit-unless-reads
-use Rattle.stepper.proofs.step.no_source.Reads as no-source-reads
-use Rattle.stepper.proofs.view.event_view.Reads as event-view-reads
 
--- src/step.rt:83:9
 event-view-requires : tie.Need-event-view-requires
 event-view-requires c κs = rw (c .before .before .before .pre .0 .reads) tt
 
--- src/step.rt:84:9
 back-rule-requires : tie.Need-back-rule-requires
 back-rule-requires c κs = search needs
 
--- src/step.rt:86:22
 no-source-requires : tie.Need-no-source-requires
 no-source-requires c κs = search needs
 
--- src/step.rt:86:14
 refusal-requires : tie.Need-refusal-requires
 refusal-requires c κs = search needs
 
--- src/step.rt:87:27
 same-unifier-requires : tie.Need-same-unifier-requires
 same-unifier-requires c κs =
     let w = c .before .before .before .before .before .before .pre .0 in let same = c .before .before .event-view .ensures (w .event) (w .reads) in unifier-viewed (c .before .before .before .before .shared-slice-known2 .given) w same (exits-equality (w .event) (sym (c .before .back-rule .ensures ∙ ap back-rule same) ∙ c .match .keys2))
 
--- src/step.rt:87:58
 back-plan-requires : tie.Need-back-plan-requires
 back-plan-requires c κs = search needs
 
--- src/step.rt:87:15
 emit-unless-requires : tie.Need-emit-unless-requires
 emit-unless-requires c κs =
     let w = c .before .before .before .before .before .before .before .before .before .pre .0 in let same = c .before .before .before .before .before .event-view .ensures (w .event) (w .reads) in λ z. rw (c .before .back-plan .ensures) (exit-plans (c .before .before .before .before .before .before .before .shared-slice-known2 .given) w same (exits-equality (w .event) (sym (c .before .before .before .before .back-rule .ensures ∙ ap back-rule same) ∙ c .before .before .before .match .keys2)) .within)
 
--- src/step.rt:88:15
 settle-equality-requires : tie.Need-settle-equality-requires
 settle-equality-requires c κs =
     let w = c .before .before .before .before .before .before .before .pre .0 in let same = c .before .before .before .event-view .ensures (w .event) (w .reads) in (equality-viewed (c .before .before .before .before .before .shared-slice-known2 .given) w same (fails-equality (w .event) (sym (c .before .before .back-rule .ensures ∙ ap back-rule same) ∙ c .before .match .keys3)), c .before .before .before .before .before .before .before .pre .1)
 
--- src/step.rt:89:27
 same-body-requires : tie.Need-same-body-requires
 same-body-requires c κs =
     let w = c .before .before .before .before .before .before .pre .0 in let same = c .before .before .event-view .ensures (w .event) (w .reads) in (program-read (c .before .before .before .before .shared-slice-known2 .given) w same, body-viewed (c .before .before .before .before .shared-slice-known2 .given) w same (calls-body (w .event) (sym (c .before .back-rule .ensures ∙ ap back-rule same) ∙ c .match .keys4)))
 
--- src/step.rt:89:64
 back-plan-requires-2 : tie.Need-back-plan-requires-2
 back-plan-requires-2 c κs = search needs
 
--- src/step.rt:89:15
 emit-unless-requires-2 : tie.Need-emit-unless-requires-2
 emit-unless-requires-2 c κs =
     let w = c .before .before .before .before .before .before .before .before .before .pre .0 in let same = c .before .before .before .before .before .event-view .ensures (w .event) (w .reads) in λ z. rw (c .before .back-plan2 .ensures) (called-plans (c .before .before .before .before .before .before .before .shared-slice-known2 .given) w same (calls-body (w .event) (sym (c .before .before .before .before .back-rule .ensures ∙ ap back-rule same) ∙ c .before .before .before .match .keys4)) .within)
 
--- src/step.rt:90:15
 settle-atom-requires : tie.Need-settle-atom-requires
 settle-atom-requires c κs =
     let w = c .before .before .before .before .before .before .before .pre .0 in let same = c .before .before .before .event-view .ensures (w .event) (w .reads) in (program-read (c .before .before .before .before .before .shared-slice-known2 .given) w same, (atom-viewed (c .before .before .before .before .before .shared-slice-known2 .given) w same (fails-atom (w .event) (sym (c .before .before .back-rule .ensures ∙ ap back-rule same) ∙ c .before .match .keys5)), c .before .before .before .before .before .before .before .pre .1))
 
--- src/step.rt:91:26
 unlike-requires : tie.Need-unlike-requires
 unlike-requires c κs =
     let w = c .before .before .before .before .before .before .pre .0 in view-halves (c .before .before .before .before .shared-slice-known2 .given) w (c .before .before .event-view .ensures (w .event) (w .reads))
 
--- src/step.rt:91:57
 back-plan-requires-3 : tie.Need-back-plan-requires-3
 back-plan-requires-3 c κs = search needs
 
--- src/step.rt:91:14
 emit-unless-requires-3 : tie.Need-emit-unless-requires-3
 emit-unless-requires-3 c κs =
     let w = c .before .before .before .before .before .before .before .before .before .pre .0 in rw (c .before .back-plan3 .ensures) (back-within (c .before .before .before .before .before .before .before .shared-slice-known2 .given) w (c .before .before .before .before .before .event-view .ensures (w .event) (w .reads)) (c .before .before .before .before .back-rule .ensures) (c .before .before .unlike .ensures) (c .before .before .before .match .rest .0 .0 .0 .0 .1) (c .before .before .before .match .rest .0 .0 .0 .1) (c .before .before .before .match .rest .0 .0 .1) (c .before .before .before .match .rest .0 .1) (c .before .before .before .match .rest .1))
 
--- src/step.rt:78:1
 returns : tie.Need-returns
 returns c =
     λ w. rw (c .refusal .ensures) (back-nothing (c .before .before .before .before .before .before .shared-slice-known2 .given) w (c .before .before .before .before .event-view .ensures (w .event) (w .reads)) (c .before .before .before .back-rule .ensures) (c .before .before .match .keys1) (c .before .no-source .ensures))
 
--- src/step.rt:78:1
 same-length : tie.Need-same-length
 same-length c = search needs
 
--- src/step.rt:78:1
 returns-2 : tie.Need-returns-2
 returns-2 c =
     λ w. let same = c .before .before .before .before .before .before .before .before .event-view .ensures (w .event) (w .reads) in let f = exits-equality (w .event) (sym (c .before .before .before .before .before .before .before .back-rule .ensures ∙ ap back-rule same) ∙ c .before .before .before .before .before .before .match .keys2) in back-exit (c .before .before .before .before .before .before .before .before .before .before .shared-slice-known2 .given) w same (c .before .before .before .before .before .before .before .before .before .before .before .before .pre .1) f (c .before .before .before .before .before .same-unifier .ensures (unifier-viewed (c .before .before .before .before .before .before .before .before .before .before .shared-slice-known2 .given) w same f)) (rw (c .before .before .before .before .back-plan .ensures) at (c .before .before .emit-unless .ensures))
 
--- src/step.rt:78:1
 same-length-2 : tie.Need-same-length-2
 same-length-2 c = search needs
 
--- src/step.rt:78:1
 returns-3 : tie.Need-returns-3
 returns-3 c =
     λ w. let same = c .before .before .before .before .before .before .event-view .ensures (w .event) (w .reads) in let f = fails-equality (w .event) (sym (c .before .before .before .before .before .back-rule .ensures ∙ ap back-rule same) ∙ c .before .before .before .before .match .keys3) in back-equality (c .before .before .before .before .before .before .before .before .shared-slice-known2 .given) w f (c .before .before .settle-equality .ensures (equality-viewed (c .before .before .before .before .before .before .before .before .shared-slice-known2 .given) w same f) call redo refl refl)
 
--- src/step.rt:78:1
 same-length-3 : tie.Need-same-length-3
 same-length-3 c = search needs
 
--- src/step.rt:78:1
 returns-4 : tie.Need-returns-4
 returns-4 c =
     λ w. let same = c .before .before .before .before .before .before .before .before .event-view .ensures (w .event) (w .reads) in let f = calls-body (w .event) (sym (c .before .before .before .before .before .before .before .back-rule .ensures ∙ ap back-rule same) ∙ c .before .before .before .before .before .before .match .keys4) in back-called (c .before .before .before .before .before .before .before .before .before .before .shared-slice-known2 .given) w same (c .before .before .before .before .before .before .before .before .before .before .before .before .pre .1) f (c .before .before .before .before .before .same-body .ensures (program-read (c .before .before .before .before .before .before .before .before .before .before .shared-slice-known2 .given) w same) (body-viewed (c .before .before .before .before .before .before .before .before .before .before .shared-slice-known2 .given) w same f)) (rw (c .before .before .before .before .back-plan2 .ensures) at (c .before .before .emit-unless2 .ensures))
 
--- src/step.rt:78:1
 same-length-4 : tie.Need-same-length-4
 same-length-4 c = search needs
 
--- src/step.rt:78:1
 returns-5 : tie.Need-returns-5
 returns-5 c =
     λ w. let same = c .before .before .before .before .before .before .event-view .ensures (w .event) (w .reads) in let f = fails-atom (w .event) (sym (c .before .before .before .before .before .back-rule .ensures ∙ ap back-rule same) ∙ c .before .before .before .before .match .keys5) in back-atom (c .before .before .before .before .before .before .before .before .shared-slice-known2 .given) w f (c .before .before .settle-atom .ensures (program-read (c .before .before .before .before .before .before .before .before .shared-slice-known2 .given) w same) (atom-viewed (c .before .before .before .before .before .before .before .before .shared-slice-known2 .given) w same f) call fail refl refl)
 
--- src/step.rt:78:1
 same-length-5 : tie.Need-same-length-5
 same-length-5 c = search needs
 
--- src/step.rt:78:1
 returns-6 : tie.Need-returns-6
 returns-6 c =
     λ w. back-parts (c .before .before .before .before .before .before .before .before .before .before .shared-slice-known2 .given) w (c .before .before .before .before .before .before .before .before .event-view .ensures (w .event) (w .reads)) (c .before .before .before .before .before .before .before .back-rule .ensures) (c .before .before .before .before .before .unlike .ensures) (c .before .before .before .before .before .before .match .rest .0 .0 .0 .0 .1) (c .before .before .before .before .before .before .match .rest .0 .0 .0 .1) (c .before .before .before .before .before .before .match .rest .0 .0 .1) (c .before .before .before .before .before .before .match .rest .0 .1) (c .before .before .before .before .before .before .match .rest .1) (c .before .before .before .before .before .before .before .before .before .before .before .before .pre .1) (rw (c .before .before .before .before .back-plan3 .ensures) at (c .before .before .emit-unless3 .ensures))

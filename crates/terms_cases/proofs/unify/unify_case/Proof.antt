@@ -1,5 +1,5 @@
 -- `unify_case` questions the event, and then unifies the sides of its goal.
-use mathlib.Core.Path.{_≡_, sym, ap, _∙_}
+use mathlib.Core.Path.{sym, ap, _∙_}
 use native.Mathlib.Omega.{arith}
 use Rattle.records.specs.Gate.{read-event, event-number}
 use Rattle.terms.specs.ValueLaws.{passed-tree}
@@ -32,7 +32,7 @@ returns-2 c =
 unify-goal-requires : tie.Need-unify-goal-requires
 unify-goal-requires c κs =
     let t = passed-tree (read-event (c .before .before .before .before .before .before .before .before .before .args .event .now)) (c .before .before .before .before .before .event-number .ensures ∙ ap event-number (c .before .before .before .before .before .before .event-verdict .ensures)) (omega arith) in
-    (equality-found _ (c .before .before .before .before .before .before .before .before .shared-slice-known .given) (t .0) (t .1) (sym (ap kind-of (c .before .before .before .goal-head .ensures)) ∙ sym (c .before .before .goal-kind .ensures) ∙ omega arith), c .before .before .before .before .before .before .before .before .before .pre)
+    equality-found _ (c .before .before .before .before .before .before .before .before .shared-slice-known .given) (t .0) (t .1) (sym (ap kind-of (c .before .before .before .goal-head .ensures)) ∙ sym (c .before .before .goal-kind .ensures) ∙ omega arith)
 
 same-length : tie.Need-same-length
 same-length c = search needs

@@ -1,13 +1,13 @@
 -- `unify_goal` finds the sides of the equality and the bets.
 use mathlib.Core.Path.{sym, _∙_}
 use Rattle.terms_cases.specs.Equalities.{equality-event}
-use Rattle.terms_cases.specs.EqualityLaws.{equality-accepted, equality-short, bets-there, left-there, right-there, left-lost, event-replied}
+use Rattle.terms_cases.specs.EqualityLaws.{equality-accepted, equality-short, bets-there, left-there, right-there, left-lost, unifier-replied}
 use borrow.Author.Needs.{needs}
 use Rattle.terms_cases.proofs.unify.unify_goal.Statement.{statement}
 use Rattle.terms_cases.proofs.unify.unify_goal.Tie as tie
 
 event-places-requires : tie.Need-event-places-requires
-event-places-requires c κs = equality-accepted (c .before .before .pre .0)
+event-places-requires c κs = equality-accepted (c .before .before .pre)
 
 term-end-requires : tie.Need-term-end-requires
 term-end-requires c κs = search needs
@@ -19,26 +19,26 @@ enum-told : tie.Need-enum-told
 enum-told c = search needs
 
 returns : tie.Need-returns
-returns c = left-lost (c .before .before .before .before .before .shared-slice-known .given) (c .before .before .before .before .before .before .pre .0) (c .before .before .before .event-places .ensures (equality-event (c .before .before .before .before .before .before .pre .0)) (c .before .before .before .before .before .before .pre .0 .read)) (sym (c .before .before .term-end .ensures) ∙ c .enum-told .given .1)
+returns c = let q = c .before .before .before .before .before .before .pre in left-lost (c .before .before .before .before .before .shared-slice-known .given) q (c .before .before .before .event-places .ensures (equality-event q) (q .read)) (sym (c .before .before .term-end .ensures) ∙ c .enum-told .given .1)
 
-unify-sides-requires : tie.Need-unify-sides-requires
-unify-sides-requires c κs =
-    let q = c .before .before .before .before .before .before .before .before .before .before .pre .0 in
+unifier-under-requires : tie.Need-unifier-under-requires
+unifier-under-requires c κs =
+    let q = c .before .before .before .before .before .before .before .before .before .before .pre in
     let known = c .before .before .before .before .before .before .before .before .before .shared-slice-known .given in
     let i = c .before .before .before .before .before .before .before .event-places .ensures (equality-event q) (q .read) in
     let m = sym (c .before .before .before .before .before .before .term-end .ensures) ∙ c .before .before .before .before .middle .given .1 in
-    ((bets-there known q i, equality-short known q), (left-there known q i m, (right-there known q i m, c .before .before .before .before .before .before .before .before .before .before .pre .1)))
+    (bets-there known q i, (left-there known q i m, (right-there known q i m, equality-short known q)))
 
 same-length : tie.Need-same-length
 same-length c = search needs
 
 returns-2 : tie.Need-returns-2
 returns-2 c =
-    let q = c .before .before .before .before .before .before .before .before .before .before .before .before .before .pre .0 in
+    let q = c .before .before .before .before .before .before .before .before .before .before .before .before .before .pre in
     let known = c .before .before .before .before .before .before .before .before .before .before .before .before .shared-slice-known .given in
     let i = c .before .before .before .before .before .before .before .before .before .before .event-places .ensures (equality-event q) (q .read) in
     let m = sym (c .before .before .before .before .before .before .before .before .before .term-end .ensures) ∙ c .before .before .before .before .before .before .before .middle .given .1 in
-    event-replied q (c .before .before .unify-sides .ensures (bets-there known q i) (left-there known q i m) (right-there known q i m))
+    unifier-replied q (c .before .before .unifier-under .ensures (bets-there known q i) (left-there known q i m) (right-there known q i m))
 
 pub unify-goal-spec : {M : Type 1} → statement M
 unify-goal-spec =
@@ -49,6 +49,6 @@ unify-goal-spec =
     enum-known-middle
     enum-told
     returns
-    unify-sides-requires
+    unifier-under-requires
     same-length
     returns-2)

@@ -1,0 +1,12 @@
+pub mod Line
+pub mod DecimalLaws
+pub mod LineLaws
+pub mod Walked
+pub mod WalkedLaws
+pub mod Page
+pub mod AdvanceLaws
+pub mod PageLaws
+pub mod StartLaws
+pub mod RunText
+pub mod Example
+pub mod Bench

@@ -1,0 +1,77 @@
+"""The cases: pages with rules and a query, and programs by chance, each as clauses and a goal."""
+import pathlib
+
+from desk_model.canonical import canonical_program, to_the_right
+from desk_model.substitution import replaced
+from desk_model.trees import *
+from desk_model.writer import listed_record
+from garage.page import section
+from garage.text import Names, Text, clauses, query
+from model_checks.chance import Chance
+
+ROOM = 32768
+UNDEFINED = [(7, 0), (8, 1)]
+
+
+def page_case(path):
+    page, symbols, predicates = path.read_text(), Names(), Names()
+    rules = clauses(Text(section(page, 'Rules'), symbols, predicates))
+    return path.stem, rules, query(Text(section(page, 'Query'), symbols, predicates))
+
+
+def in_order(parts):
+    """variable numbers in the order in which they occur"""
+    met, todo = [], list(parts)
+    while todo:
+        each = todo.pop(0)
+        todo[:0] = each.parts
+        if isinstance(each, Var) and each.number not in met:
+            met.append(each.number)
+    return met
+
+
+class Programs(Chance):
+    def clause(self, key, callable_keys):
+        """a fact or a rule; its variables are those that occur"""
+        number, arity = key
+        variables = self.randint(0, 3)
+        head = tuple(self.term(variables, self.choice([0, 0, 1, 2])) for _ in range(arity))
+        body = Truth() if self.random() < 0.45 else self.goal(variables + self.randint(0, 1), callable_keys, self.randint(0, 2))
+        names = {v: Var(i) for i, v in enumerate(in_order([*head, body]))}
+        return Clause(number, len(names), tuple(replaced(t, names) for t in head), replaced(body, names))
+
+    def asked(self, keys):
+        """one to three atoms whose arguments are mostly variables, and now and then any goal"""
+        if self.random() < 0.3:
+            return self.goal(3, keys, 2)
+        atoms = self.choices(keys, k=self.randint(1, 3))
+        return to_the_right(Conj, [Atom(number, tuple(self.argument() for _ in range(arity))) for number, arity in atoms])
+
+    def argument(self):
+        return Var(self.randrange(4)) if self.random() < 0.7 else self.term(3, 1)
+
+    def case(self):
+        """mostly a predicate calls those after it; now and then any one, so that some walks do not end"""
+        keys = [(n, self.choice([0, 1, 1, 2, 2, 3])) for n in range(self.randint(2, 4))]
+        rules = []
+        for n, key in enumerate(keys):
+            for _ in range(self.choice([1, 2, 2, 3])):
+                called = keys if self.random() < 0.25 else keys[n + 1:]
+                rules.append(self.clause(key, called + (UNDEFINED if self.random() < 0.1 else [])))
+        return rules, self.asked(keys)
+
+
+def cases(pages, count, seed):
+    """(name, clauses, goal, program record); program n of seed s is named s.n"""
+    found = [page_case(path) for path in pages]
+    chance = Programs(seed)
+    found += [(f'{seed}.{n}', *chance.case()) for n in range(count)]
+    for name, rules, goal in found:
+        number, record = canonical_program(listed_record(rules), ROOM)
+        if number:
+            raise SystemExit(f'{name}: the rules are refused by question {number}')
+        yield name, rules, goal, record
+
+
+def pages(repository):
+    return sorted(pathlib.Path(repository, 'examples').glob('*.txt')) + sorted(pathlib.Path(__file__).parent.glob('programs/*.txt'))

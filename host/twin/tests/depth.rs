@@ -1,0 +1,65 @@
+//! Deep trees need no native stack, and unifiers that could not be written take no time. Each test has a thread of 128 KiB.
+
+mod layout;
+use layout::*;
+use std::thread;
+use twin::gate::RECORD_LIMIT as ROOM;
+use twin::records::{Term, TermRef};
+use twin::rules::Direction::{Back, Forward};
+use twin::services::{canonical, first, run};
+use twin::terms::unifier::unifier as unify;
+
+fn on_a_small_stack(test: impl FnOnce() + Send + 'static) {
+    thread::Builder::new().stack_size(128 * 1024).spawn(test).expect("a thread").join().expect("the test passes");
+}
+
+#[test]
+fn nested_terms() {
+    on_a_small_stack(|| {
+        // 8,190 symbols in one another fill a query record, and its first event no longer fits
+        assert_eq!(first(&record(&eq(&var(0), &nested(8189, &sym(2, &[])))), ROOM).number, 10);
+        let goal = eq(&var(0), &nested(8188, &var(1)));
+        let start = first(&record(&goal), ROOM);
+        assert_eq!(start.number, 0);
+        assert_eq!(run(&program(&[]), &start.bytes, 5, Forward, ROOM).number, 8);
+        let atom = atom(5, &[nested(4000, &var(1))]);
+        let start = first(&record(&atom), ROOM);
+        for (other, number) in [(1, 0), (0, 10)] {
+            let copies = program(&[definition(5, 1, 1, &eq(&var(0), &var(other)))]);
+            assert_eq!(run(&copies, &start.bytes, 1, Forward, ROOM).number, number);
+        }
+        let clause = [&[0, 5, 1, 1][..], &nested(8185, &var(0)), &[0x10]].concat();
+        assert_eq!(canonical(&record(&listed(&[clause])), ROOM).number, 0);
+    });
+}
+
+#[test]
+fn nested_goals() {
+    on_a_small_stack(|| {
+        for left in [true, false] {
+            let joins = 16_000;
+            let goal = if left { [vec![0x13; joins], vec![0x10; joins + 1]].concat() } else { [[0x13, 0x10].repeat(joins), vec![0x10]].concat() };
+            let start = first(&record(&goal), ROOM);
+            assert_eq!(start.number, 0);
+            let there = run(&program(&[]), &start.bytes, 100_000, Forward, ROOM);
+            let again = run(&program(&[]), &there.bytes, there.steps, Back, ROOM);
+            assert_eq!((again.number, again.steps, again.bytes), (0, there.steps, start.bytes));
+        }
+    });
+}
+
+/// f(X1,..,Xn) and f(g(X0,X0),..,g(Xn-1,Xn-1)); Xn's term has 2^n leaves.
+#[test]
+fn doubling() {
+    on_a_small_stack(|| {
+        let n = 800;
+        let row = |term: &dyn Fn(u16) -> TermRef| (1..=n).rev().fold(Term::symbol(7, Vec::new()), |rest, i| Term::symbol(6, vec![term(i), rest]));
+        let left = row(&|i| Term::variable(i));
+        let right = row(&|i| Term::symbol(8, vec![Term::variable(i - 1), Term::variable(i - 1)]));
+        let unifier = unify(&left, &right).expect("one exists");
+        assert_eq!(unifier.pairs().len(), usize::from(n));
+        assert!(unifier.length() as usize > ROOM);
+        let looped = Term::symbol(9, vec![right.clone(), Term::variable(0)]);
+        assert!(unify(&Term::symbol(9, vec![left, Term::variable(n)]), &looped).is_none());
+    });
+}

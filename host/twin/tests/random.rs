@@ -1,0 +1,119 @@
+//! Random equalities against the textbook's unifier, and random walks: a run equals single steps, and steps back find the events again.
+
+mod layout;
+use layout::*;
+use std::collections::BTreeMap;
+use twin::gate::RECORD_LIMIT as ROOM;
+use twin::records::{reader, writer, Shape, Term, TermRef};
+use twin::rules::Direction::{Back, Forward};
+use twin::services::{back, first, forward, run};
+use twin::terms::unifier::unifier as unify;
+
+/// Numbers by a fixed rule, the same in each test run.
+struct Dice(u64);
+
+impl Dice {
+    fn below(&mut self, most: u64) -> u64 {
+        self.0 = self.0.wrapping_mul(6_364_136_223_846_793_005).wrapping_add(1_442_695_040_888_963_407);
+        (self.0 >> 33) % most
+    }
+
+    fn term(&mut self, depth: u64, variables: u64) -> Vec<u8> {
+        match self.below(if depth == 0 { 3 } else { 6 }) {
+            0 => sym(self.below(2) as u16, &[]),
+            1 | 2 => var(self.below(variables) as u16),
+            _ => {
+                let arguments: Vec<Vec<u8>> = (0..1 + self.below(2)).map(|_| self.term(depth - 1, variables)).collect();
+                sym(6, &arguments)
+            }
+        }
+    }
+
+    fn goal(&mut self, depth: u64, variables: u64) -> Vec<u8> {
+        match self.below(if depth == 0 { 6 } else { 10 }) {
+            0 => vec![0x10],
+            1 => vec![0x11],
+            2 | 3 => eq(&self.term(2, variables), &self.term(2, variables)),
+            4 | 5 => atom(self.below(4) as u16, &[self.term(1, variables)]),
+            6 | 7 => conj(&self.goal(depth - 1, variables), &self.goal(depth - 1, variables)),
+            _ => disj(&self.goal(depth - 1, variables), &self.goal(depth - 1, variables)),
+        }
+    }
+}
+
+type Bindings = BTreeMap<u16, TermRef>;
+
+fn resolved(term: &TermRef, bindings: &Bindings) -> TermRef {
+    match term.shape() {
+        Shape::Variable(variable) => bindings.get(variable).map_or_else(|| term.clone(), |bound_to| resolved(bound_to, bindings)),
+        Shape::Symbol(symbol, arguments) => Term::symbol(*symbol, arguments.iter().map(|part| resolved(part, bindings)).collect()),
+    }
+}
+
+fn occurs(variable: u16, term: &TermRef) -> bool {
+    let mut met = false;
+    term.each_variable(|other| met |= other == variable);
+    met
+}
+
+/// The textbook: solve one equation after another, each under the bindings so far; of two variables the higher is bound.
+fn textbook(left: &TermRef, right: &TermRef, bindings: &mut Bindings) -> bool {
+    let (left, right) = (resolved(left, bindings), resolved(right, bindings));
+    match (left.shape(), right.shape()) {
+        (Shape::Variable(v), Shape::Variable(w)) if v == w => true,
+        (Shape::Variable(v), Shape::Variable(w)) if v < w => bindings.insert(*w, left.clone()).is_none(),
+        (Shape::Variable(v), _) => !occurs(*v, &right) && bindings.insert(*v, right.clone()).is_none(),
+        (_, Shape::Variable(w)) => !occurs(*w, &left) && bindings.insert(*w, left.clone()).is_none(),
+        (Shape::Symbol(f, x), Shape::Symbol(g, y)) => f == g && x.len() == y.len() && x.iter().zip(y).all(|(s, t)| textbook(s, t, bindings)),
+    }
+}
+
+fn bytes(term: &TermRef) -> Vec<u8> {
+    let mut out = Vec::new();
+    writer::term(&mut out, term);
+    out
+}
+
+#[test]
+fn unifiers() {
+    let (mut dice, mut found) = (Dice(1), 0);
+    for _ in 0..20_000 {
+        let goal = reader::query(&record(&eq(&dice.term(4, 5), &dice.term(4, 5)))).expect("a query");
+        let mut terms = Vec::new();
+        goal.each_term(|term| terms.push(term.clone()));
+        let mut bindings = Bindings::new();
+        let want = textbook(&terms[0], &terms[1], &mut bindings)
+            .then(|| bindings.iter().map(|(&v, term)| (v, bytes(&resolved(term, &bindings)))).collect::<Vec<_>>());
+        let got = unify(&terms[0], &terms[1]).map(|unifier| unifier.pairs().iter().map(|(v, term)| (*v, bytes(term))).collect::<Vec<_>>());
+        assert_eq!(got, want, "{:?} = {:?}", bytes(&terms[0]), bytes(&terms[1]));
+        found += u32::from(got.is_some());
+    }
+    println!("{found} of 20000 have a unifier");
+}
+
+#[test]
+fn walks() {
+    let (mut dice, mut total) = (Dice(2), 0);
+    for _ in 0..1_000 {
+        let program = program(&[0, 1, 2].map(|predicate| definition(predicate, 1, 2, &dice.goal(3, 3))));
+        let start = first(&record(&dice.goal(3, 3)), ROOM).bytes;
+        let mut events = vec![start];
+        let stopped = loop {
+            let next = forward(&program, &events[events.len() - 1], ROOM);
+            if next.number != 0 || events.len() > 100 {
+                break next.number;
+            }
+            events.push(next.bytes);
+        };
+        let (steps, last) = (events.len() as u32 - 1, &events[events.len() - 1]);
+        let there = run(&program, &events[0], steps + u32::from(stopped != 0), Forward, ROOM);
+        assert_eq!((there.number, there.steps, &there.bytes), (stopped, steps, last));
+        for pair in events.windows(2).rev() {
+            assert_eq!(back(&program, &pair[1], ROOM).bytes, pair[0]);
+        }
+        let again = run(&program, last, u32::MAX, Back, ROOM);
+        assert_eq!((again.number, again.steps, &again.bytes), (6, steps, &events[0]));
+        total += steps;
+    }
+    println!("{total} steps forward and back");
+}

@@ -49,7 +49,7 @@ fn unifier_in(
     UnifierAnswer::Unifier(o.length)
 }
 
-// For values of at most 384 bytes together, which have at most 128 nodes: large tables would cost more than the rest of a step.
+// For values of at most 384 bytes together, which have at most 128 nodes: small tables are cheaper to clear.
 fn unify_short(a: &[u8], b: &[u8], out: &mut [u8]) -> UnifierAnswer
     requires { ⌜ OneValue (now a) × OneValue (now b) ⌝ }
     requires { ⌜ length (now a) + length (now b) ≤ 384 ⌝ }

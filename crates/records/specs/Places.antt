@@ -14,7 +14,7 @@ use Rattle.records.specs.Heads.{word-at, definition-head-at}
 use Rattle.records.specs.HeadLaws.{Known, bytes-all}
 use Rattle.records.specs.Items.{read-definition}
 use Rattle.records.specs.ItemLaws.{counted-exact}
-use Rattle.records.specs.Exact.{ancestor-exact, bet-exact}
+use Rattle.records.specs.Exact.{ancestor-exact}
 use Rattle.records.specs.Walk.{end-of, end-at, walk-end}
 use Rattle.records.specs.Gate.{Reading, Accepted, read-event}
 use Rattle.records.specs.Gate.Reading.{refused, tree}
@@ -31,7 +31,7 @@ use Rattle.records.specs.declared.places.DefinitionPlaces.{DefinitionPla
 use Rattle.records.specs.declared.ends.Found.{Found}
 use Rattle.records.specs.declared.ends.Found.the-variants.{At, Nothing}
 use Rattle.records.specs.declared.ends.Item.{Item}
-use Rattle.records.specs.declared.ends.Item.the-variants.{Ancestor as AnAncestor, Bet as ABet}
+use Rattle.records.specs.declared.ends.Item.the-variants.{Ancestor as AnAncestor}
 use Rattle.records.specs.declared.heads.Word.{Word}
 use Rattle.records.specs.declared.heads.Word.the-variants.{Number, Short}
 use Rattle.records.specs.declared.heads.Signature.{Signature}
@@ -62,9 +62,12 @@ lost e = let y : _≡_ {A = ℕ} 0 1 = cc in absurd (omega arith)
 shorted : {P : Type 0} {n : ℕ} → Short ≡ Number n → P
 shorted e = let y : _≡_ {A = ℕ} 0 1 = cc in absurd (omega arith)
 
--- what was found of a row, and of a goal, at a position
+-- what was found of a row, of the last row of a record, and of a goal, at a position
 pub record RowAt (s : List ℕ) (at : ℕ) (i : Item) (r : Row) : Type 0 where
   pub is : (n e : ℕ) → word-at s at ≡ Number n → counted-end i s at ≡ At e → r ≡ record { count = n; from = at + 2; to = e }
+
+pub record LastRowAt (s : List ℕ) (at : ℕ) (r : Row) : Type 0 where
+  pub is : (n : ℕ) → word-at s at ≡ Number n → r ≡ record { count = n; from = at + 2; to = length s }
 
 pub record GoalAt (s : List ℕ) (at : ℕ) (r : Range) : Type 0 where
   pub is : (e : ℕ) → end-at s at 0 1 ≡ At e → r ≡ record { from = at; to = e }
@@ -94,7 +97,7 @@ event-parts s known p g u b e =
     stands-record : {body : List ℕ} → s ≡ record-of body → Stands s 3 body (length s)
     stands-record {body} q = rw (q, length-record-of body) (body-stands body)
 
--- where a goal that stands somewhere ends, and a row of items
+-- where a goal that stands somewhere ends, and a row of ancestors
 pub goal-found : {s : List ℕ} {at e : ℕ} (g : Goal) → GoalFormed g → Stands s at (goal-bytes g) e → end-at s at 0 1 ≡ At e
 unfolding end-at
 goal-found g f w = ap walk-end (walk-goal g f w)
@@ -103,13 +106,9 @@ pub ancestors-found : {s : List ℕ} {at e : ℕ} (u : List Ancestor) → Counte
 unfolding counted-end
 ancestors-found u f w = stands-ends (counted-exact ancestor-exact) u f w
 
-pub bets-found : {s : List ℕ} {at e : ℕ} (b : List Bet) → Counted BetFormed b → Stands s at (counted bet-bytes b) e → counted-end ABet s at ≡ At e
-unfolding counted-end
-bets-found b f w = stands-ends (counted-exact bet-exact) b f w
-
 -- what the code found is what the tree tells
 module _ (s : List ℕ) (known : Known s) where
-  pub places-are : {goal : Range} {ancestors bets : Row} → GoalAt s 4 goal → RowAt s (goal .to) AnAncestor ancestors → RowAt s (ancestors .to) ABet bets
+  pub places-are : {goal : Range} {ancestors bets : Row} → GoalAt s 4 goal → RowAt s (goal .to) AnAncestor ancestors → LastRowAt s (ancestors .to) bets
       → (e : Event) → read-event s ≡ tree e → record { port = getD s 3 0; goal = goal; ancestors = ancestors; bets = bets } ≡ event-places e
   unfolding event-places
   places-are {goal} {ancestors} {bets} ga ra rb (event p g u b) q =
@@ -122,7 +121,7 @@ module _ (s : List ℕ) (known : Known s) where
       let m = k + length (counted ancestor-bytes u) in
       let z : length s ≡ m + length (counted bet-bytes b) = w .bets-stand .end in
       let e3 : bets ≡ row-places bet-bytes m b =
-      (rw e2 at rb) .is (length b) (m + length (counted bet-bytes b)) (word-stands (length b) (each bet-bytes b) (w .formed .2 .0) (w .bets-stand)) (rw z at (bets-found b (w .formed .2) (w .bets-stand))) in
+      (rw e2 at rb) .is (length b) (word-stands (length b) (each bet-bytes b) (w .formed .2 .0) (w .bets-stand)) ∙ rw z refl in
       rw (e0, e1, e2, e3) refl
 
 -- an accepted event is an event
@@ -162,6 +161,17 @@ module _ (s : List ℕ) (at : ℕ) (i : Item) {w : Word} (is : w ≡ word-at s a
 
   pub row-short : {r : Row} → w ≡ Short → RowAt s at i r
   row-short q = record { is = λ m d p x. shorted (sym q ∙ is ∙ p) }
+
+-- for code that found the last row
+module _ (s : List ℕ) (at : ℕ) {w : Word} (is : w ≡ word-at s at) where
+  pub last-row-is : {n : ℕ} → w ≡ Number n → LastRowAt s at (record { count = n; from = at + 2; to = length s })
+  last-row-is {n} q = record { is = λ m p. same m (sym q ∙ is ∙ p) }
+    where
+      same : (m : ℕ) → Number n ≡ Number m → _≡_ {A = Row} (record { count = n; from = at + 2; to = length s }) (record { count = m; from = at + 2; to = length s })
+      same m a = let x : n ≡ m = cc in rw x refl
+
+  pub last-row-short : {r : Row} → w ≡ Short → LastRowAt s at r
+  last-row-short q = record { is = λ m p. shorted (sym q ∙ is ∙ p) }
 
 -- for code that found a goal's end
 module _ (s : List ℕ) (at : ℕ) {f : Found} (is : f ≡ end-at s at 0 1) where

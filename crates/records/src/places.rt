@@ -20,7 +20,7 @@ ghost use Rattle.records.specs.Gate.{Accepted, read-event};
 ghost use Rattle.records.specs.Gate.Reading.{tree};
 ghost use Rattle.records.specs.CountedEnds.{counted-end};
 ghost use Rattle.records.specs.Stands.{Stands};
-ghost use Rattle.records.specs.Places.{RowAt, GoalAt, event-places, definition-places};
+ghost use Rattle.records.specs.Places.{RowAt, LastRowAt, GoalAt, event-places, definition-places};
 
 // A row of items: how many, and from where to where.
 pub struct Row {
@@ -70,6 +70,24 @@ fn row_place(s: &[u8], at: usize, item: Item) -> Row
     }
 }
 
+// The same for the last row of a record, which ends where the record ends: nothing is walked.
+fn last_row(s: &[u8], at: usize) -> Row
+    ensures { λ r. ⌜ LastRowAt (now (s .entry)) at r ⌝ }
+{
+    match word_at(s, at) {
+        Word::Number(n) => Row {
+            count: n,
+            from: at + 2,
+            to: s.len(),
+        },
+        Word::Short => Row {
+            count: 0,
+            from: 0,
+            to: 0,
+        },
+    }
+}
+
 fn goal_place(s: &[u8], at: usize) -> Range
     ensures { λ r. ⌜ GoalAt (now (s .entry)) at r ⌝ }
 {
@@ -87,7 +105,7 @@ pub fn event_places(s: &[u8]) -> Places
     let port = s[3];
     let goal = goal_place(s, 4);
     let ancestors = row_place(s, goal.to, Item::Ancestor);
-    let bets = row_place(s, ancestors.to, Item::Bet);
+    let bets = last_row(s, ancestors.to);
     Places {
         port,
         goal,

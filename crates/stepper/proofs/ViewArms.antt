@@ -8,7 +8,7 @@ use Rattle.records.specs.Items.{read-ancestor, read-bet}
 use Rattle.records.specs.Walk.{end-of, end-at}
 use Rattle.records.specs.declared.ends.Found.{Found}
 use Rattle.records.specs.declared.places.Row.{Row}
-use Rattle.stepper.specs.View.{found-end, middle-at, untagged, tagged, no-part, goal-part-at, ancestor-part-at, bet-part-at, ancestor-top-at, bet-top-at}
+use Rattle.stepper.specs.View.{found-end, middle-at, untagged, tagged, no-part, ancestor-part-at, bet-part-at, ancestor-top-at, bet-top-at}
 use Rattle.stepper.specs.declared.view.Part.{Part}
 
 module _ (s : List ℕ) (at : ℕ) {f : Found} where
@@ -23,11 +23,6 @@ module _ (s : List ℕ) (at : ℕ) {f : Found} where
   pub middle-disj : (to : ℕ) {kind r : ℕ} → kind ≡ 0x14 → f ≡ end-at s at 0 1 → r ≡ found-end f → r ≡ middle-at s at kind to
   unfolding middle-at
   middle-disj to k e q = rw k (q ∙ ap found-end e)
-
-  pub goal-parted : {to m : ℕ} → f ≡ end-at s at 0 1 → to ≡ found-end f → m ≡ middle-at s (at + 1) (getD s at 0) to
-      → untagged (getD s at 0) at m to ≡ goal-part-at s at
-  unfolding goal-part-at
-  goal-parted e q p = rw (p, q, e) refl
 
   pub ancestor-called : {to : ℕ} → f ≡ end-of read-ancestor s at → to ≡ found-end f → getD s at 0 ≡ 0x15
       → untagged (getD s at 0) at to to ≡ ancestor-part-at s at

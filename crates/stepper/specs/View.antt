@@ -12,6 +12,7 @@ use Rattle.records.specs.Walk.{end-of, end-at}
 use Rattle.records.specs.Places.{goal-end}
 use Rattle.records.specs.declared.ends.Found.{Found}
 use Rattle.records.specs.declared.ends.Found.the-variants.{At, Nothing}
+use Rattle.records.specs.declared.put.Range.{Range}
 use Rattle.records.specs.declared.places.Row.{Row}
 use Rattle.stepper.specs.declared.view.Part.{Part}
 use Rattle.stepper.specs.declared.view.StackPlaces.{StackPlaces}
@@ -41,8 +42,8 @@ abbrev pub no-part : ℕ → Part
 no-part at = record { kind = 0; tag = 0; from = at; content = at; middle = at; to = at }
 
 -- the parts at a position, by the bytes
-unfoldable pub goal-part-at : List ℕ → ℕ → Part
-goal-part-at s at = untagged (getD s at 0) at (middle-at s (at + 1) (getD s at 0) (found-end (end-at s at 0 1))) (found-end (end-at s at 0 1))
+abbrev pub goal-part-at : List ℕ → Range → Part
+goal-part-at s r = let kind = getD s (r .from) 0 in untagged kind (r .from) (middle-at s (r .from + 1) kind (r .to)) (r .to)
 
 unfoldable pub ancestor-part-at : List ℕ → ℕ → Part
 ancestor-part-at s at =

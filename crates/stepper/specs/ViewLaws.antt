@@ -41,15 +41,15 @@ module _ {s : List ℕ} {at : ℕ} where
       → end-at s (at + length head) 0 1 ≡ At (goal-end (at + length head) a)
   half-found head a rest f w = goal-found a f (stands-first (goal-bytes a) rest (stands-second head (goal-bytes a ++ rest) w))
 
-  pub goal-part-is : (g : Goal) → GoalFormed g → Stands s at (goal-bytes g) (goal-end at g) → goal-part-at s at ≡ goal-part at g
-  unfolding goal-part-at middle-at
-  goal-part-is truth f w = rw (first-byte w, goal-found truth f w) refl
-  goal-part-is failure f w = rw (first-byte w, goal-found failure f w) refl
+  pub goal-part-is : (g : Goal) → GoalFormed g → Stands s at (goal-bytes g) (goal-end at g) → goal-part-at s (record { from = at; to = goal-end at g }) ≡ goal-part at g
+  unfolding middle-at
+  goal-part-is truth f w = rw (first-byte w) refl
+  goal-part-is failure f w = rw (first-byte w) refl
   goal-part-is (equal t u) f w =
-      rw (first-byte w, goal-found (equal t u) f w, term-found t (f .0) (stands-first (term-bytes t) (term-bytes u) (stands-second (0x12 ∷ []) (term-bytes t ++ term-bytes u) w))) refl
-  goal-part-is (conj a b) f w = rw (first-byte w, goal-found (conj a b) f w, half-found (0x13 ∷ []) a (goal-bytes b) (f .0) w) refl
-  goal-part-is (disj a b) f w = rw (first-byte w, goal-found (disj a b) f w, half-found (0x14 ∷ []) a (goal-bytes b) (f .0) w) refl
-  goal-part-is (atom p ts) f w = rw (first-byte w, goal-found (atom p ts) f w) refl
+      rw (first-byte w, term-found t (f .0) (stands-first (term-bytes t) (term-bytes u) (stands-second (0x12 ∷ []) (term-bytes t ++ term-bytes u) w))) refl
+  goal-part-is (conj a b) f w = rw (first-byte w, half-found (0x13 ∷ []) a (goal-bytes b) (f .0) w) refl
+  goal-part-is (disj a b) f w = rw (first-byte w, half-found (0x14 ∷ []) a (goal-bytes b) (f .0) w) refl
+  goal-part-is (atom p ts) f w = rw (first-byte w) refl
 
   pub ancestor-part-is : (a : Ancestor) → AncestorFormed a → Stands s at (ancestor-bytes a) (ancestor-end at a) → ancestor-part-at s at ≡ ancestor-part at a
   unfolding ancestor-part-at
@@ -138,7 +138,7 @@ module _ (s : List ℕ) (known : Known s) {places : Places} (is : (e : Event) �
           })
 
   -- what the code looks at is what the tree tells
-  pub view-is : {goal ancestor bet : Part} {ancestors bets : StackPlaces} → goal ≡ goal-part-at s (places .goal .from)
+  pub view-is : {goal ancestor bet : Part} {ancestors bets : StackPlaces} → goal ≡ goal-part-at s (places .goal)
       → ancestor ≡ ancestor-top-at s (places .ancestors) → ancestors ≡ stack-at (places .ancestors) (ancestor .to)
       → bet ≡ bet-top-at s (places .bets) → bets ≡ stack-at (places .bets) (bet .to)
       → (e : Event) → read-event s ≡ tree e

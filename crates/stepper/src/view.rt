@@ -6,6 +6,7 @@ use records::ends::goals_end;
 use records::ends::term_end;
 use records::places::Row;
 use records::places::event_places;
+use records::put::Range;
 ghost use mathlib.Core.Path.{_≡_};
 ghost use Prim.Native.Nat.{_+_, _-_, _<_};
 ghost use lib.ListN.{length};
@@ -66,12 +67,13 @@ fn middle(s: &[u8], at: usize, kind: u8, to: usize) -> usize
     }
 }
 
-fn goal_part(s: &[u8], at: usize) -> Part
-    requires { ⌜ at < length (now s) ⌝ }
-    ensures { λ r. ⌜ r ≡ goal-part-at (now (s .entry)) at ⌝ }
+fn goal_part(s: &[u8], goal: Range) -> Part
+    requires { ⌜ goal .from < length (now s) ⌝ }
+    ensures { λ r. ⌜ r ≡ goal-part-at (now (s .entry)) goal ⌝ }
 {
+    let at = goal.from;
+    let to = goal.to;
     let kind = s[at];
-    let to = found_end(goals_end(s, at, 1));
     Part {
         kind,
         tag: 0,
@@ -198,7 +200,7 @@ pub fn event_view(event: &[u8]) -> View
     ensures { λ r. ⌜ ((e : Event) → read-event (now (event .entry)) ≡ tree e → r ≡ event-view e) ⌝ }
 {
     let places = event_places(event);
-    let goal = goal_part(event, places.goal.from);
+    let goal = goal_part(event, places.goal);
     let ancestor = ancestor_top(event, places.ancestors);
     let ancestors = stack_places(places.ancestors, ancestor.to);
     let bet = bet_top(event, places.bets);

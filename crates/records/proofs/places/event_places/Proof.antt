@@ -12,11 +12,11 @@ goal-place-requires c κs = tt
 row-place-requires : tie.Need-row-place-requires
 row-place-requires c κs = tt
 
-row-place-requires-2 : tie.Need-row-place-requires-2
-row-place-requires-2 c κs = tt
+last-row-requires : tie.Need-last-row-requires
+last-row-requires c κs = tt
 
 returns : tie.Need-returns
-returns c = places-are _ (c .before .before .before .before .shared-slice-known .given) (c .before .before .goal-place .ensures) (c .before .row-place .ensures) (c .row-place2 .ensures)
+returns c = places-are _ (c .before .before .before .before .shared-slice-known .given) (c .before .before .goal-place .ensures) (c .before .row-place .ensures) (c .last-row .ensures)
 
 pub event-places-spec : {M : Type 1} → statement M
 event-places-spec =
@@ -25,5 +25,5 @@ event-places-spec =
     shared-slice-read-port
     goal-place-requires
     row-place-requires
-    row-place-requires-2
+    last-row-requires
     returns)

@@ -1,16 +1,10 @@
-use Rattle.stepper.proofs.ViewArms.{goal-parted}
+use mathlib.Core.Path.{refl}
 use borrow.Author.Needs.{needs}
 use Rattle.stepper.proofs.view.goal_part.Statement.{statement}
 use Rattle.stepper.proofs.view.goal_part.Tie as tie
 
 shared-slice-read-kind : tie.Need-shared-slice-read-kind
 shared-slice-read-kind c = search needs
-
-goals-end-requires : tie.Need-goals-end-requires
-goals-end-requires c κs = search needs
-
-found-end-requires : tie.Need-found-end-requires
-found-end-requires c κs = search needs
 
 add-t8 : tie.Need-add-t8
 add-t8 c = search needs
@@ -22,16 +16,8 @@ middle-requires : tie.Need-middle-requires
 middle-requires c κs = search needs
 
 returns : tie.Need-returns
-returns c = goal-parted _ _ (c .before .before .goals-end .ensures) (c .before .found-end .ensures) (c .middle .ensures)
+returns c = rw (c .middle .ensures) refl
 
 pub goal-part-spec : {M : Type 1} → statement M
 goal-part-spec =
-    tie.close
-    (tie.spec
-    shared-slice-read-kind
-    goals-end-requires
-    found-end-requires
-    add-t8
-    add-middle
-    middle-requires
-    returns)
+    tie.close (tie.spec shared-slice-read-kind add-t8 add-middle middle-requires returns)

@@ -1,11 +1,11 @@
--- The answer for an atom's body, by what the code found: its definition, question 9, and what was written.
+-- The answer for an atom's body, by what the code found: its definition, question 9, the body's length, and what was written.
 use mathlib.Core.Path.{_≡_, refl, sym, ap, _∙_}
 use mathlib.Core.List.{List, [], _∷_, _++_}
 use mathlib.Core.Bool.{Bool, true, false}
 use mathlib.Core.Option.{none}
-use Prim.Native.Nat.{ℕ, _+_, _≤_, _<_}
+use Prim.Native.Nat.{ℕ, _+_, _≤_, _<_, min}
 use native.Mathlib.Omega.{arith}
-use lib.ListN.{length}
+use lib.ListN.{length, take}
 use borrow.Author.Tests.{le-leb, lt-leb}
 use Rattle.records.specs.Syntax.{Goal, arity}
 use Rattle.records.specs.Syntax.Goal.{atom}
@@ -13,6 +13,7 @@ use Rattle.records.specs.Syntax.Definition.{definition}
 use Rattle.records.specs.Encode.{word, terms-bytes, goal-bytes}
 use Rattle.records.specs.Formed.{AtomFormed}
 use Rattle.records.specs.Heads.{goal-head-at}
+use Rattle.records.specs.Patched.{Put}
 use Rattle.records.specs.Stands.{Stands, stands-second, stands-within, goal-stands}
 use Rattle.records.specs.declared.heads.GoalHead.{GoalHead}
 use Rattle.records.specs.declared.heads.GoalHead.the-variants.{Atom}
@@ -20,29 +21,32 @@ use Rattle.terms.specs.Body.{too-many, undefined, defined, locals-beyond
 use Rattle.terms.specs.BodyLaws.{next-variable-formed}
 use Rattle.terms.specs.Frames.{GoalAt}
 use Rattle.terms.specs.Definitions.{ProgramAt, PlaceOf, Located}
-use Rattle.terms.specs.BodyBytes.{ArgumentsAt, AtomAt, Wrote, numbered-goal, body-with, answer, Answered}
+use Rattle.terms.specs.Arguments.{ArgumentsAt, ArgumentTable, term-places}
+use Rattle.terms.specs.BodyBytes.{AtomAt, numbered-goal, body-with, Answered}
 use Rattle.terms.specs.declared.variables.Frame.{Frame}
 use Rattle.terms.specs.declared.definitions.Place.{Place}
 use Rattle.terms.specs.declared.definitions.Lookup.{Lookup}
 use Rattle.terms.specs.declared.definitions.Lookup.the-variants.{Absent, Present}
-use Rattle.terms.specs.declared.body.Written.{Written}
-use Rattle.terms.specs.declared.body.Written.the-variants.{Upto, TooLong}
 use Rattle.terms.specs.declared.body.BodyAnswer.{BodyAnswer}
-use Rattle.terms.specs.declared.body.BodyAnswer.the-variants.{TooMany, Undefined, Defined}
+use Rattle.terms.specs.declared.body.BodyAnswer.the-variants.{TooMany, Undefined, Defined, TooLong}
 
--- a body that was written, or did not fit
-written-answer : {before after : List ℕ} (g : Goal) (w : Written) → Wrote before 0 (goal-bytes g) after w → Answered before after (defined g) (answer w)
-written-answer {before} {after} g (Upto n) h =
-    let e : n ≡ length (goal-bytes g) = h .outcome .0 .place ∙ omega arith in
+-- a body that fits, and one that does not, by the length that was measured
+pub written-answer : {before after : List ℕ} (g : Goal) {n to : ℕ} → n ≡ min (length before + 1) (length (goal-bytes g)) → n ≤ length before
+    → Put before 0 (goal-bytes g) after to → Answered before after (defined g) (Defined n)
+written-answer {before} {after} g {n} {to} is h p =
+    let e : n ≡ length (goal-bytes g) = omega arith in
+    let q : to ≡ length (goal-bytes g) = p .place ∙ omega arith in
     record {
-      number = rw (le-leb (length (goal-bytes g)) (length before) (omega (arith, h .outcome .1))) (ap Defined e);
-      written = λ f q k. let z : g ≡ f = cc in rw (← z, ← e) (h .outcome .0);
-      kept = λ n. absurd (n g refl);
+      number = rw (le-leb (length (goal-bytes g)) (length before) (omega arith)) (ap Defined e);
+      written = λ f i k. let z : g ≡ f = cc in rw (← z) (rw q at p);
+      kept = λ no. absurd (no n refl);
     }
-written-answer {before} {after} g TooLong h = record {
-  number = rw (lt-leb (length (goal-bytes g)) (length before) (omega (arith, h .outcome)));
-  written = λ f q k. let z : g ≡ f = cc in absurd (omega (arith, h .outcome, ap (λ (x : Goal). length (goal-bytes x)) z));
-  kept = λ n. absurd (n g refl);
+
+pub long-answer : {before : List ℕ} (g : Goal) {n : ℕ} → n ≡ min (length before + 1) (length (goal-bytes g)) → length before < n → Answered before before (defined g) TooLong
+long-answer {before} g is h = record {
+  number = rw (lt-leb (length (goal-bytes g)) (length before) (omega arith));
+  written = λ f i k. let z : g ≡ f = cc in absurd (omega (arith, ap (λ (x : Goal). length (goal-bytes x)) z));
+  kept = λ no. refl;
 }
 
 -- nothing was written
@@ -69,6 +73,17 @@ module _ {s : List ℕ} {f : Frame} (a : AtomAt s f) where
     stands = stands-second (0x15 ∷ (word (a .predicate) ++ (arity (a .terms) ∷ []))) (terms-bytes (a .terms)) atom-here;
   }
 
+  -- and are at most 16
+  pub atom-few : {k : ℕ} → arity (a .terms) ≡ k → k < 17
+  atom-few e = omega (arith, atom-formed .1)
+
+  -- a table that was filled with their places
+  abbrev pub atom-table : {k : ℕ} {table : List ℕ} → arity (a .terms) ≡ k
+      → ((x : ArgumentsAt s (record { at = f .goal + 4; arity = k })) → take (k + 1) table ≡ term-places (f .goal + 4) (x .terms)) → ArgumentTable s k table
+  atom-table e t =
+      let x = atom-arguments e in
+      record { listed = record { terms = x .terms; many = x .many; at = f .goal + 4; places = t x }; end = x .end; stands = x .stands }
+
   pub atom-room : f .goal + 4 ≤ length s
   atom-room = omega (arith, stands-within atom-here (omega arith), atom-here .end)
 
@@ -91,11 +106,12 @@ module _ {s : List ℕ} {f : Frame} (a : AtomAt s f) where
     unfolding body-with
     body-too-many out g e = rw (← new, sym test ∙ e) (too-many-answer out)
 
-    pub body-written : {program before after : List ℕ} {at k : ℕ} (g : GoalAt program at) → arity (a .terms) ≡ k → b ≡ false → {w : Written} {r : BodyAnswer}
-        → ((h : GoalAt program at) (x : ArgumentsAt s (record { at = f .goal + 4; arity = k })) → Wrote before 0 (goal-bytes (numbered-goal (x .terms) m (h .item))) after w)
-        → r ≡ answer w → Answered before after (body-with l (g .item) (a .terms) first-new) r
+    pub body-written : {program before after table : List ℕ} {at k : ℕ} (g : GoalAt program at) (q : arity (a .terms) ≡ k) → b ≡ false → {r : BodyAnswer}
+        → ((x : ArgumentsAt s (record { at = f .goal + 4; arity = k })) → take (k + 1) table ≡ term-places (f .goal + 4) (x .terms))
+        → ((h : GoalAt program at) (x : ArgumentTable s k table) → Answered before after (defined (numbered-goal (x .listed .terms) m (h .item))) r)
+        → Answered before after (body-with l (g .item) (a .terms) first-new) r
     unfolding body-with numbered-goal atom-arguments
-    body-written g q e {w} {r} h is = rw (← new, sym test ∙ e, is) (written-answer _ w (h g (atom-arguments q)))
+    body-written g q e t h = rw (← new, sym test ∙ e) (h g (atom-table q t))
 
   -- the body by what was found of a definition
   module _ {program : List ℕ} (d : ProgramAt program) {h : GoalHead} {p k : ℕ} (is : h ≡ goal-head-at s (f .goal)) (e : h ≡ Atom p k) where

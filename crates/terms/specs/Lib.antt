@@ -38,6 +38,7 @@ pub mod Frames
 pub mod TopLaws
 pub mod Definitions
 pub mod DefinitionLaws
+pub mod Arguments
 pub mod BodyBytes
 pub mod ArgumentLaws
 pub mod WritingLaws

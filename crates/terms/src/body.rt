@@ -1,12 +1,13 @@
 // The body of an atom: its definition's goal, with the head's variables become the atom's arguments and the locals new variables.
+// It is measured before it is written, and nothing is written where it does not fit.
+use crate::arguments::Arguments;
+use crate::arguments::argument;
+use crate::arguments::list_arguments;
 use crate::definitions::Lookup;
 use crate::definitions::Place;
 use crate::definitions::find_definition;
 use crate::variables::Frame;
 use crate::variables::next_variable;
-use records::ends::Found;
-use records::ends::args_end;
-use records::ends::term_end;
 use records::heads::GoalHead;
 use records::heads::goal_head;
 use records::put::Range;
@@ -17,29 +18,17 @@ use records::walk::Cursor;
 use records::walk::Step;
 use records::walk::walk_step;
 ghost use mathlib.Core.Path.{_≡_};
-ghost use Prim.Native.Nat.{ℕ, _+_, _-_, _<_, _≤_, _^_};
+ghost use Prim.Native.Nat.{ℕ, _+_, _-_, _<_, _≤_, _^_, min};
 ghost use lib.ListN.{length};
 ghost use Rattle.records.specs.Syntax.Term.{var};
 ghost use Rattle.records.specs.Syntax.{arity};
 ghost use Rattle.records.specs.Encode.{term-bytes, goal-bytes};
-ghost use Rattle.records.specs.Range.{cut, Inside};
-ghost use Rattle.records.specs.Stands.{Stands};
-ghost use Rattle.terms.specs.Body.{numbered, locals-beyond, body, next-variable};
+ghost use Rattle.records.specs.Patched.{Put};
+ghost use Rattle.terms.specs.Arguments.{TermTable, ArgumentTable};
+ghost use Rattle.terms.specs.Body.{numbered, defined, locals-beyond, body, next-variable};
 ghost use Rattle.terms.specs.Frames.{GoalAt};
 ghost use Rattle.terms.specs.Definitions.{ProgramAt};
-ghost use Rattle.terms.specs.BodyBytes.{Wrote, ArgumentsAt, AtomAt, position, numbered-goal, body-with, answer, Answered};
-
-// An argument list: where it stands, and how many terms it has.
-pub struct Arguments {
-    pub at: usize,
-    pub arity: usize,
-}
-
-// The place after what was written, or there is no room for it.
-pub enum Written {
-    Upto(usize),
-    TooLong,
-}
+ghost use Rattle.terms.specs.BodyBytes.{AtomAt, numbered-goal, body-with, Answered};
 
 // Question 9 says no, there is no definition, the body has so many bytes, or the output is too short for it.
 pub enum BodyAnswer {
@@ -49,46 +38,61 @@ pub enum BodyAnswer {
     TooLong,
 }
 
-fn position(f: Found) -> usize
-    ensures { λ r. ⌜ r ≡ position f ⌝ }
+// The length of what the variable v of a definition becomes: an argument, or a new variable.
+fn numbered_length(table: &[usize], k: usize, v: usize) -> usize
+    requires { ⌜ TermTable k (now table) ⌝ }
+    ensures { λ r. ⌜ ((t : TermTable k (now (table .entry))) (m : ℕ) → r ≡ length (term-bytes (numbered (t .terms) m v))) ⌝ }
 {
-    match f {
-        Found::At(e) => e,
-        Found::Nothing => 0,
+    if v < k {
+        let range = argument(table, v);
+        return range.to - range.from;
     }
+    3
 }
 
-// The i-th of the arguments.
-fn argument(event: &[u8], args: Arguments, i: usize) -> Range
-    requires { ⌜ ArgumentsAt (now event) args ⌝ }
-    requires { ⌜ i < args .arity ⌝ }
-    ensures { λ r. ⌜ ((a : ArgumentsAt (now (event .entry)) args) (m : ℕ) → Stands (now (event .entry)) (r .from) (term-bytes (numbered (a .terms) m i)) (r .to)) ⌝ }
+// n + more, but at most one more than the room.
+fn added(n: usize, more: usize, room: usize) -> usize
+    requires { ⌜ (n ≤ room) × (room + 1 < 2 ^ 64) ⌝ }
+    ensures { λ r. ⌜ r ≡ min (room + 1) (n + more) ⌝ }
 {
-    let from = position(args_end(event, args.at, i));
-    let to = position(term_end(event, from));
-    Range { from, to }
+    if room - n < more { room + 1 } else { n + more }
 }
 
-fn write_range(out: &mut [u8], at: usize, src: &[u8], range: Range) -> Written
-    requires { ⌜ Inside range (now src) ⌝ }
-    requires { ⌜ at ≤ length (now out) ⌝ }
-    ensures { λ r. ⌜ Wrote (now (out .entry)) at (cut (now (src .entry)) range) (now (out .exit)) r ⌝ }
+// The length of the goal that stands in the program, numbered; room + 1 where it is more than the room.
+fn body_length(program: &[u8], goal: usize, table: &[usize], k: usize, room: usize) -> usize
+    requires { ⌜ GoalAt (now program) goal ⌝ }
+    requires { ⌜ TermTable k (now table) ⌝ }
+    requires { ⌜ room + 1 < 2 ^ 64 ⌝ }
+    ensures { λ r. ⌜ ((g : GoalAt (now (program .entry)) goal) (t : TermTable k (now (table .entry))) (m : ℕ) → r ≡ min (room + 1) (length (goal-bytes (numbered-goal (t .terms) m (g .item))))) ⌝ }
 {
-    if out.len() - at < range.to - range.from {
-        return Written::TooLong;
+    let mut c = Cursor {
+        pos: goal,
+        terms: 0,
+        goals: 1,
+    };
+    let mut n = 0;
+    while n <= room {
+        match walk_step(program, c) {
+            Step::Variable(v, d) => {
+                n = added(n, numbered_length(table, k, v), room);
+                c = d;
+            }
+            Step::Other(d) => {
+                n = added(n, d.pos - c.pos, room);
+                c = d;
+            }
+            Step::Done => return n,
+        }
     }
-    Written::Upto(put_range(out, at, src, range))
+    n
 }
 
-fn write_variable(out: &mut [u8], at: usize, v: usize) -> Written
-    requires { ⌜ at ≤ length (now out) ⌝ }
-    ensures { λ r. ⌜ Wrote (now (out .entry)) at (term-bytes (var v)) (now (out .exit)) r ⌝ }
+fn write_variable(out: &mut [u8], at: usize, v: usize) -> usize
+    requires { ⌜ at + 3 ≤ length (now out) ⌝ }
+    ensures { λ r. ⌜ Put (now (out .entry)) at (term-bytes (var v)) (now (out .exit)) r ⌝ }
 {
-    if out.len() - at < 3 {
-        return Written::TooLong;
-    }
     let next = put_byte(out, at, 0x01);
-    Written::Upto(put_word(out, next, v))
+    put_word(out, next, v)
 }
 
 // What the variable v of a definition becomes: an argument, or a new variable from m on.
@@ -96,36 +100,35 @@ fn write_numbered(
     out: &mut [u8],
     at: usize,
     event: &[u8],
-    args: Arguments,
+    table: &[usize],
+    k: usize,
     m: usize,
     v: usize,
-) -> Written
-    requires { ⌜ ArgumentsAt (now event) args ⌝ }
-    requires { ⌜ at ≤ length (now out) ⌝ }
+) -> usize
+    requires { ⌜ ((a : ArgumentTable (now event) k (now table)) × (at + length (term-bytes (numbered (a .listed .terms) m v)) ≤ length (now out))) ⌝ }
     requires { ⌜ m + v < 2 ^ 64 ⌝ }
-    ensures { λ r. ⌜ ((a : ArgumentsAt (now (event .entry)) args) → Wrote (now (out .entry)) at (term-bytes (numbered (a .terms) m v)) (now (out .exit)) r) ⌝ }
+    ensures { λ r. ⌜ ((a : ArgumentTable (now (event .entry)) k (now (table .entry))) → Put (now (out .entry)) at (term-bytes (numbered (a .listed .terms) m v)) (now (out .exit)) r) ⌝ }
 {
-    let k = args.arity;
     if v < k {
-        let range = argument(event, args, v);
-        return write_range(out, at, event, range);
+        let range = argument(table, v);
+        return put_range(out, at, event, range);
     }
     write_variable(out, at, m + (v - k))
 }
 
-// The goal that stands in the program, numbered, from the start of the output on.
+// The goal that stands in the program, numbered, from the start of the output on, which has room for it.
 fn write_body(
     program: &[u8],
     goal: usize,
     event: &[u8],
-    args: Arguments,
+    table: &[usize],
+    k: usize,
     m: usize,
     out: &mut [u8],
-) -> Written
-    requires { ⌜ GoalAt (now program) goal ⌝ }
-    requires { ⌜ ArgumentsAt (now event) args ⌝ }
+) -> usize
     requires { ⌜ m ≤ 65536 ⌝ }
-    ensures { λ r. ⌜ ((g : GoalAt (now (program .entry)) goal) (a : ArgumentsAt (now (event .entry)) args) → Wrote (now (out .entry)) 0 (goal-bytes (numbered-goal (a .terms) m (g .item))) (now (out .exit)) r) ⌝ }
+    requires { ⌜ ((g : GoalAt (now program) goal) × (a : ArgumentTable (now event) k (now table)) × (length (goal-bytes (numbered-goal (a .listed .terms) m (g .item))) ≤ length (now out))) ⌝ }
+    ensures { λ r. ⌜ ((g : GoalAt (now (program .entry)) goal) (a : ArgumentTable (now (event .entry)) k (now (table .entry))) → Put (now (out .entry)) 0 (goal-bytes (numbered-goal (a .listed .terms) m (g .item))) (now (out .exit)) r) ⌝ }
 {
     let mut c = Cursor {
         pos: goal,
@@ -135,31 +138,44 @@ fn write_body(
     let mut at = 0;
     loop {
         match walk_step(program, c) {
-            Step::Variable(v, d) => match write_numbered(out, at, event, args, m, v) {
-                Written::Upto(e) => {
-                    at = e;
-                    c = d;
-                }
-                Written::TooLong => return Written::TooLong,
-            },
-            Step::Other(d) => match write_range(
-                out,
-                at,
-                program,
-                Range {
+            Step::Variable(v, d) => {
+                at = write_numbered(out, at, event, table, k, m, v);
+                c = d;
+            }
+            Step::Other(d) => {
+                let range = Range {
                     from: c.pos,
                     to: d.pos,
-                },
-            ) {
-                Written::Upto(e) => {
-                    at = e;
-                    c = d;
-                }
-                Written::TooLong => return Written::TooLong,
-            },
-            Step::Done => return Written::Upto(at),
+                };
+                at = put_range(out, at, program, range);
+                c = d;
+            }
+            Step::Done => return at,
         }
     }
+}
+
+// The numbered goal and its length: it is measured, refused where the output is too short for it, and then written.
+fn numbered_body(
+    program: &[u8],
+    goal: usize,
+    event: &[u8],
+    table: &[usize],
+    k: usize,
+    m: usize,
+    out: &mut [u8],
+) -> BodyAnswer
+    requires { ⌜ GoalAt (now program) goal ⌝ }
+    requires { ⌜ ArgumentTable (now event) k (now table) ⌝ }
+    requires { ⌜ m ≤ 65536 ⌝ }
+    ensures { λ r. ⌜ ((g : GoalAt (now (program .entry)) goal) (a : ArgumentTable (now (event .entry)) k (now (table .entry))) → Answered (now (out .entry)) (now (out .exit)) (defined (numbered-goal (a .listed .terms) m (g .item))) r) ⌝ }
+{
+    let n = body_length(program, goal, table, k, out.len());
+    if out.len() < n {
+        return BodyAnswer::TooLong;
+    }
+    write_body(program, goal, event, table, k, m, out);
+    BodyAnswer::Defined(n)
 }
 
 // Question 9: would one of the locals from m on be above 65,535?
@@ -168,15 +184,6 @@ fn locals_beyond(m: usize, locals: usize) -> bool
     ensures { λ r. ⌜ r ≡ locals-beyond m locals ⌝ }
 {
     0 < locals && 65536 < m + locals
-}
-
-fn answer(w: Written) -> BodyAnswer
-    ensures { λ r. ⌜ r ≡ answer w ⌝ }
-{
-    match w {
-        Written::Upto(n) => BodyAnswer::Defined(n),
-        Written::TooLong => BodyAnswer::TooLong,
-    }
 }
 
 // The body by the definition at a place.
@@ -201,7 +208,9 @@ fn body_with(
         at: frame.goal + 4,
         arity: k,
     };
-    answer(write_body(program, place.goal, event, args, m, out))
+    let mut table: [usize; 17] = [0; 17];
+    list_arguments(event, args, &mut table);
+    numbered_body(program, place.goal, event, &table, k, m, out)
 }
 
 // The body of the atom that an event's goal is, written from the start of the output on.

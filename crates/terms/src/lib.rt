@@ -1,5 +1,6 @@
 // Terms: substitution, the value service, the most general unifier and the body of an atom.
 pub mod apply; // apply.rt: a bet stack applied to a term
+pub mod arguments; // arguments.rt: where the arguments of an atom stand
 pub mod body; // body.rt: the numbered body of an atom
 pub mod classes; // classes.rt: the classes of nodes that a unifier must make equal
 pub mod definitions; // definitions.rt: the definition of a predicate and an arity

@@ -1,5 +1,4 @@
 // The port counts of a walk, which the caller keeps.
-use stepper::counts::Counted;
 use stepper::counts::Counts;
 use stepper::counts::count;
 ghost use mathlib.Core.Path.{_≡_};

@@ -4,9 +4,10 @@ use records::gate::event_verdict;
 use records::places::event_places;
 ghost use mathlib.Core.Path.{_≡_};
 ghost use Rattle.stepper.specs.Counts.{one-more, count-record};
-ghost use Rattle.stepper.specs.PortCounts.{counts-of, reply-with, reply-of, with-port};
+ghost use Rattle.stepper.specs.PortCounts.{counts-of, reply-of, with-port};
 
-// How many events of each port a walk passed.
+// How many events of each port a walk passed, laid out as in C, whose programs lend such counts.
+#[repr(C)]
 pub struct Counts {
     pub calls: u32,
     pub exits: u32,
@@ -73,13 +74,4 @@ pub fn count(counts: Counts, event: &[u8]) -> Counted
         number: 0,
         counts: next,
     }
-}
-
-// The counter on counts that are lent: they become the counts afterwards.
-pub fn add_event(counts: &mut Counts, event: &[u8]) -> u8
-    ensures { λ r. ⌜ reply-with r (now (counts .exit)) ≡ count-record (now (event .entry)) (counts-of (now (counts .entry))) ⌝ }
-{
-    let counted = count(*counts, event);
-    *counts = counted.counts;
-    counted.number
 }

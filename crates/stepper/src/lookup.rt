@@ -65,7 +65,7 @@ fn named_range(program: &[u8], event: &[u8]) -> Range
 }
 
 // The same for all input: nothing if a record is refused.
-fn lookup_range(program: &[u8], event: &[u8]) -> Range
+pub fn lookup_range(program: &[u8], event: &[u8]) -> Range
     ensures { λ r. ⌜ r ≡ range-of (lookup (now (program .entry)) (now (event .entry))) ⌝ }
 {
     if program_number(program_verdict(program)) != 0 {

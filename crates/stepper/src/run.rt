@@ -41,7 +41,7 @@ fn step_on(program: &[u8], event: &[u8], back: bool, out: &mut [u8]) -> Emit
 }
 
 // One step from the event whose record has the first `len` bytes of `here`; the event that it gives is put there too.
-fn turn(program: &[u8], here: &mut [u8], len: usize, there: &mut [u8], back: bool) -> Emit
+pub fn turn(program: &[u8], here: &mut [u8], len: usize, there: &mut [u8], back: bool) -> Emit
     requires { ⌜ Passed (now program) (take len (now here)) ⌝ }
     requires { ⌜ len ≤ length (now here) ⌝ }
     requires { ⌜ 32768 ≤ length (now here) ⌝ }

@@ -1,0 +1,16 @@
+// The port counts of a walk, which the caller keeps.
+use stepper::counts::Counts;
+use stepper::counts::count;
+ghost use mathlib.Core.Path.{_≡_};
+ghost use Rattle.stepper.specs.Counts.{count-record};
+ghost use Rattle.stepper.specs.PortCounts.{counts-of, reply-with};
+
+// Adds an event's port to the counts that are lent; a refused event changes none.
+#[no_mangle]
+pub extern "C" fn fourport_count(counts: &mut Counts, event: &[u8]) -> u32
+    ensures { λ r. ⌜ reply-with r (now (counts .exit)) ≡ count-record (now (event .entry)) (counts-of (now (counts .entry))) ⌝ }
+{
+    let counted = count(*counts, event);
+    *counts = counted.counts;
+    counted.number as u32
+}

@@ -1,0 +1,107 @@
+/* The rule desk for C and C++: walks of pure Prolog queries by the four-port calculus, forward and back.
+ *
+ * Link with libfourport.a, which `rt staticlib fourport` makes for x86-64 Linux; it needs memcpy and memset of the C library and nothing else.
+ * What is said here of an answer, of what is written and of what stays untouched is proved for every input; see the contracts in crates/fourport.
+ *
+ * Records are those of the specification: a length of two bytes, high byte first, of what follows it, the version byte 1, and the body.
+ *
+ * Numbers. Each function but fourport_lookup answers 0 if it is done, else the number of the first question whose answer is no:
+ *
+ *    1  the program or clause record: is it 3 to 32,768 bytes, its length field naming the rest?
+ *    2  is its version 1?
+ *    3  does the grammar read its body to the last byte, each byte in range?
+ *    4  does it keep the order and variable rules?
+ *   11  the query or event record: as 1
+ *   12  as 2
+ *   13  as 3
+ *   14  does it keep the pair rules of unifiers?
+ *    5  is the output at least FOURPORT_RECORD bytes?
+ *    6  is a walk still possible? No: forward from exit or fail with no ancestors; back from call with both stacks empty
+ *    7  does a rule match? Also, of a step back: does what it finds step forward to the given event?
+ *    8  is each value at most 8,192 bytes?
+ *    9  is every new local at most 65,535? In a canonical program: has every definition at most 255 locals?
+ *   10  does the result fit FOURPORT_RECORD bytes?
+ *
+ * The questions are put in this order: 1 to 4, 11 to 14, 5, and then 6 to 10.
+ *
+ * Duties of a caller, which nothing here can test:
+ *  - A pointer is not null and points to as many readable bytes as the length beside it says, `out` to as many writable and initialised ones; where
+ *    the length is 0 too it is not null. The other pointers point to one writable, initialised and aligned value of their type.
+ *  - What is written (`out`, `taken`, `written`, `at`, `counts`) overlaps nothing else that the call is given. What is only read may overlap.
+ *  - Nobody else writes any of it during the call, or reads what the call writes.
+ *  - The thread has the stack: the deepest terms take just under 2 MiB, so give 4. Linux gives a main thread 8.
+ *
+ * There is no state between calls, no heap and no input or output: calls on different data may run at the same time in any number of threads.
+ * Every call ends.
+ */
+#ifndef FOURPORT_H
+#define FOURPORT_H
+
+#include <stddef.h>
+#include <stdint.h>
+
+/* The longest record, and the shortest output that passes question 5. */
+#define FOURPORT_RECORD 32768
+
+/* The directions of a run. */
+#define FOURPORT_FORWARD 0
+#define FOURPORT_BACK 1
+
+#ifdef __cplusplus
+extern "C" {
+#endif
+
+/* Clauses to canonical program.
+ * 0: the program record stands at the start of `out`, whose bytes after it are untouched.
+ * 1 to 5, 9, 10: `out` is untouched. */
+uint32_t fourport_canonical(const uint8_t *clauses, size_t clauses_length, uint8_t *out, size_t out_length);
+
+/* Query to first event.
+ * 0: the event record stands at the start of `out`, whose bytes after it are untouched.
+ * 11 to 13, 5, 10: `out` is untouched. */
+uint32_t fourport_first(const uint8_t *query, size_t query_length, uint8_t *out, size_t out_length);
+
+/* One step forward.
+ * 0: the record of the next event stands at the start of `out`, whose bytes after it are untouched.
+ * 1 to 10, 11 to 14: `out` is untouched. */
+uint32_t fourport_forward(const uint8_t *program, size_t program_length, const uint8_t *event, size_t event_length, uint8_t *out, size_t out_length);
+
+/* One step back.
+ * 0: the record of the event before stands at the start of `out`, whose bytes after it are untouched.
+ * 1 to 10, 11 to 14: `out` is untouched. */
+uint32_t fourport_back(const uint8_t *program, size_t program_length, const uint8_t *event, size_t event_length, uint8_t *out, size_t out_length);
+
+/* A run: `steps` single steps, forward where `back` is FOURPORT_FORWARD (0), back where it is any other number, or as many as are accepted.
+ * 0: all steps were taken. 6 to 10: the number that refused the next step. In both cases the record of the event reached, the given one if no step
+ * was taken, stands at the start of `out`, whose bytes after it are untouched, and `taken` is the number of steps taken.
+ * 1 to 5, 11 to 14: `out` is untouched, and `taken` is 0. */
+uint32_t fourport_run(const uint8_t *program, size_t program_length, const uint8_t *event, size_t event_length, uint32_t steps, uint8_t back,
+                      uint8_t *out, size_t out_length, uint32_t *taken);
+
+/* The value of the variable `v` under the bets of an event.
+ * 0: its term, without length or version, stands at the start of `out`, whose bytes after it are untouched; `written` is its length, at most 8,192.
+ * 11 to 14, 5, 8: `out` is untouched, and `written` is 0. */
+uint32_t fourport_value(const uint8_t *event, size_t event_length, uint16_t v, uint8_t *out, size_t out_length, uint32_t *written);
+
+/* The definition that the event's goal names, as a part of the program: answers its length, and `at` is where in the program it starts.
+ * Both are 0 if a record is refused, the goal is no atom, or the program has no definition of it. */
+size_t fourport_lookup(const uint8_t *program, size_t program_length, const uint8_t *event, size_t event_length, size_t *at);
+
+/* How many events of each port a walk passed. The caller starts them at 0. */
+typedef struct fourport_counts {
+    uint32_t calls;
+    uint32_t exits;
+    uint32_t fails;
+    uint32_t redos;
+} fourport_counts;
+
+/* Adds an event's port to the counts.
+ * 0: the count of its port is one more, but one of 4,294,967,295 stays; the others are unchanged.
+ * 11 to 14: no count is changed. */
+uint32_t fourport_count(fourport_counts *counts, const uint8_t *event, size_t event_length);
+
+#ifdef __cplusplus
+}
+#endif
+
+#endif

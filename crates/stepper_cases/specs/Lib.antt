@@ -5,5 +5,3 @@ pub mod Kinds
 pub mod KindLaws
 pub mod Lines
 pub mod LineLaws
-pub mod Places
-pub mod PlaceLaws

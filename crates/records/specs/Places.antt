@@ -27,6 +27,7 @@ use Rattle.records.specs.Stands.{Stands, body-stands, stands-first, stan
 use Rattle.records.specs.declared.put.Range.{Range}
 use Rattle.records.specs.declared.places.Row.{Row}
 use Rattle.records.specs.declared.places.Places.{Places}
+use Rattle.records.specs.declared.places.PartEnds.{PartEnds}
 use Rattle.records.specs.declared.places.DefinitionPlaces.{DefinitionPlaces}
 use Rattle.records.specs.declared.ends.Found.{Found}
 use Rattle.records.specs.declared.ends.Found.the-variants.{At, Nothing}
@@ -53,6 +54,10 @@ event-places (event p g u s) = record {
   bets = row-places bet-bytes (goal-end 4 g + length (counted ancestor-bytes u)) s;
 }
 
+-- where the goal and the ancestors of an event end
+unfoldable pub part-ends : Event → PartEnds
+part-ends (event p g u s) = record { goal = goal-end 4 g; ancestors = goal-end 4 g + length (counted ancestor-bytes u) }
+
 unfoldable pub definition-places : ℕ → Definition → DefinitionPlaces
 definition-places at (definition p k n g) = record { predicate = p; arity = k; locals = n; goal = record { from = at + 4; to = goal-end (at + 4) g } }
 
@@ -62,12 +67,12 @@ lost e = let y : _≡_ {A = ℕ} 0 1 = cc in absurd (omega arith)
 shorted : {P : Type 0} {n : ℕ} → Short ≡ Number n → P
 shorted e = let y : _≡_ {A = ℕ} 0 1 = cc in absurd (omega arith)
 
--- what was found of a row, of the last row of a record, and of a goal, at a position
+-- what was found of a row, of one whose end is known, and of a goal, at a position
 pub record RowAt (s : List ℕ) (at : ℕ) (i : Item) (r : Row) : Type 0 where
   pub is : (n e : ℕ) → word-at s at ≡ Number n → counted-end i s at ≡ At e → r ≡ record { count = n; from = at + 2; to = e }
 
-pub record LastRowAt (s : List ℕ) (at : ℕ) (r : Row) : Type 0 where
-  pub is : (n : ℕ) → word-at s at ≡ Number n → r ≡ record { count = n; from = at + 2; to = length s }
+pub record RowTo (s : List ℕ) (at to : ℕ) (r : Row) : Type 0 where
+  pub is : (n : ℕ) → word-at s at ≡ Number n → r ≡ record { count = n; from = at + 2; to = to }
 
 pub record GoalAt (s : List ℕ) (at : ℕ) (r : Range) : Type 0 where
   pub is : (e : ℕ) → end-at s at 0 1 ≡ At e → r ≡ record { from = at; to = e }
@@ -108,20 +113,29 @@ ancestors-found u f w = stands-ends (counted-exact ancestor-exact) u f w
 
 -- what the code found is what the tree tells
 module _ (s : List ℕ) (known : Known s) where
-  pub places-are : {goal : Range} {ancestors bets : Row} → GoalAt s 4 goal → RowAt s (goal .to) AnAncestor ancestors → LastRowAt s (ancestors .to) bets
-      → (e : Event) → read-event s ≡ tree e → record { port = getD s 3 0; goal = goal; ancestors = ancestors; bets = bets } ≡ event-places e
-  unfolding event-places
-  places-are {goal} {ancestors} {bets} ga ra rb (event p g u b) q =
+  pub ends-are : {goal : Range} {ancestors : Row} → GoalAt s 4 goal → RowAt s (goal .to) AnAncestor ancestors
+      → (e : Event) → read-event s ≡ tree e → record { goal = goal .to; ancestors = ancestors .to } ≡ part-ends e
+  unfolding part-ends
+  ends-are {goal} {ancestors} ga ra (event p g u b) q =
       let w = event-parts s known p g u b q in
-      let e0 : getD s 3 0 ≡ port-byte p = sym (getD-drop 3 s 0 0) ∙ ap (λ (l : List ℕ). getD l 0 0) (w .port-stands .bytes) in
-      let e1 : goal ≡ record { from = 4; to = goal-end 4 g } = ga .is (goal-end 4 g) (goal-found g (w .formed .0) (w .goal-stands)) in
       let k = goal-end 4 g in
+      let e1 : goal ≡ record { from = 4; to = k } = ga .is k (goal-found g (w .formed .0) (w .goal-stands)) in
       let e2 : ancestors ≡ row-places ancestor-bytes k u =
       (rw e1 at ra) .is (length u) (k + length (counted ancestor-bytes u)) (word-stands (length u) (each ancestor-bytes u) (w .formed .1 .0) (w .ancestors-stand)) (ancestors-found u (w .formed .1) (w .ancestors-stand)) in
+      rw (e1, e2) refl
+
+  pub places-are : {ends : PartEnds} {ancestors bets : Row} → ((e : Event) → read-event s ≡ tree e → ends ≡ part-ends e)
+      → RowTo s (ends .goal) (ends .ancestors) ancestors → RowTo s (ends .ancestors) (length s) bets
+      → (e : Event) → read-event s ≡ tree e → record { port = getD s 3 0; goal = record { from = 4; to = ends .goal }; ancestors = ancestors; bets = bets } ≡ event-places e
+  unfolding part-ends event-places
+  places-are {ends} {ancestors} {bets} known-ends ra rb (event p g u b) q =
+      let w = event-parts s known p g u b q in
+      let e0 : getD s 3 0 ≡ port-byte p = sym (getD-drop 3 s 0 0) ∙ ap (λ (l : List ℕ). getD l 0 0) (w .port-stands .bytes) in
+      let k = goal-end 4 g in
       let m = k + length (counted ancestor-bytes u) in
-      let z : length s ≡ m + length (counted bet-bytes b) = w .bets-stand .end in
-      let e3 : bets ≡ row-places bet-bytes m b =
-      (rw e2 at rb) .is (length b) (word-stands (length b) (each bet-bytes b) (w .formed .2 .0) (w .bets-stand)) ∙ rw z refl in
+      let e1 : ends ≡ record { goal = k; ancestors = m } = known-ends (event p g u b) q in
+      let e2 : ancestors ≡ row-places ancestor-bytes k u = (rw e1 at ra) .is (length u) (word-stands (length u) (each ancestor-bytes u) (w .formed .1 .0) (w .ancestors-stand)) in
+      let e3 : bets ≡ row-places bet-bytes m b = (rw e1 at rb) .is (length b) (word-stands (length b) (each bet-bytes b) (w .formed .2 .0) (w .bets-stand)) ∙ rw (w .bets-stand .end) refl in
       rw (e0, e1, e2, e3) refl
 
 -- an accepted event is an event
@@ -162,16 +176,16 @@ module _ (s : List ℕ) (at : ℕ) (i : Item) {w : Word} (is : w ≡ word-at s a
   pub row-short : {r : Row} → w ≡ Short → RowAt s at i r
   row-short q = record { is = λ m d p x. shorted (sym q ∙ is ∙ p) }
 
--- for code that found the last row
-module _ (s : List ℕ) (at : ℕ) {w : Word} (is : w ≡ word-at s at) where
-  pub last-row-is : {n : ℕ} → w ≡ Number n → LastRowAt s at (record { count = n; from = at + 2; to = length s })
-  last-row-is {n} q = record { is = λ m p. same m (sym q ∙ is ∙ p) }
+-- for code that found a row whose end is known
+module _ (s : List ℕ) (at to : ℕ) {w : Word} (is : w ≡ word-at s at) where
+  pub row-to-is : {n : ℕ} → w ≡ Number n → RowTo s at to (record { count = n; from = at + 2; to = to })
+  row-to-is {n} q = record { is = λ m p. same m (sym q ∙ is ∙ p) }
     where
-      same : (m : ℕ) → Number n ≡ Number m → _≡_ {A = Row} (record { count = n; from = at + 2; to = length s }) (record { count = m; from = at + 2; to = length s })
+      same : (m : ℕ) → Number n ≡ Number m → _≡_ {A = Row} (record { count = n; from = at + 2; to = to }) (record { count = m; from = at + 2; to = to })
       same m a = let x : n ≡ m = cc in rw x refl
 
-  pub last-row-short : {r : Row} → w ≡ Short → LastRowAt s at r
-  last-row-short q = record { is = λ m p. shorted (sym q ∙ is ∙ p) }
+  pub row-to-short : {r : Row} → w ≡ Short → RowTo s at to r
+  row-to-short q = record { is = λ m p. shorted (sym q ∙ is ∙ p) }
 
 -- for code that found a goal's end
 module _ (s : List ℕ) (at : ℕ) {f : Found} (is : f ≡ end-at s at 0 1) where

@@ -9,6 +9,7 @@ use Rattle.records.specs.declared.plan.Lead.the-variants.{Bare, One, Two
 use Rattle.records.specs.declared.plan.Piece.{Piece}
 use Rattle.records.specs.declared.plan.Stack.{Stack}
 use Rattle.records.specs.declared.plan.Plan.{Plan}
+use Rattle.records.specs.declared.places.PartEnds.{PartEnds}
 
 -- the bytes before a part
 abbrev pub lead-bytes : Lead → List ℕ
@@ -64,3 +65,10 @@ plan-length p = 3 + body-length p
 -- a length, where it is at most 32,768, else 32,769: enough to see that a record is too long, and sums of such numbers do not wrap
 abbrev pub limited : ℕ → ℕ
 limited n = min n 32769
+
+-- where the goal and the ancestors of the planned event end
+abbrev pub plan-ends : Plan → PartEnds
+plan-ends p = record {
+  goal = limited (4 + piece-length (p .goal));
+  ancestors = limited (4 + piece-length (p .goal) + stack-length (p .ancestors));
+}

@@ -1,16 +1,18 @@
 -- Laws of plans: how long the parts of a planned record are, and which event it is the record of.
-use mathlib.Core.Path.{_≡_, refl}
+use mathlib.Core.Path.{_≡_, refl, sym, ap, _∙_}
 use mathlib.Core.List.{List, [], _∷_, _++_}
 use Prim.Native.Nat.{ℕ, _+_, _≤_, _<_}
 use native.Mathlib.Omega.{arith}
 use lib.ListN.{length, length-append}
 use Rattle.records.specs.Syntax.{Goal, Ancestor, Bet, Port}
 use Rattle.records.specs.Syntax.Event.{event}
-use Rattle.records.specs.Encode.{each, counted, goal-bytes, ancestor-bytes, bet-bytes, port-byte, event-record}
+use Rattle.records.specs.Encode.{each, counted, goal-bytes, ancestor-bytes, bet-bytes, port-byte, record-of, event-record}
 use Rattle.records.specs.Emitted.{length-record-of}
 use Rattle.records.specs.Range.{cut, Inside, length-cut, inside-at, cut-at}
 use Rattle.records.specs.Plan.{lead-bytes, piece-bytes, nothing, stack-bytes, planned-body, planned, Within}
-use Rattle.records.specs.Plan.{piece-length, stack-length, body-length, plan-length, limited}
+use Rattle.records.specs.Plan.{piece-length, stack-length, body-length, plan-length, limited, plan-ends}
+use Rattle.records.specs.Places.{part-ends}
+use Rattle.records.specs.declared.places.PartEnds.{PartEnds}
 use Rattle.records.specs.declared.plan.Piece.{Piece}
 use Rattle.records.specs.declared.plan.Stack.{Stack}
 use Rattle.records.specs.declared.plan.Plan.{Plan}
@@ -91,3 +93,29 @@ pub planned-event : (p : Plan) (port : Port) (g : Goal) (u : List Ancestor) (s :
     → planned p source goals bets ≡ event-record (event port g u s)
 unfolding planned planned-body
 planned-event p port g u s source goals bets e h k l = rw (e, h, k, l) refl
+
+-- its ends, from limited lengths
+pub ends-measured : (p : Plan) {piece stack goal ancestors : ℕ} → piece ≡ limited (piece-length (p .goal)) → goal ≡ limited (4 + piece)
+    → stack ≡ limited (stack-length (p .ancestors)) → ancestors ≡ limited (goal + stack) → record { goal = goal; ancestors = ancestors } ≡ plan-ends p
+ends-measured p {goal = goal} {ancestors} a b c d =
+    let x : goal ≡ limited (4 + piece-length (p .goal)) = omega arith in
+    let y : ancestors ≡ limited (4 + piece-length (p .goal) + stack-length (p .ancestors)) = omega arith in
+    rw (x, y) refl
+
+-- and its ends are the event's, where the record is not too long
+pub planned-ends : (p : Plan) (port : Port) (g : Goal) (u : List Ancestor) (s : List Bet) {source goals bets : List ℕ} → Within p source goals bets
+    → piece-bytes (p .goal) goals ≡ goal-bytes g → stack-bytes (p .ancestors) source source ≡ counted ancestor-bytes u
+    → length (event-record (event port g u s)) ≤ 32768 → plan-ends p ≡ part-ends (event port g u s)
+unfolding part-ends record-of
+planned-ends p port g u s {source} {goals} h e k l =
+    let a : piece-length (p .goal) ≡ length (goal-bytes g) = sym (length-piece (p .goal) (h .goal-inside)) ∙ ap length e in
+    let b : stack-length (p .ancestors) ≡ length (counted ancestor-bytes u) = sym (length-stack (p .ancestors) (h .ancestor-inside) (h .ancestors-inside)) ∙ ap length k in
+    let n : 4 + length (goal-bytes g) + length (counted ancestor-bytes u) ≤ 32768 = omega (arith, parts-together) in
+    rw (a, b) (limited-ends (length (goal-bytes g)) (length (counted ancestor-bytes u)) n)
+  where
+    parts-together : 4 + length (goal-bytes g) + length (counted ancestor-bytes u) ≤ length (event-record (event port g u s))
+    parts-together = simp length-append (omega arith)
+
+    limited-ends : (x y : ℕ) → 4 + x + y ≤ 32768
+        → _≡_ {A = PartEnds} (record { goal = limited (4 + x); ancestors = limited (4 + x + y) }) (record { goal = 4 + x; ancestors = 4 + x + y })
+    limited-ends x y l = let c : limited (4 + x) ≡ 4 + x = omega arith in let d : limited (4 + x + y) ≡ 4 + x + y = omega arith in rw (c, d) refl

@@ -20,7 +20,7 @@ ghost use Rattle.records.specs.Gate.{Accepted, read-event};
 ghost use Rattle.records.specs.Gate.Reading.{tree};
 ghost use Rattle.records.specs.CountedEnds.{counted-end};
 ghost use Rattle.records.specs.Stands.{Stands};
-ghost use Rattle.records.specs.Places.{RowAt, LastRowAt, GoalAt, event-places, definition-places};
+ghost use Rattle.records.specs.Places.{RowAt, RowTo, GoalAt, part-ends, event-places, definition-places};
 
 // A row of items: how many, and from where to where.
 pub struct Row {
@@ -35,6 +35,12 @@ pub struct Places {
     pub goal: Range,
     pub ancestors: Row,
     pub bets: Row,
+}
+
+// Where an event's goal and its ancestors end; its bets end where the record does.
+pub struct PartEnds {
+    pub goal: usize,
+    pub ancestors: usize,
 }
 
 // A definition: its numbers and its goal.
@@ -70,15 +76,15 @@ fn row_place(s: &[u8], at: usize, item: Item) -> Row
     }
 }
 
-// The same for the last row of a record, which ends where the record ends: nothing is walked.
-fn last_row(s: &[u8], at: usize) -> Row
-    ensures { λ r. ⌜ LastRowAt (now (s .entry)) at r ⌝ }
+// The row of items whose count stands at `at` and which is known to end at `to`: nothing is walked.
+fn row_to(s: &[u8], at: usize, to: usize) -> Row
+    ensures { λ r. ⌜ RowTo (now (s .entry)) at to r ⌝ }
 {
     match word_at(s, at) {
         Word::Number(n) => Row {
             count: n,
             from: at + 2,
-            to: s.len(),
+            to,
         },
         Word::Short => Row {
             count: 0,
@@ -97,21 +103,46 @@ fn goal_place(s: &[u8], at: usize) -> Range
     }
 }
 
-// The parts of an accepted event.
-pub fn event_places(s: &[u8]) -> Places
+// The ends of an accepted event's parts: its goal and its ancestors are walked.
+pub fn part_ends(s: &[u8]) -> PartEnds
     requires { ⌜ Accepted (read-event (now s)) ⌝ }
+    ensures { λ r. ⌜ ((e : Event) → read-event (now (s .entry)) ≡ tree e → r ≡ part-ends e) ⌝ }
+{
+    let goal = goal_place(s, 4);
+    let ancestors = row_place(s, goal.to, Item::Ancestor);
+    PartEnds {
+        goal: goal.to,
+        ancestors: ancestors.to,
+    }
+}
+
+// The parts of an accepted event, by their ends: nothing is walked.
+pub fn places_by(s: &[u8], ends: PartEnds) -> Places
+    requires { ⌜ Accepted (read-event (now s)) ⌝ }
+    requires { ⌜ ((e : Event) → read-event (now s) ≡ tree e → ends ≡ part-ends e) ⌝ }
     ensures { λ r. ⌜ ((e : Event) → read-event (now (s .entry)) ≡ tree e → r ≡ event-places e) ⌝ }
 {
     let port = s[3];
-    let goal = goal_place(s, 4);
-    let ancestors = row_place(s, goal.to, Item::Ancestor);
-    let bets = last_row(s, ancestors.to);
+    let goal = Range {
+        from: 4,
+        to: ends.goal,
+    };
+    let ancestors = row_to(s, ends.goal, ends.ancestors);
+    let bets = row_to(s, ends.ancestors, s.len());
     Places {
         port,
         goal,
         ancestors,
         bets,
     }
+}
+
+// The parts of an accepted event.
+pub fn event_places(s: &[u8]) -> Places
+    requires { ⌜ Accepted (read-event (now s)) ⌝ }
+    ensures { λ r. ⌜ ((e : Event) → read-event (now (s .entry)) ≡ tree e → r ≡ event-places e) ⌝ }
+{
+    places_by(s, part_ends(s))
 }
 
 // The parts of the definition at `at`.

@@ -1,4 +1,5 @@
 // The record of an event, written from a plan: which bytes to put, and which ranges of other records to copy.
+use crate::places::PartEnds;
 use crate::put::Range;
 use crate::put::put_byte;
 use crate::put::put_range;
@@ -9,7 +10,7 @@ ghost use lib.ListN.{length};
 ghost use Rattle.records.specs.Patched.{Put};
 ghost use Rattle.records.specs.Range.{size, Inside};
 ghost use Rattle.records.specs.Plan.{lead-bytes, piece-bytes, stack-bytes, planned-body, planned, Within};
-ghost use Rattle.records.specs.Plan.{piece-length, stack-length, body-length, plan-length, limited};
+ghost use Rattle.records.specs.Plan.{piece-length, stack-length, body-length, plan-length, limited, plan-ends};
 ghost use Rattle.records.specs.Emitted.{Emitted};
 
 // The bytes that stand before a part: a kind byte, and a tag.
@@ -145,6 +146,17 @@ fn measure_plan(p: Plan) -> usize
     ensures { λ r. ⌜ r ≡ limited (plan-length p) ⌝ }
 {
     limit(4 + measure_piece(p.goal) + measure_stack(p.ancestors) + measure_stack(p.bets))
+}
+
+// Where the goal and the ancestors of the planned event end.
+pub fn plan_ends(p: Plan) -> PartEnds
+    ensures { λ r. ⌜ r ≡ plan-ends p ⌝ }
+{
+    let goal = limit(4 + measure_piece(p.goal));
+    PartEnds {
+        goal,
+        ancestors: limit(goal + measure_stack(p.ancestors)),
+    }
 }
 
 // The record that a plan makes of an event, a source of the goal and a source of the new bet, written from the output's start.

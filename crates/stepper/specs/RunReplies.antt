@@ -1,5 +1,5 @@
 -- The run service in bytes: the event is put into a buffer, the run goes on from there, and the record reached is put into the output.
-use mathlib.Core.Path.{_≡_, refl, _∙_}
+use mathlib.Core.Path.{_≡_, refl, sym, ap, _∙_}
 use mathlib.Core.Bool.{Bool, true, false}
 use mathlib.Core.List.{List, _++_}
 use Prim.Native.Nat.{ℕ, _+_, _-_, _≤_}
@@ -15,12 +15,14 @@ use Rattle.records.specs.HeadLaws.{Known, bytes-all}
 use Rattle.records.specs.Gate.{Reading, tree, read-program, read-event}
 use Rattle.records.specs.Patched.{Put, put-front}
 use Rattle.records.specs.Range.{size, cut, Inside}
+use Rattle.records.specs.declared.places.PartEnds.{PartEnds}
 use Rattle.stepper.specs.Services.{machine, reply, reading}
 use Rattle.stepper.specs.ServiceLaws.{limit-fits, read-recordable}
 use Rattle.stepper.specs.Run.{Ran, run, run-refused, run-done, run-with-room, run-record}
 use Rattle.stepper.specs.RunServiceLaws.{run-recordable}
 use Rattle.stepper.specs.Walk.{Direction}
 use Rattle.stepper.specs.Desk.{layers, lawful}
+use Rattle.stepper.specs.View.{EndsOf}
 use Rattle.stepper.specs.Stepped.{Passed, gate-number}
 use Rattle.stepper.specs.Running.{RanTo, RunReplied}
 use Rattle.stepper.specs.declared.run.Reached.{Reached}
@@ -54,6 +56,9 @@ module _ {program s : List ℕ} (w : Passed program s) {here after : List ℕ} {
       let o : after ≡ s ++ drop (length s) here = rw whole-cut at (put-front p (rw whole-cut h)) in
       let n : next ≡ length s = p .place ∙ rw whole-cut (omega arith) in
       rw (o, n) (take-append-seam s _)
+
+  pub moved-ends : {ends : PartEnds} → EndsOf s ends → EndsOf (take next after) ends
+  moved-ends k e h = k e (sym (ap read-event moved-event) ∙ h)
 
   pub moved-inside : length after ≡ length here → next ≤ length after
   moved-inside e = let n : next ≡ length s = p .place ∙ rw whole-cut (omega arith) in omega arith

@@ -7,7 +7,8 @@ use lib.ListN.{length, take}
 use Rattle.records.specs.Syntax.{Event}
 use Rattle.records.specs.Encode.{event-record}
 use Rattle.records.specs.Question.{Question}
-use Rattle.records.specs.declared.plan.Emit.{Emit}
+use Rattle.records.specs.Places.{part-ends}
+use Rattle.stepper.specs.declared.emit.Moved.{Moved}
 use Rattle.stepper.specs.Machine.{Answer, refused, gives}
 use Rattle.stepper.specs.Services.{reply}
 use Rattle.stepper.specs.Run.{Ran, RunReply, stop-number}
@@ -27,10 +28,11 @@ pub record Front (buffer : List ℕ) (n : ℕ) (e : Event) : Type 0 where
   pub inside : n ≤ length buffer
 
 -- one turn: the buffer keeps its event where the step is refused, else it has the new one
-pub record Turned (a : Answer) (before : List ℕ) (emit : Emit) (after : List ℕ) : Type 0 where
-  pub number-is : emit .number ≡ reply before a .number
+pub record Turned (a : Answer) (before : List ℕ) (moved : Moved) (after : List ℕ) : Type 0 where
+  pub number-is : moved .number ≡ reply before a .number
   pub stays : (q : Question) → a ≡ refused q → after ≡ before
-  pub moves : (c : Event) → a ≡ gives c → Front after (emit .length) c
+  pub moves : (c : Event) → a ≡ gives c → Front after (moved .length) c
+  pub ends-are : (c : Event) → a ≡ gives c → moved .ends ≡ part-ends c
 
 -- the loop reached what the run reaches
 pub record RanTo (ran : Ran) (r : Reached) (buffer : List ℕ) : Type 0 where

@@ -12,7 +12,7 @@ use Rattle.records.specs.Question.{Question, number}
 use Rattle.records.specs.HeadLaws.{Bytes, Known, bytes-all}
 use Rattle.records.specs.Patched.{Put, put-front}
 use Rattle.records.specs.Range.{size, cut, Inside}
-use Rattle.records.specs.declared.plan.Emit.{Emit}
+use Rattle.stepper.specs.declared.emit.Moved.{Moved}
 use Rattle.stepper.specs.Machine.{Answer, refused, gives}
 use Rattle.stepper.specs.Rules.{step}
 use Rattle.stepper.specs.Services.{machine, reply}
@@ -49,40 +49,42 @@ pub front-put : {before x after : List ℕ} {n next : ℕ} (e : Event) → Put b
 front-put {before} {x} {after} {n} e p h i j =
     front-is e (drop (length (event-record e)) before) (rw i at (put-front p (omega arith))) j
 
-module _ {a : Answer} {there after : List ℕ} {emit : Emit} (m : Stepped a there emit after) where
+module _ {a : Answer} {there after : List ℕ} {moved : Moved} (m : Stepped a there moved after) where
   -- a step that is refused
-  pub turn-refused : {here : List ℕ} → (emit .number ≡ 0 → ⊥) → Turned a here emit here
+  pub turn-refused : {here : List ℕ} → (moved .number ≡ 0 → ⊥) → Turned a here moved here
   unfolding reply
   turn-refused {here} z = record {
     number-is = m .number-is ∙ number-anywhere there here a;
     stays = λ q e. refl;
     moves = λ c e. absurd (z (m .number-is ∙ ap (λ x. reply there x .number) e));
+    ends-are = m .ends-are;
   }
 
   -- one that gives an event
-  module _ (z : emit .number ≡ 0) (short : (c : Event) → a ≡ gives c → length (event-record c) ≤ 32768) (room : 32768 ≤ length there) where
+  module _ (z : moved .number ≡ 0) (short : (c : Event) → a ≡ gives c → length (event-record c) ≤ 32768) (room : 32768 ≤ length there) where
     given : (c : Event) × (a ≡ gives c)
     given = done-gives there a (sym (m .number-is) ∙ z)
 
-    stepped-front : Front after (emit .length) (given .0)
+    stepped-front : Front after (moved .length) (given .0)
     unfolding reply answer-length
     stepped-front =
         front-is (given .0) (drop (length (event-record (given .0))) there) (m .output-is ∙ ap (λ x. reply there x .output) (given .1))
         (m .length-is ∙ ap answer-length (given .1))
 
-    pub turn-range : (here : List ℕ) → 32768 ≤ length here → Inside (record { from = 0; to = emit .length }) after × (0 + (emit .length - 0) ≤ length here)
+    pub turn-range : (here : List ℕ) → 32768 ≤ length here → Inside (record { from = 0; to = moved .length }) after × (0 + (moved .length - 0) ≤ length here)
     turn-range here k =
         let f = stepped-front in
         let l = short (given .0) (given .1) in
         (record { order = omega arith; stop = f .inside }, omega (arith, f .size))
 
-    pub turn-moved : {here now-here : List ℕ} {next : ℕ} → 32768 ≤ length here → Put here 0 (cut after (record { from = 0; to = emit .length })) now-here next
-        → Turned a here emit now-here
+    pub turn-moved : {here now-here : List ℕ} {next : ℕ} → 32768 ≤ length here → Put here 0 (cut after (record { from = 0; to = moved .length })) now-here next
+        → Turned a here moved now-here
     unfolding cut size reply
     turn-moved {here} {now-here} k p = record {
       number-is = m .number-is ∙ number-anywhere there here a;
       stays = λ q e. absurd (no q (sym e ∙ given .1));
-      moves = λ c e. moved c (same c (sym e ∙ given .1));
+      moves = λ c e. fronted c (same c (sym e ∙ given .1));
+      ends-are = m .ends-are;
     }
       where
         no : (q : Question) → refused q ≡ gives (given .0) → ⊥
@@ -91,9 +93,9 @@ module _ {a : Answer} {there after : List ℕ} {emit : Emit} (m : Stepped a ther
         same : (c : Event) → gives c ≡ gives (given .0) → c ≡ given .0
         same c e = cc
 
-        moved : (c : Event) → c ≡ given .0 → Front now-here (emit .length) c
-        moved c e =
+        fronted : (c : Event) → c ≡ given .0 → Front now-here (moved .length) c
+        fronted c e =
             let f = stepped-front in
-            let x : cut after (record { from = 0; to = emit .length }) ≡ event-record (given .0) = simp unary-clauses (f .bytes) in
+            let x : cut after (record { from = 0; to = moved .length }) ≡ event-record (given .0) = simp unary-clauses (f .bytes) in
             let l = short (given .0) (given .1) in
             rw e (front-put (given .0) p (rw x (omega arith)) x (f .size))

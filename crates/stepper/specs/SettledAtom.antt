@@ -8,10 +8,9 @@ use Rattle.records.specs.Syntax.{atom, called, Port, call, event, Definition}
 use Rattle.records.specs.Encode.{port-byte}
 use Rattle.records.specs.Question.{locals, number}
 use Rattle.records.specs.HeadLaws.{Known}
-use Rattle.records.specs.Plan.{planned, Within}
-use Rattle.records.specs.Emitted.{Emitted}
+use Rattle.records.specs.Plan.{Within}
 use Rattle.records.specs.Places.{Parts, event-parts}
-use Rattle.records.specs.declared.plan.Emit.{Emit}
+use Rattle.stepper.specs.declared.emit.Moved.{Moved}
 use Rattle.terms.specs.Body.{Body, too-many, undefined, body}
 use Rattle.terms.specs.BodyBytes.{AtomAt}
 use Rattle.terms.specs.Accepted.{frame-of, atom-moved, accepted-atom}
@@ -20,11 +19,12 @@ use Rattle.stepper.specs.Machine.{Answer}
 use Rattle.stepper.specs.Rules.{by-body}
 use Rattle.stepper.specs.View.{event-view}
 use Rattle.stepper.specs.Layouts.{kept, plan-of}
+use Rattle.stepper.specs.LayoutLaws.{PlansFrom}
 use Rattle.stepper.specs.PlanLaws.{kept-plans}
-use Rattle.stepper.specs.Stepped.{Stepped}
-use Rattle.stepper.specs.SteppedLaws.{stepped-refused}
+use Rattle.stepper.specs.Stepped.{Stepped, refusal-of, EmittedEvent}
+use Rattle.stepper.specs.SteppedLaws.{stepped-refused, stepped-planned}
 use Rattle.stepper.specs.Settled.{within-record, settled-atom, AtomViewed, with-body, goal-frame}
-use Rattle.stepper.specs.SettledLaws.{within-port, PlansFrom, stepped-from, long-refused, body-plans, goal-shorter}
+use Rattle.stepper.specs.SettledLaws.{within-port, long-refused, body-plans, goal-shorter}
 use Rattle.stepper.specs.declared.view.View.{View}
 
 module _ {s : List ℕ} {v : View} (known : Known s) (w : AtomViewed s v) where
@@ -41,7 +41,7 @@ module _ {s : List ℕ} {v : View} (known : Known s) (w : AtomViewed s v) (p q :
 
   -- the plans of both ways
   pub undefined-plans : PlansFrom s s s (kept v undefined-port) (event p (atom (w .predicate) (w .terms)) (w .ancestors) (w .bets))
-  undefined-plans = rw (w .same, ← up) (let k = kept-plans p atom-parts in record { is = k .is; within = k .within })
+  undefined-plans = rw (w .same, ← up) (kept-plans p atom-parts)
 
   pub defined-plans : {b : Body} {x : List ℕ} {n : ℕ} (h : BodyHere b x n)
       → PlansFrom s x s (with-body v defined-port n) (event q (h .goal) (called (w .predicate) (w .terms) ∷ w .ancestors) (w .bets))
@@ -56,21 +56,21 @@ module _ {s : List ℕ} {v : View} (known : Known s) (w : AtomViewed s v) (p q :
     its-answer = settled-atom P p q (w .predicate) (w .terms) (w .ancestors) (w .bets)
 
     module _ {before : List ℕ} where
-      pub atom-beyond : its-body ≡ too-many → Stepped its-answer before (record { number = 9; length = 0 }) before
+      pub atom-beyond : its-body ≡ too-many → Stepped its-answer before (refusal-of 9) before
       unfolding settled-atom within-record by-body number
       atom-beyond h = rw h (stepped-refused locals refl)
 
-      pub atom-undefined : {after : List ℕ} {emit : Emit} → 32768 ≤ length before → its-body ≡ undefined
-          → Emitted before (planned (kept v undefined-port) s s s) emit after → Stepped its-answer before emit after
+      pub atom-undefined : {after : List ℕ} {moved : Moved} → 32768 ≤ length before → its-body ≡ undefined
+          → EmittedEvent before (kept v undefined-port) s s s moved after → Stepped its-answer before moved after
       unfolding settled-atom within-record by-body
-      atom-undefined l h m = rw h (stepped-from l undefined-plans m)
+      atom-undefined l h m = rw h (stepped-planned l undefined-plans m)
 
-      pub atom-defined : {x after : List ℕ} {n : ℕ} {emit : Emit} → 32768 ≤ length before → BodyHere its-body x n
-          → Emitted before (planned (with-body v defined-port n) s x s) emit after → Stepped its-answer before emit after
+      pub atom-defined : {x after : List ℕ} {n : ℕ} {moved : Moved} → 32768 ≤ length before → BodyHere its-body x n
+          → EmittedEvent before (with-body v defined-port n) s x s moved after → Stepped its-answer before moved after
       unfolding settled-atom within-record by-body
-      atom-defined l h m = rw (h .is) (stepped-from l (defined-plans h) m)
+      atom-defined l h m = rw (h .is) (stepped-planned l (defined-plans h) m)
 
-      pub atom-long : {room : ℕ} → 32768 ≤ room → BodyLong its-body room → Stepped its-answer before (record { number = 10; length = 0 }) before
+      pub atom-long : {room : ℕ} → 32768 ≤ room → BodyLong its-body room → Stepped its-answer before (refusal-of 10) before
       unfolding settled-atom within-record by-body
       atom-long i h = let k = goal-shorter q (h .goal) (called (w .predicate) (w .terms) ∷ w .ancestors) (w .bets) in rw (h .is) (long-refused _ (omega (arith, h .long)))
 

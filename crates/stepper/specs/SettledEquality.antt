@@ -9,10 +9,9 @@ use Rattle.records.specs.Syntax.{Term, equal, unifier, Port, call, event}
 use Rattle.records.specs.Encode.{term-bytes, port-byte}
 use Rattle.records.specs.Question.{values, number}
 use Rattle.records.specs.HeadLaws.{Known}
-use Rattle.records.specs.Plan.{planned, Within}
-use Rattle.records.specs.Emitted.{Emitted}
+use Rattle.records.specs.Plan.{Within}
 use Rattle.records.specs.Places.{goal-end, Parts, event-parts}
-use Rattle.records.specs.declared.plan.Emit.{Emit}
+use Rattle.stepper.specs.declared.emit.Moved.{Moved}
 use Rattle.terms.specs.Outcome.{Unified, too-large, clash, unified-under}
 use Rattle.terms.specs.BetRow.{Bets}
 use Rattle.terms.specs.Applied.{TermAt}
@@ -22,11 +21,12 @@ use Rattle.stepper.specs.Machine.{Answer}
 use Rattle.stepper.specs.Rules.{by-unifier}
 use Rattle.stepper.specs.View.{event-view}
 use Rattle.stepper.specs.Layouts.{kept, plan-of}
+use Rattle.stepper.specs.LayoutLaws.{PlansFrom}
 use Rattle.stepper.specs.PlanLaws.{kept-plans}
-use Rattle.stepper.specs.Stepped.{Stepped}
-use Rattle.stepper.specs.SteppedLaws.{stepped-refused}
+use Rattle.stepper.specs.Stepped.{Stepped, refusal-of, EmittedEvent}
+use Rattle.stepper.specs.SteppedLaws.{stepped-refused, stepped-planned}
 use Rattle.stepper.specs.Settled.{within-record, settled-equality, EqualityViewed, with-unifier}
-use Rattle.stepper.specs.SettledLaws.{within-port, PlansFrom, stepped-from, long-refused, unifier-plans, unifier-shorter}
+use Rattle.stepper.specs.SettledLaws.{within-port, long-refused, unifier-plans, unifier-shorter}
 use Rattle.stepper.specs.declared.view.View.{View}
 
 -- where the view says the parts are
@@ -63,7 +63,7 @@ module _ {s : List ℕ} {v : View} (known : Known s) (w : EqualityViewed s v) (p
 
   -- the plans of both ways
   pub clash-plans : PlansFrom s s s (kept v clash-port) (event p (equal (w .left) (w .right)) (w .ancestors) (w .bets))
-  clash-plans = rw (w .same, ← cp) (let k = kept-plans p equality-parts in record { is = k .is; within = k .within })
+  clash-plans = rw (w .same, ← cp) (kept-plans p equality-parts)
 
   pub found-plans : {x : List ℕ} {n : ℕ} (h : UnifierHere (unified-under (w .bets) (w .left) (w .right)) x n)
       → PlansFrom s s x (with-unifier v found-port n) (event q (equal (w .left) (w .right)) (w .ancestors) (unifier (h .bindings) ∷ w .bets))
@@ -77,21 +77,21 @@ module _ {s : List ℕ} {v : View} (known : Known s) (w : EqualityViewed s v) (p
   its-answer = settled-equality p q (w .left) (w .right) (w .ancestors) (w .bets)
 
   module _ {before : List ℕ} where
-    pub equality-large : its-unifier ≡ too-large → Stepped its-answer before (record { number = 8; length = 0 }) before
+    pub equality-large : its-unifier ≡ too-large → Stepped its-answer before (refusal-of 8) before
     unfolding settled-equality within-record by-unifier number
     equality-large h = rw h (stepped-refused values refl)
 
-    pub equality-clash : {after : List ℕ} {emit : Emit} → 32768 ≤ length before → its-unifier ≡ clash
-        → Emitted before (planned (kept v clash-port) s s s) emit after → Stepped its-answer before emit after
+    pub equality-clash : {after : List ℕ} {moved : Moved} → 32768 ≤ length before → its-unifier ≡ clash
+        → EmittedEvent before (kept v clash-port) s s s moved after → Stepped its-answer before moved after
     unfolding settled-equality within-record by-unifier
-    equality-clash l h m = rw h (stepped-from l clash-plans m)
+    equality-clash l h m = rw h (stepped-planned l clash-plans m)
 
-    pub equality-found : {x after : List ℕ} {n : ℕ} {emit : Emit} → 32768 ≤ length before → UnifierHere its-unifier x n
-        → Emitted before (planned (with-unifier v found-port n) s s x) emit after → Stepped its-answer before emit after
+    pub equality-found : {x after : List ℕ} {n : ℕ} {moved : Moved} → 32768 ≤ length before → UnifierHere its-unifier x n
+        → EmittedEvent before (with-unifier v found-port n) s s x moved after → Stepped its-answer before moved after
     unfolding settled-equality within-record by-unifier
-    equality-found l h m = rw (h .is) (stepped-from l (found-plans h) m)
+    equality-found l h m = rw (h .is) (stepped-planned l (found-plans h) m)
 
-    pub equality-long : {room : ℕ} → 32768 ≤ room → UnifierLong its-unifier room → Stepped its-answer before (record { number = 10; length = 0 }) before
+    pub equality-long : {room : ℕ} → 32768 ≤ room → UnifierLong its-unifier room → Stepped its-answer before (refusal-of 10) before
     unfolding settled-equality within-record by-unifier
     equality-long i h =
         let k = unifier-shorter q (equal (w .left) (w .right)) (w .ancestors) (h .bindings) (w .bets) in

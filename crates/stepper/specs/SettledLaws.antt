@@ -18,7 +18,7 @@ use Rattle.records.specs.PlanLaws.{stack-pushed, planned-event}
 use Rattle.records.specs.Emitted.{Emitted}
 use Rattle.records.specs.Places.{Parts}
 use Rattle.records.specs.declared.plan.Lead.the-variants.{Bare, One}
-use Rattle.records.specs.declared.plan.Emit.{Emit}
+use Rattle.stepper.specs.declared.emit.Moved.{Moved}
 use Rattle.records.specs.declared.plan.Piece.{Piece}
 use Rattle.records.specs.declared.plan.Stack.{Stack}
 use Rattle.records.specs.declared.plan.Plan.{Plan}
@@ -34,24 +34,14 @@ use Rattle.stepper.specs.Rules.{fitting}
 use Rattle.stepper.specs.Services.{too-long, record-limit}
 use Rattle.stepper.specs.View.{event-view, bet-part}
 use Rattle.stepper.specs.Layouts.{plan-of, pushed}
-use Rattle.stepper.specs.LayoutLaws.{cuts, piece, items}
-use Rattle.stepper.specs.PieceLaws.{goal-whole, ancestors-same, ancestors-more, bets-same}
-use Rattle.stepper.specs.Stepped.{Stepped}
-use Rattle.stepper.specs.SteppedLaws.{stepped-refused, stepped-emitted}
+use Rattle.stepper.specs.LayoutLaws.{PlansFrom, plan-is, cuts, piece}
+use Rattle.stepper.specs.PieceLaws.{goal-whole, ancestors-same, ancestors-more, bets-same, bets-more}
+use Rattle.stepper.specs.Stepped.{Stepped, refusal-of}
+use Rattle.stepper.specs.SteppedLaws.{stepped-refused}
 use Rattle.stepper.specs.Settled.{with-unifier, with-body}
 
--- a plan over three sources gives the record of the event e, and its ranges lie in them
-pub record PlansFrom (s goals bets : List ℕ) (p : Plan) (e : Event) : Type 0 where
-  pub is : planned p s goals bets ≡ event-record e
-  pub within : Within p s goals bets
-
--- what is emitted of such a plan
-pub stepped-from : {s goals bets : List ℕ} {p : Plan} {e : Event} {before after : List ℕ} {emit : Emit} → 32768 ≤ length before → PlansFrom s goals bets p e
-    → Emitted before (planned p s goals bets) emit after → Stepped (fitting false (record-limit e) (gives e)) before emit after
-stepped-from {e = e} h w m = stepped-emitted e h (rw (w .is) at m)
-
 -- a record that is too long is refused
-pub long-refused : {before : List ℕ} (e : Event) → 32768 < length (event-record e) → Stepped (fitting false (record-limit e) (gives e)) before (record { number = 10; length = 0 }) before
+pub long-refused : {before : List ℕ} (e : Event) → 32768 < length (event-record e) → Stepped (fitting false (record-limit e) (gives e)) before (refusal-of 10) before
 unfolding fitting record-limit too-long number
 long-refused e h = rw (lt-ltb 32768 (length (event-record e)) h) (stepped-refused fits refl)
 
@@ -59,42 +49,14 @@ module _ {s x : List ℕ} {p : Port} (q : Port) {u : List Ancestor} {b : List Be
   -- a unifier put on the bets
   pub unifier-plans : {g : Goal} (σ : List Binding) → Parts s p g u b → Stands x 0 (unifier-bytes σ) n → n ≤ length x
       → PlansFrom s s x (with-unifier (event-view (event p g u b)) (port-byte q) n) (event q g u (unifier σ ∷ b))
-  unfolding event-view with-unifier plan-of pushed
-  unifier-plans {g} σ w z i =
-      let goal = goal-whole w in
-      let ancestors = ancestors-same w in
-      let top = piece (One 0x20) (cuts z i) in
-      let rest = items bet-bytes bet-part b (w .bets-stand) (omega arith) in
-      record {
-        is = planned-event (with-unifier (event-view (event p g u b)) (port-byte q) n) q g u (unifier σ ∷ b) s s x refl (goal .is) (ancestors .is)
-            (stack-pushed bet-bytes (unifier σ) b (with-unifier (event-view (event p g u b)) (port-byte q) n .bets) x s (omega arith) (top .is) (rest .is));
-        within = record {
-          goal-inside = goal .inside;
-          ancestor-inside = ancestors .top-inside;
-          ancestors-inside = ancestors .rest-inside;
-          bet-inside = top .inside;
-          bets-inside = rest .inside;
-        };
-      }
+  unfolding event-view with-unifier
+  unifier-plans σ w z i = plan-is q (goal-whole w) (ancestors-same w) (bets-more w (unifier σ) (piece (One 0x20) (cuts z i)))
 
   -- a body under its atom
   pub body-plans : {k : ℕ} {ts : Terms} (g : Goal) → Parts s p (atom k ts) u b → Stands x 0 (goal-bytes g) n → n ≤ length x
       → PlansFrom s x s (with-body (event-view (event p (atom k ts) u b)) (port-byte q) n) (event q g (called k ts ∷ u) b)
-  unfolding event-view with-body plan-of
-  body-plans {k} {ts} g w z i =
-      let goal = piece Bare (cuts z i) in
-      let ancestors = ancestors-more w (called k ts) (goal-whole w) in
-      let bets = bets-same w in
-      record {
-        is = planned-event (with-body (event-view (event p (atom k ts) u b)) (port-byte q) n) q g (called k ts ∷ u) b s x s refl (goal .is) (ancestors .is) (bets .is);
-        within = record {
-          goal-inside = goal .inside;
-          ancestor-inside = ancestors .top-inside;
-          ancestors-inside = ancestors .rest-inside;
-          bet-inside = bets .top-inside;
-          bets-inside = bets .rest-inside;
-        };
-      }
+  unfolding event-view with-body
+  body-plans {k} {ts} g w z i = plan-is q (piece Bare (cuts z i)) (ancestors-more w (called k ts) (goal-whole w)) (bets-same w)
 
 -- an event is longer than its goal, and longer than its top bet
 pub goal-shorter : (p : Port) (g : Goal) (u : List Ancestor) (s : List Bet) → length (goal-bytes g) < length (event-record (event p g u s))

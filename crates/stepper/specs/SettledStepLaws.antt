@@ -11,8 +11,7 @@ use Rattle.records.specs.Encode.{event-record, record-of}
 use Rattle.records.specs.Question.{matches, values, locals, number}
 use Rattle.records.specs.HeadLaws.{Known}
 use Rattle.records.specs.Gate.{tree}
-use Rattle.records.specs.Plan.{planned}
-use Rattle.records.specs.declared.plan.Emit.{Emit}
+use Rattle.stepper.specs.declared.emit.Moved.{Moved}
 use Rattle.records.specs.declared.plan.Plan.{Plan}
 use Rattle.terms.specs.Outcome.{Unified, too-large, clash, unified, unified-under}
 use Rattle.terms.specs.Body.{Body, too-many, undefined, defined, body}
@@ -70,9 +69,9 @@ module _ (P : List Definition) (u : List Ancestor) (s : List Bet) where
       ∙ limited-record P _
 
 -- a step back that ends in a comparison
-stepped-compared {ℓ} : {P : Type ℓ} {s : List ℕ} {p : Plan} {a : Answer} {before after : List ℕ} {emit : Emit} {k : ℕ} (b : Bool) (c : Event) (d : Dec P)
+stepped-compared {ℓ} : {P : Type ℓ} {s : List ℕ} {p : Plan} {a : Answer} {before after : List ℕ} {moved : Moved} {k : ℕ} (b : Bool) (c : Event) (d : Dec P)
     → record-limit c ≡ none → a ≡ fitting b (record-limit c) (matching d c) → k ≡ compared-number d → 32768 ≤ length before → Plans s p c
-    → EmittedUnless k before (planned p s s s) emit after → Stepped a before emit after
+    → EmittedUnless k before p s moved after → Stepped a before moved after
 unfolding matching compared-number number
 stepped-compared b c (yes p) l e i h w m =
     rw (e ∙ ap (λ o. fitting b o (gives c)) l ∙ fitting-none b (gives c) ∙ sym (ap (λ o. fitting false o (gives c)) l ∙ fitting-none false (gives c)))
@@ -91,12 +90,12 @@ module _ (g : Goal) (u : List Ancestor) (s : List Bet) where
   unfolding record-of
   body-less p ts = simp length-append (omega arith)
 
-module _ (P : List Definition) {before after : List ℕ} {emit : Emit} {k : ℕ} {t : List ℕ} {plan : Plan} (h : 32768 ≤ length before)
-    (m : EmittedUnless k before (planned plan t t t) emit after) where
+module _ (P : List Definition) {before after : List ℕ} {moved : Moved} {k : ℕ} {t : List ℕ} {plan : Plan} (h : 32768 ≤ length before)
+    (m : EmittedUnless k before plan t moved after) where
   -- exit of an equality: question 8, and whether the bet on top is the unifier
   pub exit-equality : (l r : Term) (u : List Ancestor) (σ : List Binding) (s : List Bet) → record-limit (event exit (equal l r) u (unifier σ ∷ s)) ≡ none
       → k ≡ unifier-number (unified-under s l r) σ → Plans t plan (event call (equal l r) u s)
-      → Stepped (step-back (machine layers P) (event exit (equal l r) u (unifier σ ∷ s))) before emit after
+      → Stepped (step-back (machine layers P) (event exit (equal l r) u (unifier σ ∷ s))) before moved after
   unfolding unifier-number candidate into-exit top-unifier by-unifier step-back-direct checked-directly compared unifier-compared number
   exit-equality l r u σ s n i w = go (unified-under s l r) refl
     where
@@ -118,7 +117,7 @@ module _ (P : List Definition) {before after : List ℕ} {emit : Emit} {k : ℕ}
           step-back-directly M e n ∙ ap (λ z. checked-directly M e (by-unifier z c (λ m. c))) q ∙ ap (checked-directly M e) y
           ∙ ap (λ z. fitting (ununifiable M c) (record-limit c) (matching (unified? z (unified σ)) c)) q
 
-      go : (x : Unified) → unified-under s l r ≡ x → Stepped (step-back M e) before emit after
+      go : (x : Unified) → unified-under s l r ≡ x → Stepped (step-back M e) before moved after
       go too-large q =
           let j : k ≡ 8 = i ∙ ap (λ z. unifier-number z σ) q in
           let z = m .stopped (λ y. omega arith) in
@@ -130,7 +129,7 @@ module _ (P : List Definition) {before after : List ℕ} {emit : Emit} {k : ℕ}
   -- call of a goal under an atom: question 9, and whether the goal is the body
   pub call-body : (g : Goal) (p : ℕ) (ts : Terms) (u : List Ancestor) (s : List Bet) → record-limit (event call g (called p ts ∷ u) s) ≡ none
       → k ≡ body-number (body P p ts u s) g → Plans t plan (event call (atom p ts) u s)
-      → Stepped (step-back (machine layers P) (event call g (called p ts ∷ u) s)) before emit after
+      → Stepped (step-back (machine layers P) (event call g (called p ts ∷ u) s)) before moved after
   unfolding body-number candidate into-call by-body step-back-direct checked-directly compared body-compared number
   call-body g p ts u s n i w = go (body P p ts u s) refl
     where
@@ -152,7 +151,7 @@ module _ (P : List Definition) {before after : List ℕ} {emit : Emit} {k : ℕ}
           step-back-directly M e n ∙ ap (λ z. checked-directly M e (by-body z c (λ b. c))) q ∙ ap (checked-directly M e) y
           ∙ ap (λ z. fitting (ununifiable M c) (record-limit c) (matching (body? z (defined g)) c)) q
 
-      go : (x : Body) → body P p ts u s ≡ x → Stepped (step-back M e) before emit after
+      go : (x : Body) → body P p ts u s ≡ x → Stepped (step-back M e) before moved after
       go too-many q =
           let j : k ≡ 9 = i ∙ ap (λ z. body-number z g) q in
           let z = m .stopped (λ y. omega arith) in

@@ -7,9 +7,8 @@ use lib.ListN.{length}
 use Rattle.records.specs.Syntax.{equal, atom, call, exit, fail, redo, Event, event}
 use Rattle.records.specs.HeadLaws.{Known}
 use Rattle.records.specs.Gate.{tree}
-use Rattle.records.specs.Plan.{planned}
 use Rattle.records.specs.Places.{event-parts}
-use Rattle.records.specs.declared.plan.Emit.{Emit}
+use Rattle.stepper.specs.declared.emit.Moved.{Moved}
 use Rattle.terms.specs.Outcome.{unified-under}
 use Rattle.terms.specs.Body.{body}
 use Rattle.stepper.specs.Rules.{step-forward, step-back}
@@ -30,21 +29,21 @@ module _ {program s : List ℕ} (known : Known s) (w : Passed program s) where
   limit-at : (e : Event) → w .event ≡ e → record-limit e ≡ none
   limit-at e i = within-limit s known e (w .reads ∙ ap tree i)
 
-  module _ {before after : List ℕ} {emit : Emit} where
-    pub forward-equality : (f : EqualityOf call (w .event)) → Stepped (settled-equality fail exit (f .left) (f .right) (f .ancestors) (f .bets)) before emit after
-        → Stepped (step-forward (machine layers (w .definitions)) (w .event)) before emit after
+  module _ {before after : List ℕ} {moved : Moved} where
+    pub forward-equality : (f : EqualityOf call (w .event)) → Stepped (settled-equality fail exit (f .left) (f .right) (f .ancestors) (f .bets)) before moved after
+        → Stepped (step-forward (machine layers (w .definitions)) (w .event)) before moved after
     forward-equality f m = rw (f .is, call-equality (w .definitions) (f .ancestors) (f .bets) (f .left) (f .right) (limit-at _ (f .is))) m
 
-    pub forward-atom : (f : AtomOf call (w .event)) → Stepped (settled-atom (w .definitions) fail call (f .predicate) (f .terms) (f .ancestors) (f .bets)) before emit after
-        → Stepped (step-forward (machine layers (w .definitions)) (w .event)) before emit after
+    pub forward-atom : (f : AtomOf call (w .event)) → Stepped (settled-atom (w .definitions) fail call (f .predicate) (f .terms) (f .ancestors) (f .bets)) before moved after
+        → Stepped (step-forward (machine layers (w .definitions)) (w .event)) before moved after
     forward-atom f m = rw (f .is, call-atom (w .definitions) (f .ancestors) (f .bets) (f .predicate) (f .terms) (limit-at _ (f .is))) m
 
-    pub back-equality : (f : EqualityOf fail (w .event)) → Stepped (settled-equality call redo (f .left) (f .right) (f .ancestors) (f .bets)) before emit after
-        → Stepped (step-back (machine layers (w .definitions)) (w .event)) before emit after
+    pub back-equality : (f : EqualityOf fail (w .event)) → Stepped (settled-equality call redo (f .left) (f .right) (f .ancestors) (f .bets)) before moved after
+        → Stepped (step-back (machine layers (w .definitions)) (w .event)) before moved after
     back-equality f m = rw (f .is, fail-equality (w .definitions) (f .ancestors) (f .bets) (f .left) (f .right) (limit-at _ (f .is))) m
 
-    pub back-atom : (f : AtomOf fail (w .event)) → Stepped (settled-atom (w .definitions) call fail (f .predicate) (f .terms) (f .ancestors) (f .bets)) before emit after
-        → Stepped (step-back (machine layers (w .definitions)) (w .event)) before emit after
+    pub back-atom : (f : AtomOf fail (w .event)) → Stepped (settled-atom (w .definitions) call fail (f .predicate) (f .terms) (f .ancestors) (f .bets)) before moved after
+        → Stepped (step-back (machine layers (w .definitions)) (w .event)) before moved after
     back-atom f m = rw (f .is, fail-atom (w .definitions) (f .ancestors) (f .bets) (f .predicate) (f .terms) (limit-at _ (f .is))) m
 
   -- the plans of the two rules that a comparison decides
@@ -57,15 +56,15 @@ module _ {program s : List ℕ} (known : Known s) (w : Passed program s) where
     unfolding back-plan
     called-plans f = rw (same ∙ ap event-view (f .is)) (atom-left-plans call (event-parts s known _ _ _ _ (w .reads ∙ ap tree (f .is))))
 
-    module _ {before after : List ℕ} {emit : Emit} {k : ℕ} (h : 32768 ≤ length before) where
+    module _ {before after : List ℕ} {moved : Moved} {k : ℕ} (h : 32768 ≤ length before) where
       pub back-exit : (f : UnifierOf (w .event)) → k ≡ unifier-number (unified-under (f .bets) (f .left) (f .right)) (f .bindings)
-          → EmittedUnless k before (planned (back-plan v 16) s s s) emit after → Stepped (step-back (machine layers (w .definitions)) (w .event)) before emit after
+          → EmittedUnless k before (back-plan v 16) s moved after → Stepped (step-back (machine layers (w .definitions)) (w .event)) before moved after
       back-exit f i m =
           rw (f .is)
           (exit-equality (w .definitions) h m (f .left) (f .right) (f .ancestors) (f .bindings) (f .bets) (limit-at _ (f .is)) i (exit-plans f))
 
       pub back-called : (f : BodyOf (w .event)) → k ≡ body-number (body (w .definitions) (f .predicate) (f .terms) (f .ancestors) (f .bets)) (f .goal)
-          → EmittedUnless k before (planned (back-plan v 18) s s s) emit after → Stepped (step-back (machine layers (w .definitions)) (w .event)) before emit after
+          → EmittedUnless k before (back-plan v 18) s moved after → Stepped (step-back (machine layers (w .definitions)) (w .event)) before moved after
       back-called f i m =
           rw (f .is)
           (call-body (w .definitions) h m (f .goal) (f .predicate) (f .terms) (f .ancestors) (f .bets) (limit-at _ (f .is)) i (called-plans f))

@@ -10,9 +10,9 @@ use Rattle.records.specs.Encode.{record-of}
 use Rattle.records.specs.Question.{matches, number}
 use Rattle.records.specs.HeadLaws.{Known, bytes-all}
 use Rattle.records.specs.Gate.{tree, read-event}
-use Rattle.records.specs.Plan.{planned, Within}
+use Rattle.records.specs.Plan.{Within}
 use Rattle.records.specs.Places.{event-parts}
-use Rattle.records.specs.declared.plan.Emit.{Emit}
+use Rattle.stepper.specs.declared.emit.Moved.{Moved}
 use Rattle.stepper.specs.Machine.{Machine, IgnoresPort, Answer, refused, gives}
 use Rattle.stepper.specs.Rules.{rule, step-forward, candidate, step-back}
 use Rattle.stepper.specs.Services.{record-limit, machine}
@@ -31,7 +31,7 @@ use Rattle.stepper.specs.FoundLaws.{Leaves, LeavesBack, Like, Not, Leads
 use Rattle.stepper.specs.LikeLaws.{halves-where, Half?, right, wrong, forward-half, back-half}
 use Rattle.stepper.specs.PutLaws.{forward-put, back-put, forward-refuses, back-refuses}
 use Rattle.stepper.specs.OwnLaws.{made-own}
-use Rattle.stepper.specs.Stepped.{Stepped, Passed, EmittedUnless}
+use Rattle.stepper.specs.Stepped.{Stepped, refusal-of, Passed, EmittedUnless}
 use Rattle.stepper.specs.SteppedLaws.{stepped-refused, stepped-planned}
 use Rattle.stepper.specs.declared.view.View.{View}
 
@@ -48,8 +48,8 @@ pub within-limit : (s : List ℕ) → Known s → (e : Event) → read-event s �
 within-limit s known e h = read-recordable layers lawful s (bytes-all s known) e h .1
 
 -- a refusal of a step whose answer is known to be one
-pub stepped-no : {a : Answer} {before after : List ℕ} {emit : Emit} {n : ℕ} (q : _) → a ≡ refused q → n ≡ number q
-    → emit ≡ record { number = n; length = 0 } → after ≡ before → Stepped a before emit after
+pub stepped-no : {a : Answer} {before after : List ℕ} {moved : Moved} {n : ℕ} (q : _) → a ≡ refused q → n ≡ number q
+    → moved ≡ refusal-of n → after ≡ before → Stepped a before moved after
 stepped-no q e k i j = rw (e, i, j) (stepped-refused q k)
 
 module _ {program s : List ℕ} (known : Known s) (w : Passed program s) {v : View} (same : v ≡ event-view (w .event)) where
@@ -69,7 +69,7 @@ module _ {program s : List ℕ} (known : Known s) (w : Passed program s) {v : Vi
     is-rule : n ≡ forward-rule (event-view (w .event))
     is-rule = numbered ∙ ap forward-rule same
 
-    pub forward-nothing : {before : List ℕ} {k : ℕ} → n ≡ 0 → k ≡ no-rule-number v → Stepped (step-forward M (w .event)) before (record { number = k; length = 0 }) before
+    pub forward-nothing : {before : List ℕ} {k : ℕ} → n ≡ 0 → k ≡ no-rule-number v → Stepped (step-forward M (w .event)) before (refusal-of k) before
     forward-nothing z e =
         let h : forward-rule (event-view (w .event)) ≡ 0 = sym is-rule ∙ z in
         stepped-no (no-rule (w .event)) (forward-refuses M (ignores (w .definitions)) (w .event) (forward-none M (w .event) h)) (e ∙ ap no-rule-number same ∙ no-rule-numbered (w .event) h) refl refl
@@ -91,12 +91,12 @@ module _ {program s : List ℕ} (known : Known s) (w : Passed program s) {v : Vi
           go (right i l) = plans (leads l) .within
           go (wrong i r) = absurd (omega arith)
 
-      pub forward-parts : {before after : List ℕ} {emit : Emit} → 32768 ≤ length before → EmittedUnless k before (planned (forward-plan v n) s s s) emit after
-          → Stepped (step-forward M (w .event)) before emit after
+      pub forward-parts : {before after : List ℕ} {moved : Moved} → 32768 ≤ length before → EmittedUnless k before (forward-plan v n) s moved after
+          → Stepped (step-forward M (w .event)) before moved after
       unfolding number
-      forward-parts {before} {after} {emit} h m = go judged
+      forward-parts {before} {after} {moved} h m = go judged
         where
-          go : Half? k (Leaves (w .event) → Like s (w .event)) (rule M (w .event) ≡ refused matches) → Stepped (step-forward M (w .event)) before emit after
+          go : Half? k (Leaves (w .event) → Like s (w .event)) (rule M (w .event) ≡ refused matches) → Stepped (step-forward M (w .event)) before moved after
           go (right i l) =
               let r = leads l in
               rw (forward-put M (ignores (w .definitions)) (w .event) (r .next) limit (r .rule)) (stepped-planned h (plans r) (m .passed i))
@@ -108,7 +108,7 @@ module _ {program s : List ℕ} (known : Known s) (w : Passed program s) {v : Vi
     is-source : n ≡ back-rule (event-view (w .event))
     is-source = numbered ∙ ap back-rule same
 
-    pub back-nothing : {before : List ℕ} {k : ℕ} → n ≡ 0 → k ≡ no-source-number v → Stepped (step-back M (w .event)) before (record { number = k; length = 0 }) before
+    pub back-nothing : {before : List ℕ} {k : ℕ} → n ≡ 0 → k ≡ no-source-number v → Stepped (step-back M (w .event)) before (refusal-of k) before
     back-nothing z e =
         let h : back-rule (event-view (w .event)) ≡ 0 = sym is-source ∙ z in
         stepped-no (no-source (w .event)) (back-refuses M (ignores (w .definitions)) (w .event) (back-none M (w .event) h)) (e ∙ ap no-source-number same ∙ no-source-numbered (w .event) h) refl refl
@@ -132,12 +132,12 @@ module _ {program s : List ℕ} (known : Known s) (w : Passed program s) {v : Vi
           go (right i l) = plans-back (comes l) .within
           go (wrong i r) = absurd (omega arith)
 
-      pub back-parts : {before after : List ℕ} {emit : Emit} → 32768 ≤ length before → EmittedUnless k before (planned (back-plan v n) s s s) emit after
-          → Stepped (step-back M (w .event)) before emit after
+      pub back-parts : {before after : List ℕ} {moved : Moved} → 32768 ≤ length before → EmittedUnless k before (back-plan v n) s moved after
+          → Stepped (step-back M (w .event)) before moved after
       unfolding number
-      back-parts {before} {after} {emit} h m = go judged-back
+      back-parts {before} {after} {moved} h m = go judged-back
         where
-          go : Half? k (LeavesBack (w .event) → Like s (w .event)) (candidate M (w .event) ≡ refused matches) → Stepped (step-back M (w .event)) before emit after
+          go : Half? k (LeavesBack (w .event) → Like s (w .event)) (candidate M (w .event) ≡ refused matches) → Stepped (step-back M (w .event)) before moved after
           go (right i l) =
               let r = comes l in
               rw (back-put M (ignores (w .definitions)) (r .source) (w .event) limit (r .rule, made-own M (r .rule) (r .made))) (stepped-planned h (plans-back r) (m .passed i))

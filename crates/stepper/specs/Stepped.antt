@@ -10,7 +10,10 @@ use Rattle.records.specs.Encode.{event-record}
 use Rattle.records.specs.Question.{of-program, of-event, output, number}
 use Rattle.records.specs.Gate.{tree, read-program, read-event}
 use Rattle.records.specs.Emitted.{Emitted}
-use Rattle.records.specs.declared.plan.Emit.{Emit}
+use Rattle.records.specs.Plan.{planned, plan-ends}
+use Rattle.records.specs.Places.{part-ends}
+use Rattle.records.specs.declared.plan.Plan.{Plan}
+use Rattle.stepper.specs.declared.emit.Moved.{Moved}
 use Rattle.stepper.specs.Machine.{Answer, refused, gives}
 use Rattle.stepper.specs.Services.{reply, reading}
 use Rattle.stepper.specs.View.{event-view}
@@ -21,11 +24,21 @@ unfoldable pub answer-length : Answer → ℕ
 answer-length (refused q) = 0
 answer-length (gives e) = length (event-record e)
 
--- the number, the length of the record that was written, and the output afterwards are the answer's
-pub record Stepped (a : Answer) (before : List ℕ) (emit : Emit) (after : List ℕ) : Type 0 where
-  pub number-is : emit .number ≡ reply before a .number
-  pub length-is : emit .length ≡ answer-length a
+-- the number, the length of the record that was written, where its parts end, and the output afterwards are the answer's
+pub record Stepped (a : Answer) (before : List ℕ) (moved : Moved) (after : List ℕ) : Type 0 where
+  pub number-is : moved .number ≡ reply before a .number
+  pub length-is : moved .length ≡ answer-length a
+  pub ends-are : (e : Event) → a ≡ gives e → moved .ends ≡ part-ends e
   pub output-is : after ≡ reply before a .output
+
+-- a step that is refused by this number
+abbrev pub refusal-of : ℕ → Moved
+refusal-of n = record { number = n; length = 0; ends = record { goal = 0; ancestors = 0 } }
+
+-- the event of a plan is emitted, and where its parts end is told by the plan
+pub record EmittedEvent (before : List ℕ) (p : Plan) (s goals bets : List ℕ) (moved : Moved) (after : List ℕ) : Type 0 where
+  pub emitted : Emitted before (planned p s goals bets) (record { number = moved .number; length = moved .length }) after
+  pub ends-are : moved .ends ≡ plan-ends p
 
 -- an accepted event, and its view
 pub record Viewed (s : List ℕ) (v : View) : Type 0 where
@@ -47,7 +60,7 @@ gate-number program s room =
     reading (λ a. number (of-program a)) (read-program program) (λ P.
     reading (λ a. number (of-event a)) (read-event s) (λ e. cond (ltb room 32768) (number output) 0))
 
--- a record is emitted unless a question said no by a number other than 0
-pub record EmittedUnless (number : ℕ) (before rec : List ℕ) (emit : Emit) (after : List ℕ) : Type 0 where
-  pub passed : number ≡ 0 → Emitted before rec emit after
-  pub stopped : (number ≡ 0 → ⊥) → (emit ≡ record { number = number; length = 0 }) × (after ≡ before)
+-- the event of a plan over s is emitted unless a question said no by a number other than 0
+pub record EmittedUnless (number : ℕ) (before : List ℕ) (p : Plan) (s : List ℕ) (moved : Moved) (after : List ℕ) : Type 0 where
+  pub passed : number ≡ 0 → EmittedEvent before p s s s moved after
+  pub stopped : (number ≡ 0 → ⊥) → (moved ≡ refusal-of number) × (after ≡ before)

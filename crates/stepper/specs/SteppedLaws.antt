@@ -1,18 +1,19 @@
 -- Laws of a step inside a run: refused, or emitted from a plan; and what the gate's number says.
-use mathlib.Core.Path.{_≡_, refl, sym, _∙_}
+use mathlib.Core.Path.{_≡_, refl, sym, _∙_, ap}
 use mathlib.Core.Bool.{Bool, true, false}
 use mathlib.Core.List.{List}
 use Prim.Native.Nat.{ℕ, _≤_}
+use native.Mathlib.Omega.{arith}
 use lib.Dec.{ltb}
 use lib.ListN.{length}
 use borrow.Author.Tests.{le-ltb, ltb-false}
 use Rattle.records.specs.Syntax.{Event, Definition}
 use Rattle.records.specs.Encode.{event-record}
-use Rattle.records.specs.Question.{Question, of-program, of-event, output, number}
+use Rattle.records.specs.Question.{Question, of-program, of-event, output, fits, number}
 use Rattle.records.specs.Gate.{Reading, tree, read-program, read-event}
-use Rattle.records.specs.Plan.{planned}
+use Rattle.records.specs.Places.{part-ends}
 use Rattle.records.specs.Emitted.{Emitted, outcome}
-use Rattle.records.specs.declared.plan.Emit.{Emit}
+use Rattle.stepper.specs.declared.emit.Moved.{Moved}
 use Rattle.records.specs.declared.plan.Plan.{Plan}
 use Rattle.stepper.specs.Machine.{refused, gives}
 use Rattle.stepper.specs.Walk.{Direction}
@@ -20,28 +21,41 @@ use Rattle.stepper.specs.Rules.{fitting, on-room, attempt, step}
 use Rattle.stepper.specs.Services.{too-long, record-limit, machine, reply, reading, step-answer, step-record}
 use Rattle.stepper.specs.ServiceLaws.{number-positive}
 use Rattle.stepper.specs.Desk.{layers}
-use Rattle.stepper.specs.LayoutLaws.{Plans}
+use Rattle.stepper.specs.LayoutLaws.{PlansFrom}
 use Rattle.stepper.specs.Replied.{Replied}
-use Rattle.stepper.specs.Stepped.{answer-length, Stepped, Passed, gate-number}
+use Rattle.stepper.specs.Stepped.{answer-length, Stepped, refusal-of, EmittedEvent, Passed, gate-number}
 
-pub stepped-refused : {before : List ℕ} {n : ℕ} (q : Question) → n ≡ number q → Stepped (refused q) before (record { number = n; length = 0 }) before
+-- a refusal gives no event
+not-given : (q : Question) (c : Event) → refused q ≡ gives c → ⊥
+not-given q c e = let y : _≡_ {A = ℕ} 0 1 = cc in omega arith
+
+pub stepped-refused : {before : List ℕ} {n : ℕ} (q : Question) → n ≡ number q → Stepped (refused q) before (refusal-of n) before
 unfolding answer-length reply number
-stepped-refused q e = record { number-is = e; length-is = refl; output-is = refl }
+stepped-refused q e = record { number-is = e; length-is = refl; ends-are = λ c k. absurd (not-given q c k); output-is = refl }
 
--- what is emitted of an event's record, where the output passes question 5, is the answer under question 10
-pub stepped-emitted : (e : Event) {before after : List ℕ} {emit : Emit} → 32768 ≤ length before → Emitted before (event-record e) emit after
-    → Stepped (fitting false (record-limit e) (gives e)) before emit after
+-- what is emitted of an event's plan, where the output passes question 5, is the answer under question 10
+pub stepped-planned : {s goals bets : List ℕ} {p : Plan} {e : Event} {before after : List ℕ} {moved : Moved} → 32768 ≤ length before → PlansFrom s goals bets p e
+    → EmittedEvent before p s goals bets moved after → Stepped (fitting false (record-limit e) (gives e)) before moved after
 unfolding outcome reply fitting record-limit too-long number answer-length
-stepped-emitted e {before} {after} {emit} h m = go (ltb 32768 (length (event-record e))) refl
+stepped-planned {e = e} {before} {after} {moved} h w m = go (rw (w .is) at (m .emitted)) (ltb 32768 (length (event-record e))) refl
   where
-    go : (b : Bool) → ltb 32768 (length (event-record e)) ≡ b → Stepped (fitting false (record-limit e) (gives e)) before emit after
-    go true q = rw q (record { number-is = m .number ∙ rw (le-ltb _ _ h, q); length-is = m .length ∙ rw (le-ltb _ _ h, q); output-is = m .output ∙ rw (le-ltb _ _ h, q) })
-    go false q = rw q (record { number-is = m .number ∙ rw (le-ltb _ _ h, q); length-is = m .length ∙ rw (le-ltb _ _ h, q); output-is = m .output ∙ rw (le-ltb _ _ h, q) })
+    same : (c : Event) → gives e ≡ gives c → e ≡ c
+    same c k = cc
 
--- so is what is emitted of its plan
-pub stepped-planned : {s : List ℕ} {p : Plan} {e : Event} {before after : List ℕ} {emit : Emit} → 32768 ≤ length before → Plans s p e
-    → Emitted before (planned p s s s) emit after → Stepped (fitting false (record-limit e) (gives e)) before emit after
-stepped-planned {e = e} h w m = stepped-emitted e h (rw (w .is) at m)
+    go : Emitted before (event-record e) (record { number = moved .number; length = moved .length }) after → (b : Bool) → ltb 32768 (length (event-record e)) ≡ b
+        → Stepped (fitting false (record-limit e) (gives e)) before moved after
+    go x true q = rw q (record {
+      number-is = x .number ∙ rw (le-ltb _ _ h, q);
+      length-is = x .length ∙ rw (le-ltb _ _ h, q);
+      ends-are = λ c k. absurd (not-given fits c k);
+      output-is = x .output ∙ rw (le-ltb _ _ h, q);
+    })
+    go x false q = rw q (record {
+      number-is = x .number ∙ rw (le-ltb _ _ h, q);
+      length-is = x .length ∙ rw (le-ltb _ _ h, q);
+      ends-are = λ c k. m .ends-are ∙ w .ends (ltb-false _ _ q) ∙ ap part-ends (same c k);
+      output-is = x .output ∙ rw (le-ltb _ _ h, q);
+    })
 
 -- the gate says yes
 pub gate-passed : (program s : List ℕ) {room : ℕ} → gate-number program s room ≡ 0 → Passed program s × (32768 ≤ room)
@@ -69,7 +83,7 @@ gate-refused d program s out {n} e z = go (read-program program) refl (read-even
     go (tree P) p (tree x) f false k = absurd (z (e ∙ rw (p, f, k)))
 
 -- a step inside is the service's, once the gate said yes
-pub stepped-replied : (d : Direction) {program s out after : List ℕ} {emit : Emit} (w : Passed program s) → 32768 ≤ length out
-    → Stepped (step (machine layers (w .definitions)) d (w .event)) out emit after → Replied (step-record layers d program s out) (emit .number) after
+pub stepped-replied : (d : Direction) {program s out after : List ℕ} {moved : Moved} (w : Passed program s) → 32768 ≤ length out
+    → Stepped (step (machine layers (w .definitions)) d (w .event)) out moved after → Replied (step-record layers d program s out) (moved .number) after
 unfolding step-record step-answer reading attempt on-room
 stepped-replied d {out = out} w h m = rw (w .program-reads, w .reads, le-ltb (length out) 32768 h) (record { number-is = m .number-is; output-is = m .output-is })

@@ -1,5 +1,6 @@
 -- What a rule looks at in an event: where the parts of its goal and of the tops of its stacks stand, told by the bytes and told by the tree.
 -- Choice: a count with one more and with one less on the stack is part of the view, so that a rule's plan needs no arithmetic.
+use mathlib.Core.Path.{_≡_}
 use mathlib.Core.List.{List, [], _∷_}
 use Prim.Native.Nat.{ℕ, _+_, _-_, _<_}
 use lib.Dec.{eqb}
@@ -9,14 +10,20 @@ use Rattle.records.specs.Encode.{term-bytes, tag, ancestor-bytes, bet-bytes, co
 use Rattle.records.specs.Heads.{pick}
 use Rattle.records.specs.Items.{read-ancestor, read-bet}
 use Rattle.records.specs.Walk.{end-of, end-at}
-use Rattle.records.specs.Places.{goal-end}
+use Rattle.records.specs.Gate.{tree, read-event}
+use Rattle.records.specs.Places.{goal-end, part-ends}
 use Rattle.records.specs.declared.ends.Found.{Found}
 use Rattle.records.specs.declared.ends.Found.the-variants.{At, Nothing}
 use Rattle.records.specs.declared.put.Range.{Range}
 use Rattle.records.specs.declared.places.Row.{Row}
+use Rattle.records.specs.declared.places.PartEnds.{PartEnds}
 use Rattle.stepper.specs.declared.view.Part.{Part}
 use Rattle.stepper.specs.declared.view.StackPlaces.{StackPlaces}
 use Rattle.stepper.specs.declared.view.View.{View}
+
+-- where the parts of an accepted event end
+abbrev pub EndsOf : List ℕ → PartEnds → Type 0
+EndsOf s ends = (e : Event) → read-event s ≡ tree e → ends ≡ part-ends e
 
 -- the end that was found
 abbrev pub found-end : Found → ℕ

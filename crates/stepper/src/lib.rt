@@ -6,6 +6,7 @@ pub mod forward; // forward.rt: rules and plans of steps forward
 pub mod back; // back.rt: rules and plans of steps back
 pub mod first; // first.rt: query to first event
 pub mod half; // half.rt: whether a goal is the half that its ancestor selects
+pub mod emit; // emit.rt: what a step leaves
 pub mod settle; // settle.rt: equalities and atoms, forward from call and back from fail
 pub mod same; // same.rt: the comparisons of a step back
 pub mod step; // step.rt: one step inside a run

@@ -1,8 +1,10 @@
 // A run: single steps in one direction, as many as asked for or up to the first that is refused. The gate is asked once.
+use crate::emit::Moved;
 use crate::service::gate;
 use crate::step::next_event;
 use crate::step::source_event;
-use records::plan::Emit;
+use records::places::PartEnds;
+use records::places::part_ends;
 use records::put::Range;
 use records::put::put_range;
 ghost use Prim.Native.Nat.{_≤_};
@@ -11,6 +13,7 @@ ghost use Rattle.stepper.specs.Rules.{step};
 ghost use Rattle.stepper.specs.Services.{machine};
 ghost use Rattle.stepper.specs.Run.{run, run-record};
 ghost use Rattle.stepper.specs.Desk.{layers};
+ghost use Rattle.stepper.specs.View.{EndsOf};
 ghost use Rattle.stepper.specs.Stepped.{Stepped, Passed};
 ghost use Rattle.stepper.specs.Running.{direction, Turned, RanTo, RunReplied};
 
@@ -28,65 +31,79 @@ pub struct Reached {
 }
 
 // One step in a direction.
-fn step_on(program: &[u8], event: &[u8], back: bool, out: &mut [u8]) -> Emit
+fn step_on(program: &[u8], event: &[u8], ends: PartEnds, back: bool, out: &mut [u8]) -> Moved
     requires { ⌜ Passed (now program) (now event) ⌝ }
+    requires { ⌜ EndsOf (now event) ends ⌝ }
     requires { ⌜ 32768 ≤ length (now out) ⌝ }
     ensures { λ r. ⌜ ((w : Passed (now (program .entry)) (now (event .entry))) → Stepped (step (machine layers (w .definitions)) (direction back) (w .event)) (now (out .entry)) r (now (out .exit))) ⌝ }
 {
     if back {
-        source_event(program, event, out)
+        source_event(program, event, ends, out)
     } else {
-        next_event(program, event, out)
+        next_event(program, event, ends, out)
     }
 }
 
-// One step from the event whose record has the first `len` bytes of `here`; the event that it gives is put there too.
-pub fn turn(program: &[u8], here: &mut [u8], len: usize, there: &mut [u8], back: bool) -> Emit
+// One step from the event whose record has the first `len` bytes of `here`, and whose parts have these ends; the event that it gives is put there
+// too.
+pub fn turn(
+    program: &[u8],
+    here: &mut [u8],
+    len: usize,
+    ends: PartEnds,
+    there: &mut [u8],
+    back: bool,
+) -> Moved
     requires { ⌜ Passed (now program) (take len (now here)) ⌝ }
+    requires { ⌜ EndsOf (take len (now here)) ends ⌝ }
     requires { ⌜ len ≤ length (now here) ⌝ }
     requires { ⌜ 32768 ≤ length (now here) ⌝ }
     requires { ⌜ 32768 ≤ length (now there) ⌝ }
     ensures { λ r. ⌜ ((w : Passed (now (program .entry)) (take len (now (here .entry)))) → Turned (step (machine layers (w .definitions)) (direction back) (w .event)) (now (here .entry)) r (now (here .exit))) ⌝ }
 {
-    let emit = step_on(program, &here[..len], back, there);
-    if emit.number != 0 {
-        return emit;
+    let moved = step_on(program, &here[..len], ends, back, there);
+    if moved.number != 0 {
+        return moved;
     }
     let record = Range {
         from: 0,
-        to: emit.length,
+        to: moved.length,
     };
     put_range(here, 0, there, record);
-    emit
+    moved
 }
 
-// As many steps from there, or up to the first that is refused.
+// As many steps from there, or up to the first that is refused. Where the parts of an event end is told by the step that gave it.
 fn run_on(
     program: &[u8],
     here: &mut [u8],
     start: usize,
+    first: PartEnds,
     there: &mut [u8],
     steps: u32,
     back: bool,
 ) -> Reached
     requires { ⌜ Passed (now program) (take start (now here)) ⌝ }
+    requires { ⌜ EndsOf (take start (now here)) first ⌝ }
     requires { ⌜ start ≤ length (now here) ⌝ }
     requires { ⌜ 32768 ≤ length (now here) ⌝ }
     requires { ⌜ 32768 ≤ length (now there) ⌝ }
     ensures { λ r. ⌜ ((w : Passed (now (program .entry)) (take start (now (here .entry)))) → RanTo (run (machine layers (w .definitions)) (direction back) steps (w .event)) r (now (here .exit))) ⌝ }
 {
     let mut len = start;
+    let mut ends = first;
     let mut taken = 0;
     while taken < steps {
-        let emit = turn(program, here, len, there, back);
-        if emit.number != 0 {
+        let moved = turn(program, here, len, ends, there, back);
+        if moved.number != 0 {
             return Reached {
-                number: emit.number,
+                number: moved.number,
                 taken,
                 length: len,
             };
         }
-        len = emit.length;
+        len = moved.length;
+        ends = moved.ends;
         taken += 1;
     }
     Reached {
@@ -111,7 +128,8 @@ pub fn run(program: &[u8], event: &[u8], steps: u32, back: bool, out: &mut [u8])
         to: event.len(),
     };
     let start = put_range(&mut here, 0, event, whole);
-    let r = run_on(program, &mut here, start, &mut there, steps, back);
+    let ends = part_ends(event);
+    let r = run_on(program, &mut here, start, ends, &mut there, steps, back);
     let record = Range {
         from: 0,
         to: r.length,

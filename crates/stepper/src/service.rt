@@ -5,6 +5,7 @@ use records::gate::event_number;
 use records::gate::event_verdict;
 use records::gate::program_number;
 use records::gate::program_verdict;
+use records::places::part_ends;
 ghost use mathlib.Core.Path.{_≡_};
 ghost use Rattle.stepper.specs.Walk.{forward, back};
 ghost use Rattle.stepper.specs.Services.{step-record};
@@ -35,8 +36,8 @@ pub fn step_forward(program: &[u8], event: &[u8], out: &mut [u8]) -> u8
     if n != 0 {
         return n;
     }
-    let emit = next_event(program, event, out);
-    emit.number
+    let moved = next_event(program, event, part_ends(event), out);
+    moved.number
 }
 
 // The number, and the record of the event's source where it is 0.
@@ -47,6 +48,6 @@ pub fn step_back(program: &[u8], event: &[u8], out: &mut [u8]) -> u8
     if n != 0 {
         return n;
     }
-    let emit = source_event(program, event, out);
-    emit.number
+    let moved = source_event(program, event, part_ends(event), out);
+    moved.number
 }

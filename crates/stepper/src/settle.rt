@@ -1,15 +1,16 @@
 // The rules that look beyond an event's parts: the call of an equality and of an atom, and fail of either read back. Each goes one of two ways.
+use crate::emit::Moved;
+use crate::emit::emit_event;
+use crate::emit::refusal;
 use crate::layouts::kept;
 use crate::layouts::plan_of;
 use crate::layouts::pushed;
 use crate::layouts::same;
 use crate::layouts::whole;
 use crate::view::View;
-use records::plan::Emit;
 use records::plan::Lead;
 use records::plan::Piece;
 use records::plan::Plan;
-use records::plan::emit_plan;
 use records::put::Range;
 use terms::body::BodyAnswer;
 use terms::body::atom_body;
@@ -23,13 +24,6 @@ ghost use Rattle.records.specs.Syntax.{Port};
 ghost use Rattle.records.specs.Encode.{port-byte};
 ghost use Rattle.stepper.specs.Stepped.{Stepped};
 ghost use Rattle.stepper.specs.Settled.{settled-equality, settled-atom, ProgramRead, EqualityViewed, AtomViewed, with-unifier, with-body, goal-frame};
-
-// A step that is refused by this number.
-pub fn refusal(number: u8) -> Emit
-    ensures { λ r. ⌜ r ≡ record { number = number; length = 0 } ⌝ }
-{
-    Emit { number, length: 0 }
-}
 
 // The first n bytes of a source, after a lead.
 fn front(lead: Lead, n: usize) -> Piece
@@ -66,7 +60,7 @@ fn with_body(v: View, port: u8, n: usize) -> Plan
 }
 
 // An equality goes to one port if its terms have no unifier, else to the other with the unifier put on the bets.
-pub fn settle_equality(event: &[u8], v: View, clash: u8, found: u8, out: &mut [u8]) -> Emit
+pub fn settle_equality(event: &[u8], v: View, clash: u8, found: u8, out: &mut [u8]) -> Moved
     requires { ⌜ EqualityViewed (now event) v ⌝ }
     requires { ⌜ 32768 ≤ length (now out) ⌝ }
     ensures { λ r. ⌜ ((w : EqualityViewed (now (event .entry)) v) (p q : Port) → port-byte p ≡ clash → port-byte q ≡ found → Stepped (settled-equality p q (w .left) (w .right) (w .ancestors) (w .bets)) (now (out .entry)) r (now (out .exit))) ⌝ }
@@ -82,9 +76,9 @@ pub fn settle_equality(event: &[u8], v: View, clash: u8, found: u8, out: &mut [u
     };
     match unifier_under(event, v.bets.from, v.bets.count, left, right, &mut unifier) {
         UnifierAnswer::TooLarge => refusal(8),
-        UnifierAnswer::Clash => emit_plan(out, kept(v, clash), event, event, event),
+        UnifierAnswer::Clash => emit_event(out, kept(v, clash), event, event, event),
         UnifierAnswer::Unifier(n) => {
-            emit_plan(out, with_unifier(v, found, n), event, event, &unifier)
+            emit_event(out, with_unifier(v, found, n), event, event, &unifier)
         }
         UnifierAnswer::TooLong => refusal(10),
     }
@@ -111,7 +105,7 @@ pub fn settle_atom(
     undefined: u8,
     defined: u8,
     out: &mut [u8],
-) -> Emit
+) -> Moved
     requires { ⌜ ProgramRead (now program) ⌝ }
     requires { ⌜ AtomViewed (now event) v ⌝ }
     requires { ⌜ 32768 ≤ length (now out) ⌝ }
@@ -120,8 +114,8 @@ pub fn settle_atom(
     let mut body: [u8; 32768] = [0; 32768];
     match atom_body(program, event, goal_frame(v), &mut body) {
         BodyAnswer::TooMany => refusal(9),
-        BodyAnswer::Undefined => emit_plan(out, kept(v, undefined), event, event, event),
-        BodyAnswer::Defined(n) => emit_plan(out, with_body(v, defined, n), event, &body, event),
+        BodyAnswer::Undefined => emit_event(out, kept(v, undefined), event, event, event),
+        BodyAnswer::Defined(n) => emit_event(out, with_body(v, defined, n), event, &body, event),
         BodyAnswer::TooLong => refusal(10),
     }
 }

@@ -1,28 +1,30 @@
 // A step inside a run, from an accepted event under an accepted program: forward to the next event, back to the one it came from.
-// Nothing is validated again, and the dispatch is flat. The output passes question 5.
+// Nothing is validated again, the stacks are not walked to find their ends, and the dispatch is flat. The output passes question 5.
 use crate::back::back_plan;
 use crate::back::back_rule;
+use crate::emit::Moved;
+use crate::emit::emit_event;
+use crate::emit::refusal;
 use crate::forward::forward_plan;
 use crate::forward::forward_rule;
 use crate::half::unlike;
 use crate::same::same_body;
 use crate::same::same_unifier;
-use crate::settle::refusal;
 use crate::settle::settle_atom;
 use crate::settle::settle_equality;
 use crate::view::View;
 use crate::view::event_view;
-use records::plan::Emit;
+use records::places::PartEnds;
 use records::plan::Plan;
-use records::plan::emit_plan;
 ghost use mathlib.Core.Path.{_≡_};
 ghost use Prim.Native.Nat.{_≤_};
 ghost use lib.ListN.{length};
-ghost use Rattle.records.specs.Plan.{planned, Within};
+ghost use Rattle.records.specs.Plan.{Within};
 ghost use Rattle.stepper.specs.Rules.{step-forward, step-back};
 ghost use Rattle.stepper.specs.Services.{machine};
 ghost use Rattle.stepper.specs.Desk.{layers};
 ghost use Rattle.stepper.specs.NoRuleNumbers.{no-rule-number, no-source-number};
+ghost use Rattle.stepper.specs.View.{EndsOf};
 ghost use Rattle.stepper.specs.Stepped.{Stepped, Passed, EmittedUnless};
 
 // The number where no rule has the event as its left side: 6 from exit and fail, else 7.
@@ -48,23 +50,24 @@ fn no_source(v: View) -> u8
 }
 
 // Emits a plan over the event, unless a question said no by its number.
-fn emit_unless(number: u8, event: &[u8], p: Plan, out: &mut [u8]) -> Emit
+fn emit_unless(number: u8, event: &[u8], p: Plan, out: &mut [u8]) -> Moved
     requires { ⌜ (number ≡ 0 → Within p (now event) (now event) (now event)) ⌝ }
-    ensures { λ r. ⌜ EmittedUnless number (now (out .entry)) (planned p (now (event .entry)) (now (event .entry)) (now (event .entry))) r (now (out .exit)) ⌝ }
+    ensures { λ r. ⌜ EmittedUnless number (now (out .entry)) p (now (event .entry)) r (now (out .exit)) ⌝ }
 {
     if number != 0 {
         return refusal(number);
     }
-    emit_plan(out, p, event, event, event)
+    emit_event(out, p, event, event, event)
 }
 
 // One step forward.
-pub fn next_event(program: &[u8], event: &[u8], out: &mut [u8]) -> Emit
+pub fn next_event(program: &[u8], event: &[u8], ends: PartEnds, out: &mut [u8]) -> Moved
     requires { ⌜ Passed (now program) (now event) ⌝ }
+    requires { ⌜ EndsOf (now event) ends ⌝ }
     requires { ⌜ 32768 ≤ length (now out) ⌝ }
     ensures { λ r. ⌜ ((w : Passed (now (program .entry)) (now (event .entry))) → Stepped (step-forward (machine layers (w .definitions)) (w .event)) (now (out .entry)) r (now (out .exit))) ⌝ }
 {
-    let v = event_view(event);
+    let v = event_view(event, ends);
     let n = forward_rule(v);
     match n {
         0 => refusal(no_rule(v)),
@@ -75,12 +78,13 @@ pub fn next_event(program: &[u8], event: &[u8], out: &mut [u8]) -> Emit
 }
 
 // One step back.
-pub fn source_event(program: &[u8], event: &[u8], out: &mut [u8]) -> Emit
+pub fn source_event(program: &[u8], event: &[u8], ends: PartEnds, out: &mut [u8]) -> Moved
     requires { ⌜ Passed (now program) (now event) ⌝ }
+    requires { ⌜ EndsOf (now event) ends ⌝ }
     requires { ⌜ 32768 ≤ length (now out) ⌝ }
     ensures { λ r. ⌜ ((w : Passed (now (program .entry)) (now (event .entry))) → Stepped (step-back (machine layers (w .definitions)) (w .event)) (now (out .entry)) r (now (out .exit))) ⌝ }
 {
-    let v = event_view(event);
+    let v = event_view(event, ends);
     let n = back_rule(v);
     match n {
         0 => refusal(no_source(v)),

@@ -4,15 +4,16 @@ use records::ends::ancestor_end;
 use records::ends::bet_end;
 use records::ends::goals_end;
 use records::ends::term_end;
+use records::places::PartEnds;
 use records::places::Row;
-use records::places::event_places;
+use records::places::places_by;
 use records::put::Range;
 ghost use mathlib.Core.Path.{_≡_};
 ghost use Prim.Native.Nat.{_+_, _-_, _<_};
 ghost use lib.ListN.{length};
 ghost use Rattle.records.specs.Syntax.{Event};
 ghost use Rattle.records.specs.Gate.{Accepted, read-event, tree};
-ghost use Rattle.stepper.specs.View.{found-end, middle-at, goal-part-at, ancestor-part-at, bet-part-at, no-part, TopInside, ancestor-top-at, bet-top-at, stack-at, event-view};
+ghost use Rattle.stepper.specs.View.{EndsOf, found-end, middle-at, goal-part-at, ancestor-part-at, bet-part-at, no-part, TopInside, ancestor-top-at, bet-top-at, stack-at, event-view};
 
 // A goal, an ancestor or a bet: its kind byte and its tag (0 where it has none); where it starts, where it goes on after kind and tag, where
 // its second half or term starts (its end where it has none), and where it ends. All numbers are 0 but the places where there is none.
@@ -194,12 +195,13 @@ fn stack_places(row: Row, rest: usize) -> StackPlaces
     }
 }
 
-// What a rule looks at.
-pub fn event_view(event: &[u8]) -> View
+// What a rule looks at, by the ends of the event's parts.
+pub fn event_view(event: &[u8], ends: PartEnds) -> View
     requires { ⌜ Accepted (read-event (now event)) ⌝ }
+    requires { ⌜ EndsOf (now event) ends ⌝ }
     ensures { λ r. ⌜ ((e : Event) → read-event (now (event .entry)) ≡ tree e → r ≡ event-view e) ⌝ }
 {
-    let places = event_places(event);
+    let places = places_by(event, ends);
     let goal = goal_part(event, places.goal);
     let ancestor = ancestor_top(event, places.ancestors);
     let ancestors = stack_places(places.ancestors, ancestor.to);

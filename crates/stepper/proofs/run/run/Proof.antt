@@ -1,4 +1,4 @@
-use Rattle.stepper.specs.RunReplies.{run-gate-refused, whole-range, moved-passed, moved-inside, reached-range, run-written}
+use Rattle.stepper.specs.RunReplies.{run-gate-refused, whole-range, moved-passed, moved-ends, moved-inside, reached-range, run-written}
 use Rattle.stepper.specs.Running.{direction}
 use Rattle.stepper.specs.SettledLaws.{event-short}
 use Rattle.stepper.specs.SteppedLaws.{gate-passed}
@@ -22,6 +22,9 @@ put-range-requires : tie.Need-put-range-requires
 put-range-requires c κs =
     let w = gate-passed _ _ (sym (c .before .before .gate .ensures) ∙ omega arith) in let l = event-short _ (c .before .before .before .before .shared-slice-known2 .given) (w .0 .reads) in (whole-range _, omega arith)
 
+part-ends-requires : tie.Need-part-ends-requires
+part-ends-requires c κs = rw (gate-passed _ _ (sym (c .before .before .before .before .gate .ensures) ∙ omega arith) .0 .reads) tt
+
 slice-aggregate-run-on : tie.Need-slice-aggregate-run-on
 slice-aggregate-run-on c = search needs
 
@@ -30,21 +33,21 @@ slice-aggregate-run-on-2 c = search needs
 
 run-on-requires : tie.Need-run-on-requires
 run-on-requires c κs =
-    let w = gate-passed _ _ (sym (c .before .before .before .before .before .before .gate .ensures) ∙ omega arith) in let l = event-short _ (c .before .before .before .before .before .before .before .before .shared-slice-known2 .given) (w .0 .reads) in (moved-passed (w .0) (c .before .before .before .put-range .ensures) (omega arith), (moved-inside (w .0) (c .before .before .before .put-range .ensures) (omega arith) (search needs), (search needs, search needs)))
+    let w = gate-passed _ _ (sym (c .before .before .before .before .before .before .before .gate .ensures) ∙ omega arith) in let l = event-short _ (c .before .before .before .before .before .before .before .before .before .shared-slice-known2 .given) (w .0 .reads) in (moved-passed (w .0) (c .before .before .before .before .put-range .ensures) (omega arith), (moved-ends (w .0) (c .before .before .before .before .put-range .ensures) (omega arith) (c .before .before .part-ends .ensures), (moved-inside (w .0) (c .before .before .before .before .put-range .ensures) (omega arith) (search needs), (search needs, search needs))))
 
 slice-aggregate-put-range-2 : tie.Need-slice-aggregate-put-range-2
 slice-aggregate-put-range-2 c = search needs
 
 put-range-requires-2 : tie.Need-put-range-requires-2
 put-range-requires-2 c κs =
-    let w = gate-passed _ _ (sym (c .before .before .before .before .before .before .before .before .before .before .before .gate .ensures) ∙ omega arith) in let l = event-short _ (c .before .before .before .before .before .before .before .before .before .before .before .before .before .shared-slice-known2 .given) (w .0 .reads) in reached-range (direction (c .before .before .before .before .before .before .before .before .before .before .before .before .before .before .before .args .back)) (c .before .before .before .before .before .before .before .before .before .before .before .before .before .before .before .args .steps) (c .before .before .before .before .before .before .before .before .before .before .before .before .before .before .shared-slice-known .given) (c .before .before .before .before .before .before .before .before .before .before .before .before .before .shared-slice-known2 .given) (w .0) (c .before .before .before .before .before .before .before .before .before .before .before .before .before .before .before .args .out .now) (w .1) (c .before .before .before .before .run-on .ensures (moved-passed (w .0) (c .before .before .before .before .before .before .before .before .put-range .ensures) (omega arith)))
+    let w = gate-passed _ _ (sym (c .before .before .before .before .before .before .before .before .before .before .before .before .gate .ensures) ∙ omega arith) in let l = event-short _ (c .before .before .before .before .before .before .before .before .before .before .before .before .before .before .shared-slice-known2 .given) (w .0 .reads) in reached-range (direction (c .before .before .before .before .before .before .before .before .before .before .before .before .before .before .before .before .args .back)) (c .before .before .before .before .before .before .before .before .before .before .before .before .before .before .before .before .args .steps) (c .before .before .before .before .before .before .before .before .before .before .before .before .before .before .before .shared-slice-known .given) (c .before .before .before .before .before .before .before .before .before .before .before .before .before .before .shared-slice-known2 .given) (w .0) (c .before .before .before .before .before .before .before .before .before .before .before .before .before .before .before .before .args .out .now) (w .1) (c .before .before .before .before .run-on .ensures (moved-passed (w .0) (c .before .before .before .before .before .before .before .before .before .put-range .ensures) (omega arith)))
 
 same-length : tie.Need-same-length
 same-length c = search needs
 
 returns-2 : tie.Need-returns-2
 returns-2 c =
-    let w = gate-passed _ _ (sym (c .before .before .before .before .before .before .before .before .before .before .before .before .before .before .gate .ensures) ∙ omega arith) in let l = event-short _ (c .before .before .before .before .before .before .before .before .before .before .before .before .before .before .before .before .shared-slice-known2 .given) (w .0 .reads) in run-written (direction (c .before .before .before .before .before .before .before .before .before .before .before .before .before .before .before .before .before .before .args .back)) (c .before .before .before .before .before .before .before .before .before .before .before .before .before .before .before .before .before .before .args .steps) (c .before .before .before .before .before .before .before .before .before .before .before .before .before .before .before .before .before .shared-slice-known .given) (c .before .before .before .before .before .before .before .before .before .before .before .before .before .before .before .before .shared-slice-known2 .given) (w .0) (c .before .before .before .before .before .before .before .before .before .before .before .before .before .before .before .before .before .before .args .out .now) (w .1) (c .before .before .before .before .before .before .before .run-on .ensures (moved-passed (w .0) (c .before .before .before .before .before .before .before .before .before .before .before .put-range .ensures) (omega arith))) (c .before .before .put-range2 .ensures)
+    let w = gate-passed _ _ (sym (c .before .before .before .before .before .before .before .before .before .before .before .before .before .before .before .gate .ensures) ∙ omega arith) in let l = event-short _ (c .before .before .before .before .before .before .before .before .before .before .before .before .before .before .before .before .before .shared-slice-known2 .given) (w .0 .reads) in run-written (direction (c .before .before .before .before .before .before .before .before .before .before .before .before .before .before .before .before .before .before .before .args .back)) (c .before .before .before .before .before .before .before .before .before .before .before .before .before .before .before .before .before .before .before .args .steps) (c .before .before .before .before .before .before .before .before .before .before .before .before .before .before .before .before .before .before .shared-slice-known .given) (c .before .before .before .before .before .before .before .before .before .before .before .before .before .before .before .before .before .shared-slice-known2 .given) (w .0) (c .before .before .before .before .before .before .before .before .before .before .before .before .before .before .before .before .before .before .before .args .out .now) (w .1) (c .before .before .before .before .before .before .before .run-on .ensures (moved-passed (w .0) (c .before .before .before .before .before .before .before .before .before .before .before .before .put-range .ensures) (omega arith))) (c .before .before .put-range2 .ensures)
 
 pub run-spec : {M : Type 1} → statement M
 run-spec =
@@ -54,6 +57,7 @@ run-spec =
     returns
     slice-aggregate-put-range
     put-range-requires
+    part-ends-requires
     slice-aggregate-run-on
     slice-aggregate-run-on-2
     run-on-requires

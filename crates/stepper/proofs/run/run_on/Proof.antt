@@ -1,4 +1,4 @@
-use Rattle.stepper.specs.RunLoop.{Midway, midway-start, midway-passed, midway-stopped, midway-on, midway-done}
+use Rattle.stepper.specs.RunLoop.{Midway, midway-start, midway-passed, midway-ends, midway-stopped, midway-on, midway-done}
 use Rattle.stepper.specs.Running.{direction}
 use Rattle.stepper.specs.Stepped.{Passed}
 use Rattle.stepper.specs.Desk.{layers}
@@ -12,20 +12,20 @@ use Rattle.stepper.proofs.run.run_on.Statement.{statement}
 use Rattle.stepper.proofs.run.run_on.Tie as tie
 
 abbrev Inv-loop : tie.InvT-loop
-Inv-loop program here₀ start there₀ steps back len₀ taken₀ here there len taken =
-    ((w : Passed program (take start here₀)) → Midway (machine layers (w .definitions)) (direction back) steps (w .event) taken here len)
+Inv-loop program here₀ start there₀ steps back len₀ ends₀ taken₀ here there len ends taken =
+    ((w : Passed program (take start here₀)) → Midway (machine layers (w .definitions)) (direction back) steps (w .event) taken here len ends)
     × (taken ≤ steps) × (length here ≡ length here₀) × (length there ≡ length there₀)
 
 abbrev μ-loop : tie.MeasureT-loop
-μ-loop program here₀ start there₀ steps back len₀ taken₀ here there len taken = steps - taken
+μ-loop program here₀ start there₀ steps back len₀ ends₀ taken₀ here there len ends taken = steps - taken
 
 loop-holds : tie.Need-loop-holds Inv-loop μ-loop
 loop-holds c =
-    (λ w. midway-start (c .before .before .shared-slice-known .given) _ _ (c .before .slice-known .given) w (c .before .before .before .pre .1 .0), omega arith, refl, refl)
+    (λ w. midway-start (c .before .before .shared-slice-known .given) _ _ (c .before .slice-known .given) w (c .before .before .before .pre .1 .1 .0) (c .before .before .before .pre .1 .0), omega arith, refl, refl)
 
 turn-requires : tie.Need-turn-requires Inv-loop μ-loop
 turn-requires c κs =
-    let w = c .before .before .before .before .before .before .before .pre .0 in let m = c .before .before .before .loop .inv .0 w in (midway-passed (c .before .before .before .before .before .before .shared-slice-known .given) _ _ w m, (m .front .inside, (omega (arith, c .before .before .before .loop .inv .2, c .before .before .before .before .before .before .before .pre .1 .1 .0), omega (arith, c .before .before .before .loop .inv .3, c .before .before .before .before .before .before .before .pre .1 .1 .1))))
+    let w = c .before .before .before .before .before .before .before .pre .0 in let m = c .before .before .before .loop .inv .0 w in (midway-passed (c .before .before .before .before .before .before .shared-slice-known .given) _ _ w m, (midway-ends (c .before .before .before .before .before .before .shared-slice-known .given) _ _ w m, (m .front .inside, (omega (arith, c .before .before .before .loop .inv .2, c .before .before .before .before .before .before .before .pre .1 .1 .1 .0), omega (arith, c .before .before .before .loop .inv .3, c .before .before .before .before .before .before .before .pre .1 .1 .1 .1)))))
 
 same-length : tie.Need-same-length Inv-loop μ-loop
 same-length c = search needs
@@ -45,7 +45,7 @@ loop-less c = omega arith
 
 loop-again : tie.Need-loop-again Inv-loop μ-loop
 loop-again c =
-    (λ w. let b = c .before .before .before .before .before .before .before .before .before .before .before .before .before .shared-slice-known .given in let m = c .before .before .before .before .before .before .before .before .before .before .loop .inv .0 w in midway-on b _ _ w m (c .before .before .before .before .before .before .turn .ensures (midway-passed b _ _ w m)) (omega arith) (omega arith), omega arith, search needs, search needs)
+    (λ w. let b = c .before .before .before .before .before .before .before .before .before .before .before .before .before .before .shared-slice-known .given in let m = c .before .before .before .before .before .before .before .before .before .before .before .loop .inv .0 w in midway-on b _ _ w m (c .before .before .before .before .before .before .before .turn .ensures (midway-passed b _ _ w m)) (omega arith) (omega arith), omega arith, search needs, search needs)
 
 same-length-3 : tie.Need-same-length-3 Inv-loop μ-loop
 same-length-3 c = c .before .loop .inv .2

@@ -12,7 +12,7 @@ slice-reshare-prefix-step-on : tie.Need-slice-reshare-prefix-step-on
 slice-reshare-prefix-step-on c = search needs
 
 slice-aggregate-step-on : tie.Need-slice-aggregate-step-on
-slice-aggregate-step-on c = sym (length-take-le _ _ (c .before .before .before .before .pre .1 .0))
+slice-aggregate-step-on c = sym (length-take-le _ _ (c .before .before .before .before .pre .1 .1 .0))
 
 step-on-requires : tie.Need-step-on-requires
 step-on-requires c κs = search needs
@@ -28,7 +28,7 @@ returns c = λ w. turn-refused (c .before .before .before .before .step-on .ensu
 
 put-range-requires : tie.Need-put-range-requires
 put-range-requires c κs =
-    let w = c .before .before .before .before .before .before .before .before .before .before .before .before .pre .0 in let here = c .before .before .before .before .before .before .before .before .before .before .before .before .args .here .now in turn-range (c .before .before .before .before .before .before .step-on .ensures w) (omega arith) (λ d e. limit-fits d (next-recordable (c .before .before .before .before .before .before .before .before .before .before .before .shared-slice-known .given) (bytes-take (c .before .before .before .before .before .before .before .before .before .before .before .before .args .len) here (bytes-all here (c .before .before .before .before .before .before .before .before .before .before .slice-known .given))) w _ d e .1)) (c .before .before .before .before .before .before .before .before .before .before .before .before .pre .1 .1 .1) here (c .before .before .before .before .before .before .before .before .before .before .before .before .pre .1 .1 .0)
+    let w = c .before .before .before .before .before .before .before .before .before .before .before .before .pre .0 in let here = c .before .before .before .before .before .before .before .before .before .before .before .before .args .here .now in turn-range (c .before .before .before .before .before .before .step-on .ensures w) (omega arith) (λ d e. limit-fits d (next-recordable (c .before .before .before .before .before .before .before .before .before .before .before .shared-slice-known .given) (bytes-take (c .before .before .before .before .before .before .before .before .before .before .before .before .args .len) here (bytes-all here (c .before .before .before .before .before .before .before .before .before .before .slice-known .given))) w _ d e .1)) (c .before .before .before .before .before .before .before .before .before .before .before .before .pre .1 .1 .1 .1) here (c .before .before .before .before .before .before .before .before .before .before .before .before .pre .1 .1 .1 .0)
 
 same-length-3 : tie.Need-same-length-3
 same-length-3 c = search needs
@@ -38,7 +38,7 @@ same-length-4 c = search needs
 
 returns-2 : tie.Need-returns-2
 returns-2 c =
-    λ w. let here = c .before .before .before .before .before .before .before .before .before .before .before .before .before .before .before .args .here .now in turn-moved (c .before .before .before .before .before .before .before .before .before .step-on .ensures w) (omega arith) (λ d e. limit-fits d (next-recordable (c .before .before .before .before .before .before .before .before .before .before .before .before .before .before .shared-slice-known .given) (bytes-take (c .before .before .before .before .before .before .before .before .before .before .before .before .before .before .before .args .len) here (bytes-all here (c .before .before .before .before .before .before .before .before .before .before .before .before .before .slice-known .given))) w _ d e .1)) (c .before .before .before .before .before .before .before .before .before .before .before .before .before .before .before .pre .1 .1 .1) (c .before .before .before .before .before .before .before .before .before .before .before .before .before .before .before .pre .1 .1 .0) (c .before .before .put-range .ensures)
+    λ w. let here = c .before .before .before .before .before .before .before .before .before .before .before .before .before .before .before .args .here .now in turn-moved (c .before .before .before .before .before .before .before .before .before .step-on .ensures w) (omega arith) (λ d e. limit-fits d (next-recordable (c .before .before .before .before .before .before .before .before .before .before .before .before .before .before .shared-slice-known .given) (bytes-take (c .before .before .before .before .before .before .before .before .before .before .before .before .before .before .before .args .len) here (bytes-all here (c .before .before .before .before .before .before .before .before .before .before .before .before .before .slice-known .given))) w _ d e .1)) (c .before .before .before .before .before .before .before .before .before .before .before .before .before .before .before .pre .1 .1 .1 .1) (c .before .before .before .before .before .before .before .before .before .before .before .before .before .before .before .pre .1 .1 .1 .0) (c .before .before .put-range .ensures)
 
 pub turn-spec : {M : Type 1} → statement M
 turn-spec =

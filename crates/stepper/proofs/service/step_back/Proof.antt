@@ -13,8 +13,12 @@ gate-requires c κs = search needs
 returns : tie.Need-returns
 returns c = gate-refused back _ _ _ (c .before .gate .ensures) (λ z. omega arith)
 
+part-ends-requires : tie.Need-part-ends-requires
+part-ends-requires c κs = rw (gate-passed _ _ (sym (c .before .gate .ensures) ∙ omega arith) .0 .reads) tt
+
 source-event-requires : tie.Need-source-event-requires
-source-event-requires c κs = let w = gate-passed _ _ (sym (c .before .before .gate .ensures) ∙ omega arith) in (w .0, w .1)
+source-event-requires c κs =
+    let w = gate-passed _ _ (sym (c .before .before .before .gate .ensures) ∙ omega arith) in (w .0, (c .before .part-ends .ensures, w .1))
 
 same-length : tie.Need-same-length
 same-length c = search needs
@@ -22,8 +26,8 @@ same-length c = search needs
 returns-2 : tie.Need-returns-2
 unfolding step
 returns-2 c =
-    let w = gate-passed _ _ (sym (c .before .before .before .before .before .gate .ensures) ∙ omega arith) in stepped-replied back (w .0) (w .1) (c .before .before .source-event .ensures (w .0))
+    let w = gate-passed _ _ (sym (c .before .before .before .before .before .before .gate .ensures) ∙ omega arith) in stepped-replied back (w .0) (w .1) (c .before .before .source-event .ensures (w .0))
 
 pub step-back-spec : {M : Type 1} → statement M
 step-back-spec =
-    tie.close (tie.spec gate-requires returns source-event-requires same-length returns-2)
+    tie.close (tie.spec gate-requires returns part-ends-requires source-event-requires same-length returns-2)

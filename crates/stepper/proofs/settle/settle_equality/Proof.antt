@@ -23,8 +23,8 @@ enum-told-2 c = search needs
 kept-requires : tie.Need-kept-requires
 kept-requires c κs = search needs
 
-emit-plan-requires : tie.Need-emit-plan-requires
-emit-plan-requires c κs =
+emit-event-requires : tie.Need-emit-event-requires
+emit-event-requires c κs =
     rw (c .kept .ensures) (clash-within (c .before .before .before .before .before .before .before .before .shared-slice-known .given) (c .before .before .before .before .before .before .before .before .before .pre .0) _)
 
 enum-known-n : tie.Need-enum-known-n
@@ -33,11 +33,11 @@ enum-known-n c = search needs
 with-unifier-requires : tie.Need-with-unifier-requires
 with-unifier-requires c κs = search needs
 
-slice-aggregate-emit-plan : tie.Need-slice-aggregate-emit-plan
-slice-aggregate-emit-plan c = search needs
+slice-aggregate-emit-event : tie.Need-slice-aggregate-emit-event
+slice-aggregate-emit-event c = search needs
 
-emit-plan-requires-2 : tie.Need-emit-plan-requires-2
-emit-plan-requires-2 c κs =
+emit-event-requires-2 : tie.Need-emit-event-requires-2
+emit-event-requires-2 c κs =
     let k = c .before .before .before .before .before .before .before .before .before .before .shared-slice-known .given in let w = c .before .before .before .before .before .before .before .before .before .before .before .pre .0 in rw (c .before .with-unifier .ensures) (found-within k w _ (told-as (c .before .before .before .before .before .before .before .unifier-under .ensures (equality-bets k w) (equality-left k w) (equality-right k w)) (search needs) (c .before .before .before .before .n .given .1)))
 
 enum-told-3 : tie.Need-enum-told-3
@@ -55,14 +55,14 @@ same-length c = search needs
 
 returns-2 : tie.Need-returns-2
 returns-2 c =
-    λ w p q cp fp. let k = c .before .before .before .before .before .before .before .before .before .before .before .shared-slice-known .given in equality-clash k w p q cp fp (c .before .before .before .before .before .before .before .before .before .before .before .before .pre .1) (told-as (c .before .before .before .before .before .before .before .before .unifier-under .ensures (equality-bets k w) (equality-left k w) (equality-right k w)) (search needs) (c .before .before .before .before .before .enum-told2 .given .1)) (rw (c .before .before .before .kept .ensures) at (c .before .before .emit-plan .ensures))
+    λ w p q cp fp. let k = c .before .before .before .before .before .before .before .before .before .before .before .shared-slice-known .given in equality-clash k w p q cp fp (c .before .before .before .before .before .before .before .before .before .before .before .before .pre .1) (told-as (c .before .before .before .before .before .before .before .before .unifier-under .ensures (equality-bets k w) (equality-left k w) (equality-right k w)) (search needs) (c .before .before .before .before .before .enum-told2 .given .1)) (rw (c .before .before .before .kept .ensures) at (c .before .before .emit-event .ensures))
 
 same-length-2 : tie.Need-same-length-2
 same-length-2 c = search needs
 
 returns-3 : tie.Need-returns-3
 returns-3 c =
-    λ w p q cp fp. let k = c .before .before .before .before .before .before .before .before .before .before .before .before .before .shared-slice-known .given in equality-found k w p q cp fp (c .before .before .before .before .before .before .before .before .before .before .before .before .before .before .pre .1) (told-as (c .before .before .before .before .before .before .before .before .before .before .unifier-under .ensures (equality-bets k w) (equality-left k w) (equality-right k w)) (search needs) (c .before .before .before .before .before .before .before .n .given .1)) (rw (c .before .before .before .before .with-unifier .ensures) at (c .before .before .emit-plan2 .ensures))
+    λ w p q cp fp. let k = c .before .before .before .before .before .before .before .before .before .before .before .before .before .shared-slice-known .given in equality-found k w p q cp fp (c .before .before .before .before .before .before .before .before .before .before .before .before .before .before .pre .1) (told-as (c .before .before .before .before .before .before .before .before .before .before .unifier-under .ensures (equality-bets k w) (equality-left k w) (equality-right k w)) (search needs) (c .before .before .before .before .before .before .before .n .given .1)) (rw (c .before .before .before .before .with-unifier .ensures) at (c .before .before .emit-event2 .ensures))
 
 returns-4 : tie.Need-returns-4
 returns-4 c =
@@ -78,11 +78,11 @@ settle-equality-spec =
     refusal-requires
     enum-told-2
     kept-requires
-    emit-plan-requires
+    emit-event-requires
     enum-known-n
     with-unifier-requires
-    slice-aggregate-emit-plan
-    emit-plan-requires-2
+    slice-aggregate-emit-event
+    emit-event-requires-2
     enum-told-3
     refusal-requires-2
     returns

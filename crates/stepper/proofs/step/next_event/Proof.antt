@@ -10,7 +10,7 @@ use Rattle.stepper.proofs.step.next_event.Statement.{statement}
 use Rattle.stepper.proofs.step.next_event.Tie as tie
 
 event-view-requires : tie.Need-event-view-requires
-event-view-requires c κs = rw (c .before .before .before .pre .0 .reads) tt
+event-view-requires c κs = (rw (c .before .before .before .pre .0 .reads) tt, c .before .before .before .pre .1 .0)
 
 forward-rule-requires : tie.Need-forward-rule-requires
 forward-rule-requires c κs = search needs
@@ -23,11 +23,11 @@ refusal-requires c κs = search needs
 
 settle-equality-requires : tie.Need-settle-equality-requires
 settle-equality-requires c κs =
-    let w = c .before .before .before .before .before .before .before .pre .0 in let same = c .before .before .before .event-view .ensures (w .event) (w .reads) in (equality-viewed (c .before .before .before .before .before .shared-slice-known2 .given) w same (calls-equality (w .event) (sym (c .before .before .forward-rule .ensures ∙ ap forward-rule same) ∙ c .before .match .keys2)), c .before .before .before .before .before .before .before .pre .1)
+    let w = c .before .before .before .before .before .before .before .pre .0 in let same = c .before .before .before .event-view .ensures (w .event) (w .reads) in (equality-viewed (c .before .before .before .before .before .shared-slice-known2 .given) w same (calls-equality (w .event) (sym (c .before .before .forward-rule .ensures ∙ ap forward-rule same) ∙ c .before .match .keys2)), c .before .before .before .before .before .before .before .pre .1 .1)
 
 settle-atom-requires : tie.Need-settle-atom-requires
 settle-atom-requires c κs =
-    let w = c .before .before .before .before .before .before .before .pre .0 in let same = c .before .before .before .event-view .ensures (w .event) (w .reads) in (program-read (c .before .before .before .before .before .shared-slice-known2 .given) w same, (atom-viewed (c .before .before .before .before .before .shared-slice-known2 .given) w same (calls-atom (w .event) (sym (c .before .before .forward-rule .ensures ∙ ap forward-rule same) ∙ c .before .match .keys3)), c .before .before .before .before .before .before .before .pre .1))
+    let w = c .before .before .before .before .before .before .before .pre .0 in let same = c .before .before .before .event-view .ensures (w .event) (w .reads) in (program-read (c .before .before .before .before .before .shared-slice-known2 .given) w same, (atom-viewed (c .before .before .before .before .before .shared-slice-known2 .given) w same (calls-atom (w .event) (sym (c .before .before .forward-rule .ensures ∙ ap forward-rule same) ∙ c .before .match .keys3)), c .before .before .before .before .before .before .before .pre .1 .1))
 
 unlike-requires : tie.Need-unlike-requires
 unlike-requires c κs =
@@ -63,7 +63,7 @@ same-length-3 c = search needs
 
 returns-4 : tie.Need-returns-4
 returns-4 c =
-    λ w. forward-parts (c .before .before .before .before .before .before .before .before .before .before .shared-slice-known2 .given) w (c .before .before .before .before .before .before .before .before .event-view .ensures (w .event) (w .reads)) (c .before .before .before .before .before .before .before .forward-rule .ensures) (c .before .before .before .before .before .unlike .ensures) (c .before .before .before .before .before .before .match .rest .0 .0 .1) (c .before .before .before .before .before .before .match .rest .0 .1) (c .before .before .before .before .before .before .match .rest .1) (c .before .before .before .before .before .before .before .before .before .before .before .before .pre .1) (rw (c .before .before .before .before .forward-plan .ensures) at (c .before .before .emit-unless .ensures))
+    λ w. forward-parts (c .before .before .before .before .before .before .before .before .before .before .shared-slice-known2 .given) w (c .before .before .before .before .before .before .before .before .event-view .ensures (w .event) (w .reads)) (c .before .before .before .before .before .before .before .forward-rule .ensures) (c .before .before .before .before .before .unlike .ensures) (c .before .before .before .before .before .before .match .rest .0 .0 .1) (c .before .before .before .before .before .before .match .rest .0 .1) (c .before .before .before .before .before .before .match .rest .1) (c .before .before .before .before .before .before .before .before .before .before .before .before .pre .1 .1) (rw (c .before .before .before .before .forward-plan .ensures) at (c .before .before .emit-unless .ensures))
 
 pub next-event-spec : {M : Type 1} → statement M
 next-event-spec =

@@ -10,7 +10,7 @@ use Rattle.stepper.proofs.step.source_event.Statement.{statement}
 use Rattle.stepper.proofs.step.source_event.Tie as tie
 
 event-view-requires : tie.Need-event-view-requires
-event-view-requires c κs = rw (c .before .before .before .pre .0 .reads) tt
+event-view-requires c κs = (rw (c .before .before .before .pre .0 .reads) tt, c .before .before .before .pre .1 .0)
 
 back-rule-requires : tie.Need-back-rule-requires
 back-rule-requires c κs = search needs
@@ -34,7 +34,7 @@ emit-unless-requires c κs =
 
 settle-equality-requires : tie.Need-settle-equality-requires
 settle-equality-requires c κs =
-    let w = c .before .before .before .before .before .before .before .pre .0 in let same = c .before .before .before .event-view .ensures (w .event) (w .reads) in (equality-viewed (c .before .before .before .before .before .shared-slice-known2 .given) w same (fails-equality (w .event) (sym (c .before .before .back-rule .ensures ∙ ap back-rule same) ∙ c .before .match .keys3)), c .before .before .before .before .before .before .before .pre .1)
+    let w = c .before .before .before .before .before .before .before .pre .0 in let same = c .before .before .before .event-view .ensures (w .event) (w .reads) in (equality-viewed (c .before .before .before .before .before .shared-slice-known2 .given) w same (fails-equality (w .event) (sym (c .before .before .back-rule .ensures ∙ ap back-rule same) ∙ c .before .match .keys3)), c .before .before .before .before .before .before .before .pre .1 .1)
 
 same-body-requires : tie.Need-same-body-requires
 same-body-requires c κs =
@@ -49,7 +49,7 @@ emit-unless-requires-2 c κs =
 
 settle-atom-requires : tie.Need-settle-atom-requires
 settle-atom-requires c κs =
-    let w = c .before .before .before .before .before .before .before .pre .0 in let same = c .before .before .before .event-view .ensures (w .event) (w .reads) in (program-read (c .before .before .before .before .before .shared-slice-known2 .given) w same, (atom-viewed (c .before .before .before .before .before .shared-slice-known2 .given) w same (fails-atom (w .event) (sym (c .before .before .back-rule .ensures ∙ ap back-rule same) ∙ c .before .match .keys5)), c .before .before .before .before .before .before .before .pre .1))
+    let w = c .before .before .before .before .before .before .before .pre .0 in let same = c .before .before .before .event-view .ensures (w .event) (w .reads) in (program-read (c .before .before .before .before .before .shared-slice-known2 .given) w same, (atom-viewed (c .before .before .before .before .before .shared-slice-known2 .given) w same (fails-atom (w .event) (sym (c .before .before .back-rule .ensures ∙ ap back-rule same) ∙ c .before .match .keys5)), c .before .before .before .before .before .before .before .pre .1 .1))
 
 unlike-requires : tie.Need-unlike-requires
 unlike-requires c κs =
@@ -71,7 +71,7 @@ same-length c = search needs
 
 returns-2 : tie.Need-returns-2
 returns-2 c =
-    λ w. let same = c .before .before .before .before .before .before .before .before .event-view .ensures (w .event) (w .reads) in let f = exits-equality (w .event) (sym (c .before .before .before .before .before .before .before .back-rule .ensures ∙ ap back-rule same) ∙ c .before .before .before .before .before .before .match .keys2) in back-exit (c .before .before .before .before .before .before .before .before .before .before .shared-slice-known2 .given) w same (c .before .before .before .before .before .before .before .before .before .before .before .before .pre .1) f (c .before .before .before .before .before .same-unifier .ensures (unifier-viewed (c .before .before .before .before .before .before .before .before .before .before .shared-slice-known2 .given) w same f)) (rw (c .before .before .before .before .back-plan .ensures) at (c .before .before .emit-unless .ensures))
+    λ w. let same = c .before .before .before .before .before .before .before .before .event-view .ensures (w .event) (w .reads) in let f = exits-equality (w .event) (sym (c .before .before .before .before .before .before .before .back-rule .ensures ∙ ap back-rule same) ∙ c .before .before .before .before .before .before .match .keys2) in back-exit (c .before .before .before .before .before .before .before .before .before .before .shared-slice-known2 .given) w same (c .before .before .before .before .before .before .before .before .before .before .before .before .pre .1 .1) f (c .before .before .before .before .before .same-unifier .ensures (unifier-viewed (c .before .before .before .before .before .before .before .before .before .before .shared-slice-known2 .given) w same f)) (rw (c .before .before .before .before .back-plan .ensures) at (c .before .before .emit-unless .ensures))
 
 same-length-2 : tie.Need-same-length-2
 same-length-2 c = search needs
@@ -85,7 +85,7 @@ same-length-3 c = search needs
 
 returns-4 : tie.Need-returns-4
 returns-4 c =
-    λ w. let same = c .before .before .before .before .before .before .before .before .event-view .ensures (w .event) (w .reads) in let f = calls-body (w .event) (sym (c .before .before .before .before .before .before .before .back-rule .ensures ∙ ap back-rule same) ∙ c .before .before .before .before .before .before .match .keys4) in back-called (c .before .before .before .before .before .before .before .before .before .before .shared-slice-known2 .given) w same (c .before .before .before .before .before .before .before .before .before .before .before .before .pre .1) f (c .before .before .before .before .before .same-body .ensures (program-read (c .before .before .before .before .before .before .before .before .before .before .shared-slice-known2 .given) w same) (body-viewed (c .before .before .before .before .before .before .before .before .before .before .shared-slice-known2 .given) w same f)) (rw (c .before .before .before .before .back-plan2 .ensures) at (c .before .before .emit-unless2 .ensures))
+    λ w. let same = c .before .before .before .before .before .before .before .before .event-view .ensures (w .event) (w .reads) in let f = calls-body (w .event) (sym (c .before .before .before .before .before .before .before .back-rule .ensures ∙ ap back-rule same) ∙ c .before .before .before .before .before .before .match .keys4) in back-called (c .before .before .before .before .before .before .before .before .before .before .shared-slice-known2 .given) w same (c .before .before .before .before .before .before .before .before .before .before .before .before .pre .1 .1) f (c .before .before .before .before .before .same-body .ensures (program-read (c .before .before .before .before .before .before .before .before .before .before .shared-slice-known2 .given) w same) (body-viewed (c .before .before .before .before .before .before .before .before .before .before .shared-slice-known2 .given) w same f)) (rw (c .before .before .before .before .back-plan2 .ensures) at (c .before .before .emit-unless2 .ensures))
 
 same-length-4 : tie.Need-same-length-4
 same-length-4 c = search needs
@@ -99,7 +99,7 @@ same-length-5 c = search needs
 
 returns-6 : tie.Need-returns-6
 returns-6 c =
-    λ w. back-parts (c .before .before .before .before .before .before .before .before .before .before .shared-slice-known2 .given) w (c .before .before .before .before .before .before .before .before .event-view .ensures (w .event) (w .reads)) (c .before .before .before .before .before .before .before .back-rule .ensures) (c .before .before .before .before .before .unlike .ensures) (c .before .before .before .before .before .before .match .rest .0 .0 .0 .0 .1) (c .before .before .before .before .before .before .match .rest .0 .0 .0 .1) (c .before .before .before .before .before .before .match .rest .0 .0 .1) (c .before .before .before .before .before .before .match .rest .0 .1) (c .before .before .before .before .before .before .match .rest .1) (c .before .before .before .before .before .before .before .before .before .before .before .before .pre .1) (rw (c .before .before .before .before .back-plan3 .ensures) at (c .before .before .emit-unless3 .ensures))
+    λ w. back-parts (c .before .before .before .before .before .before .before .before .before .before .shared-slice-known2 .given) w (c .before .before .before .before .before .before .before .before .event-view .ensures (w .event) (w .reads)) (c .before .before .before .before .before .before .before .back-rule .ensures) (c .before .before .before .before .before .unlike .ensures) (c .before .before .before .before .before .before .match .rest .0 .0 .0 .0 .1) (c .before .before .before .before .before .before .match .rest .0 .0 .0 .1) (c .before .before .before .before .before .before .match .rest .0 .0 .1) (c .before .before .before .before .before .before .match .rest .0 .1) (c .before .before .before .before .before .before .match .rest .1) (c .before .before .before .before .before .before .before .before .before .before .before .before .pre .1 .1) (rw (c .before .before .before .before .back-plan3 .ensures) at (c .before .before .emit-unless3 .ensures))
 
 pub source-event-spec : {M : Type 1} → statement M
 source-event-spec =

@@ -42,7 +42,7 @@ static int print_event(long at)
 /* Single steps in one direction until one is refused, forward at most 100,000. Gives the number that refused it, and `at` follows the walk. */
 static uint32_t walk(uint8_t back, long *at)
 {
-    uint32_t number, taken;
+    uint32_t number, taken = 0;
     while (back != FOURPORT_FORWARD || *at < 100000) {
         number = fourport_run(program.bytes, program.length, here.bytes, here.length, 1, back, next.bytes, sizeof next.bytes, &taken);
         if (number != 0) return number;

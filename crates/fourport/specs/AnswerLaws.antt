@@ -17,6 +17,7 @@ use Rattle.terms.specs.ValueService.{no, within-limit, bets-of, reply-into, rep
 use Rattle.stepper.specs.Lookup.{Part}
 use Rattle.stepper.specs.LookupRange.{range-of}
 
+-- the range of a part
 module _ {r : Range} (p : Part) (e : r ≡ range-of p) where
   pub range-in-order : r .from ≤ r .to
   range-in-order = rw e (omega arith)

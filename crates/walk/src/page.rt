@@ -1,9 +1,7 @@
 // Pages of a walk's text: as many lines as fit, each after a step that asks the gate nothing again.
 use crate::line::put_line;
 use crate::line::put_stop;
-use records::put::Range;
-use records::put::put_range;
-use stepper::step::next_event;
+use stepper::run::turn;
 ghost use Prim.Native.Nat.{_≤_};
 ghost use lib.ListN.{length, take};
 ghost use Rattle.stepper.specs.Services.{machine};
@@ -40,22 +38,10 @@ fn advance(program: &[u8], here: &mut [u8], len: usize, there: &mut [u8], step: 
             length: len,
         };
     }
-    let emit = next_event(program, &here[..len], there);
-    if emit.number != 0 {
-        return Next {
-            stopped: true,
-            number: emit.number,
-            length: len,
-        };
-    }
-    let record = Range {
-        from: 0,
-        to: emit.length,
-    };
-    put_range(here, 0, there, record);
+    let emit = turn(program, here, len, there, false);
     Next {
-        stopped: false,
-        number: 0,
+        stopped: emit.number != 0,
+        number: emit.number,
         length: emit.length,
     }
 }

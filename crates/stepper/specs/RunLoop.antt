@@ -22,6 +22,7 @@ use Rattle.stepper.specs.RunLaws.{later, run-start, run-step, run-stop, 
 use Rattle.stepper.specs.Walk.{Direction}
 use Rattle.stepper.specs.Desk.{layers, lawful}
 use Rattle.stepper.specs.View.{EndsOf}
+use Rattle.stepper.specs.ViewLaws.{ends-known}
 use Rattle.stepper.specs.Stepped.{Passed}
 use Rattle.stepper.specs.Running.{Front, Turned, RanTo}
 use Rattle.stepper.specs.RunningLaws.{bytes-take, next-recordable}
@@ -56,10 +57,7 @@ module _ {program : List ℕ} (byte : Known program) (d : Direction) (steps : �
     midway-passed = record { definitions = w .definitions; program-reads = w .program-reads; event = m .event; reads = midway-reads }
 
     pub midway-ends : EndsOf (take len here) ends
-    midway-ends e h = m .ends-are ∙ ap part-ends (one (sym midway-reads ∙ h))
-      where
-        one : tree (m .event) ≡ tree e → m .event ≡ e
-        one q = cc
+    midway-ends = ends-known (take len here) midway-reads (m .ends-are)
 
     module _ {moved : Moved} {after : List ℕ} (t : Turned (step (machine layers (w .definitions)) d (m .event)) here moved after) where
       -- the step is refused

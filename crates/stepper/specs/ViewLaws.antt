@@ -16,13 +16,21 @@ use Rattle.records.specs.Walk.{end-at, walk-end}
 use Rattle.records.specs.Gate.{Reading, Accepted, read-event}
 use Rattle.records.specs.Gate.Reading.{refused, tree}
 use Rattle.records.specs.Stands.{Stands, stands-within, stands-first, stands-second, stands-ends, walk-term}
-use Rattle.records.specs.Places.{goal-end, row-places, event-places, event-parts, goal-found}
+use Rattle.records.specs.Places.{goal-end, row-places, part-ends, event-places, event-parts, goal-found}
 use Rattle.records.specs.declared.ends.Found.the-variants.{At}
 use Rattle.records.specs.declared.places.Places.{Places}
-use Rattle.stepper.specs.View.{middle-at, goal-part-at, ancestor-part-at, bet-part-at, TopInside, ancestor-top-at, bet-top-at, stack-at, goal-part, ancestor-end, ancestor-part, bet-end, bet-part, top-part, ancestors-at, bets-at, event-view}
+use Rattle.records.specs.declared.places.PartEnds.{PartEnds}
+use Rattle.stepper.specs.View.{EndsOf, middle-at, goal-part-at, ancestor-part-at, bet-part-at, TopInside, ancestor-top-at, bet-top-at, stack-at, goal-part, ancestor-end, ancestor-part, bet-end, bet-part, top-part, ancestors-at, bets-at, event-view}
 use Rattle.stepper.specs.declared.view.Part.{Part}
 use Rattle.stepper.specs.declared.view.StackPlaces.{StackPlaces}
 use Rattle.stepper.specs.declared.view.View.{View}
+
+-- the ends of an event are those of its record
+pub ends-known : (s : List ℕ) {c : Event} {ends : PartEnds} → read-event s ≡ tree c → ends ≡ part-ends c → EndsOf s ends
+ends-known s {c} r h e k = h ∙ ap part-ends (same (sym r ∙ k))
+  where
+    same : tree c ≡ tree e → c ≡ e
+    same q = cc
 
 -- the first two bytes of what stands at a position
 pub first-byte : {s l : List ℕ} {at x e : ℕ} → Stands s at (x ∷ l) e → getD s at 0 ≡ x

@@ -12,7 +12,8 @@ use Rattle.records.specs.Syntax.{Event}
 use Rattle.records.specs.Encode.{event-record}
 use Rattle.records.specs.HeadLaws.{Known, bytes-all}
 use Rattle.records.specs.Gate.{tree, read-event}
-use Rattle.records.specs.declared.plan.Emit.{Emit}
+use Rattle.records.specs.declared.places.PartEnds.{PartEnds}
+use Rattle.stepper.specs.declared.emit.Moved.{Moved}
 use Rattle.stepper.specs.Machine.{Machine, Answer, refused, gives}
 use Rattle.stepper.specs.Rules.{step-forward, step}
 use Rattle.stepper.specs.Walk.{forward}
@@ -37,20 +38,21 @@ module _ (M : Machine) (at : ℕ) (e : Event) where
   one-fewer : at < step-limit → step-limit - at ≡ suc (step-limit - (at + 1))
   one-fewer h = omega arith
 
-  pub advanced-limit : {here : List ℕ} {len : ℕ} → at ≡ step-limit → Advanced M at e (record { stopped = true; number = 0; length = len }) here
+  pub advanced-limit : {here : List ℕ} {len : ℕ} {ends : PartEnds} → at ≡ step-limit
+      → Advanced M at e (record { stopped = true; number = 0; length = len; ends = ends }) here
   advanced-limit h = let n : step-limit - at ≡ zero = omega arith in record { stops = λ _. rw n (after-last M at e); goes = λ f. absurd (true≢false f) }
 
-  pub advanced-turned : {before after : List ℕ} {emit : Emit} → at < step-limit → Turned (step M forward e) before emit after
+  pub advanced-turned : {before after : List ℕ} {moved : Moved} → at < step-limit → Turned (step M forward e) before moved after
       → ((c : Event) → step M forward e ≡ gives c → read-event (event-record c) ≡ tree c)
-      → Advanced M at e (record { stopped = not (eqb (emit .number) 0); number = emit .number; length = emit .length }) after
+      → Advanced M at e (record { stopped = not (eqb (moved .number) 0); number = moved .number; length = moved .length; ends = moved .ends }) after
   unfolding step reply
-  advanced-turned {before} {after} {emit} h turned reads = go (step-forward M e) refl turned
+  advanced-turned {before} {after} {moved} h turned reads = go (step-forward M e) refl turned
     where
-      go : (a : Answer) → step-forward M e ≡ a → Turned a before emit after
-          → Advanced M at e (record { stopped = not (eqb (emit .number) 0); number = emit .number; length = emit .length }) after
+      go : (a : Answer) → step-forward M e ≡ a → Turned a before moved after
+          → Advanced M at e (record { stopped = not (eqb (moved .number) 0); number = moved .number; length = moved .length; ends = moved .ends }) after
       go (refused q) k t = record {
         stops = λ _. rw (t .number-is, one-fewer h) (after-refused M at e _ q k);
-        goes = λ f. absurd (true≢false (rw (ne-eqb (emit .number) 0 (λ z. number-positive q (sym (t .number-is) ∙ z))) at f));
+        goes = λ f. absurd (true≢false (rw (ne-eqb (moved .number) 0 (λ z. number-positive q (sym (t .number-is) ∙ z))) at f));
       }
       go (gives c) k t = let front = t .moves c refl in record {
         stops = λ f. absurd (true≢false (sym (rw (t .number-is) at f)));
@@ -58,6 +60,7 @@ module _ (M : Machine) (at : ℕ) (e : Event) where
           event = c;
           reads = rw (front .bytes) (reads c k);
           inside = front .inside;
+          ends-are = t .ends-are c refl;
           within = h;
           text = rw (one-fewer h, add-one) (after-given M at e _ c k);
         };

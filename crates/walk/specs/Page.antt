@@ -7,6 +7,8 @@ use lib.ListN.{length, take}
 use Rattle.records.specs.Syntax.{Event}
 use Rattle.records.specs.Gate.{tree, read-event}
 use Rattle.records.specs.Patched.{Put}
+use Rattle.records.specs.Places.{part-ends}
+use Rattle.records.specs.declared.places.PartEnds.{PartEnds}
 use Rattle.stepper.specs.Machine.{Machine}
 use Rattle.stepper.specs.Stepped.{Passed}
 use Rattle.walk.specs.Line.{stop-bytes}
@@ -30,24 +32,26 @@ pub record Walking (M : Machine) (first : ℕ) (start : Event) (lines here : Lis
   pub within : step ≤ step-limit
   pub text : text-from M first start ≡ lines ++ text-from M step event
 
--- the event e leads on to the one whose record has the first `len` bytes of `here`
-pub record Onward (M : Machine) (step : ℕ) (e : Event) (here : List ℕ) (len : ℕ) : Type 0 where
+-- the event e leads on to the one whose record has the first `len` bytes of `here`, and whose parts have these ends
+pub record Onward (M : Machine) (step : ℕ) (e : Event) (here : List ℕ) (len : ℕ) (ends : PartEnds) : Type 0 where
   pub event : Event
   pub reads : read-event (take len here) ≡ tree event
   pub inside : len ≤ length here
+  pub ends-are : ends ≡ part-ends event
   pub within : step < step-limit
   pub text : rest-of-text M step e ≡ text-from M (step + 1) event
 
 -- after the line of the event e comes the stop line, or the next event
 pub record Advanced (M : Machine) (step : ℕ) (e : Event) (next : Next) (here : List ℕ) : Type 0 where
   pub stops : next .stopped ≡ true → rest-of-text M step e ≡ stop-bytes (next .number)
-  pub goes : next .stopped ≡ false → Onward M step e here (next .length)
+  pub goes : next .stopped ≡ false → Onward M step e here (next .length) (next .ends)
 
 -- a page that is being filled; a line has 68 bytes at most
-pub record Filling (M : Machine) (first : ℕ) (start : Event) (before page : List ℕ) (used : ℕ) (here : List ℕ) (len step : ℕ) : Type 0 where
+pub record Filling (M : Machine) (first : ℕ) (start : Event) (before page : List ℕ) (used : ℕ) (here : List ℕ) (len : ℕ) (ends : PartEnds) (step : ℕ) : Type 0 where
   pub lines : List ℕ
   pub put : Put before 0 lines page used
   pub walking : Walking M first start lines here len step
+  pub ends-are : ends ≡ part-ends (walking .event)
   pub small : used + 68 * first ≤ 68 * step
 
 -- a page that is filled has the whole text, or the walk goes on from a later step

@@ -9,7 +9,10 @@ use Rattle.records.specs.Syntax.{Event}
 use Rattle.records.specs.Gate.{Accepted, tree, read-event}
 use Rattle.records.specs.Patched.{Put, put-none, put-then}
 use Rattle.stepper.specs.Machine.{Machine}
+use Rattle.records.specs.declared.places.PartEnds.{PartEnds}
 use Rattle.stepper.specs.Stepped.{Passed}
+use Rattle.stepper.specs.View.{EndsOf}
+use Rattle.stepper.specs.ViewLaws.{ends-known}
 use Rattle.walk.specs.Line.{line-bytes}
 use Rattle.walk.specs.Walked.{step-limit, rest-of-text, text-from}
 use Rattle.walk.specs.Page.{Walking, Onward, Filling, Filled}
@@ -32,11 +35,15 @@ module _ (M : Machine) (first : ℕ) (start : Event) where
       → Walking M first start (a ++ b) there n at
   walking-on {a} {b} w v = record { event = v .event; reads = v .reads; inside = v .inside; within = v .within; text = w .text ∙ rw (v .text, append-assoc) refl }
 
-  pub filling-start : {here page : List ℕ} (len : ℕ) → read-event (take len here) ≡ tree start → len ≤ length here → first ≤ step-limit
-      → Filling M first start page page 0 here len first
-  filling-start len e h k = record { lines = []; put = put-none; walking = walking-start len e h k; small = omega arith }
+  pub filling-start : {here page : List ℕ} {ends : PartEnds} (len : ℕ) → read-event (take len here) ≡ tree start → EndsOf (take len here) ends
+      → len ≤ length here → first ≤ step-limit → Filling M first start page page 0 here len ends first
+  filling-start len e i h k = record { lines = []; put = put-none; walking = walking-start len e h k; ends-are = i start e; small = omega arith }
 
-  module _ {before page : List ℕ} {used : ℕ} {here : List ℕ} {len step : ℕ} (f : Filling M first start before page used here len step) where
+  module _ {before page : List ℕ} {used : ℕ} {here : List ℕ} {len : ℕ} {ends : PartEnds} {step : ℕ} (f : Filling M first start before page used here len ends step) where
+    -- the ends of the present event
+    pub filling-ends : EndsOf (take len here) ends
+    filling-ends = ends-known (take len here) (f .walking .reads) (f .ends-are)
+
     abbrev present : Event
     present = f .walking .event
 
@@ -45,11 +52,13 @@ module _ (M : Machine) (first : ℕ) (start : Event) where
       with-line : text-from M first start ≡ (f .lines ++ line-bytes step present) ++ rest-of-text M step present
       with-line = f .walking .text ∙ sym (append-assoc (f .lines) (line-bytes step present) (rest-of-text M step present))
 
-      pub filling-line : {here′ : List ℕ} {len′ : ℕ} → used′ ≤ used + 68 → Onward M step present here′ len′ → Filling M first start before page′ used′ here′ len′ (step + 1)
+      pub filling-line : {here′ : List ℕ} {len′ : ℕ} {ends′ : PartEnds} → used′ ≤ used + 68 → Onward M step present here′ len′ ends′
+          → Filling M first start before page′ used′ here′ len′ ends′ (step + 1)
       filling-line h o = record {
         lines = f .lines ++ line-bytes step present;
         put = put-then (f .put) line;
         walking = record { event = o .event; reads = o .reads; inside = o .inside; within = omega (arith, o .within); text = with-line ∙ rw (o .text) refl };
+        ends-are = o .ends-are;
         small = omega (arith, f .small);
       }
 

@@ -1,5 +1,6 @@
 // The text of a walk: numbers in decimal, the line of an event, the stop line. Each writer puts its bytes at a place of an output.
-use records::places::event_places;
+use records::places::PartEnds;
+use records::places::places_by;
 use records::put::put_byte;
 use records::put::put_part;
 ghost use mathlib.Core.Path.{_≡_};
@@ -10,6 +11,7 @@ ghost use Rattle.records.specs.Syntax.{Port, Event};
 ghost use Rattle.records.specs.Encode.{port-byte};
 ghost use Rattle.records.specs.Gate.{Accepted, tree, read-event};
 ghost use Rattle.records.specs.Patched.{Put};
+ghost use Rattle.stepper.specs.View.{EndsOf};
 ghost use Rattle.walk.specs.Line.{decimal, field, line-feed, port-word, line-bytes, stop-bytes};
 
 // A number in decimal; one of 64 bits has 20 digits at most.
@@ -58,14 +60,15 @@ fn put_counts(out: &mut [u8], at: usize, ancestors: usize, bets: usize) -> usize
     put_byte(out, end_at, b'\n')
 }
 
-// The line of an accepted event.
-pub fn put_line(out: &mut [u8], at: usize, step: usize, event: &[u8]) -> usize
+// The line of an accepted event, by the ends of its parts.
+pub fn put_line(out: &mut [u8], at: usize, step: usize, event: &[u8], ends: PartEnds) -> usize
     requires { ⌜ Accepted (read-event (now event)) ⌝ }
+    requires { ⌜ EndsOf (now event) ends ⌝ }
     requires { ⌜ at + 68 ≤ length (now out) ⌝ }
     ensures put { λ r. ⌜ ((e : Event) → read-event (now (event .entry)) ≡ tree e → Put (now (out .entry)) at (line-bytes step e) (now (out .exit)) r) ⌝ }
     ensures within { λ r. ⌜ r ≤ at + 68 ⌝ }
 {
-    let p = event_places(event);
+    let p = places_by(event, ends);
     let blank_at = put_number(out, at, step);
     let port_at = put_byte(out, blank_at, b' ');
     let counts_at = put_port(out, port_at, p.port);

@@ -4,8 +4,8 @@ use borrow.Author.Needs.{needs}
 use Rattle.walk.proofs.line.put_line.Statement.{statement}
 use Rattle.walk.proofs.line.put_line.Tie as tie
 
-event-places-requires : tie.Need-event-places-requires
-event-places-requires c κs = search needs
+places-by-requires : tie.Need-places-by-requires
+places-by-requires c κs = search needs
 
 put-number-requires : tie.Need-put-number-requires
 put-number-requires c κs = search needs
@@ -29,7 +29,7 @@ returns c =
     let space = port .before .before .before .before in
     let number = space .before .before .before .before in
     let places = number .before .before in (
-      λ e q. put-fields _ e (places .event-places .ensures e q) (number .put-number .ensures .0) (space .put-byte .ensures) (port .put-port .ensures .0) (counts .put-counts .ensures .0),
+      λ e q. put-fields _ e (places .places-by .ensures e q) (number .put-number .ensures .0) (space .put-byte .ensures) (port .put-port .ensures .0) (counts .put-counts .ensures .0),
       omega (arith, counts .put-counts .ensures .1, port .put-port .ensures .1, space .put-byte .ensures .place, number .put-number .ensures .1),
     )
 
@@ -37,7 +37,7 @@ pub put-line-spec : {M : Type 1} → statement M
 put-line-spec =
     tie.close
     (tie.spec
-    event-places-requires
+    places-by-requires
     put-number-requires
     put-byte-requires
     put-port-requires

@@ -15,15 +15,15 @@ use Rattle.walk.proofs.page.fill_page.Statement.{statement}
 use Rattle.walk.proofs.page.fill_page.Tie as tie
 
 abbrev Inv-loop : tie.InvT-loop
-Inv-loop program here₀ start there₀ first page₀ used₀ len₀ step₀ here there page used len step =
+Inv-loop program here₀ start there₀ first page₀ used₀ len₀ ends₀ step₀ here there page used len ends step =
     (length here ≡ length here₀) × ((length there ≡ length there₀) × ((length page ≡ length page₀) × ((used ≤ length page) × ((len ≤ length here) × ((step ≤ 100000)
-    × ((w : Passed program (take start here₀)) → Filling (machine layers (w .definitions)) first (w .event) page₀ page used here len step))))))
+    × ((w : Passed program (take start here₀)) → Filling (machine layers (w .definitions)) first (w .event) page₀ page used here len ends step))))))
 
 abbrev μ-loop : tie.MeasureT-loop
-μ-loop program here₀ start there₀ first page₀ used₀ len₀ step₀ here there page used len step = 100001 - step
+μ-loop program here₀ start there₀ first page₀ used₀ len₀ ends₀ step₀ here there page used len ends step = 100001 - step
 
 loop-holds : tie.Need-loop-holds Inv-loop μ-loop
-loop-holds c = (search needs, (search needs, (search needs, (search needs, (search needs, (search needs, λ w. filling-start _ _ _ _ (w .reads) (omega arith) (omega arith)))))))
+loop-holds c = (search needs, (search needs, (search needs, (search needs, (search needs, (search needs, λ w. filling-start _ _ _ _ (w .reads) ? (omega arith) (omega arith)))))))
 
 sub-loop : tie.Need-sub-loop Inv-loop μ-loop
 sub-loop c = search needs

@@ -96,6 +96,10 @@ body('9 before the output', 9, [definition(5, 1, 1, atom(6, V0, V0, V0, V0, V0))
 body('8,189 terms within each other', atom(6, chain(8188, A)), [definition(5, 1, 0, atom(6, V0))], atom(5, chain(8188, A)), size=32760)
 body('10,020 terms in lists within each other', atom(6, row([V0] * 10020)), [definition(5, 1, 0, atom(6, V0))], atom(5, row([V0] * 10020)), size=32736)
 body('8,171 terms within each other and a local', conj(atom(6, chain(8170, V0)), eq(V1, A)), [definition(5, 1, 1, conj(atom(6, V0), eq(V1, A)))], atom(5, chain(8170, V0)))
+LAST = [definition(5, 16, 0, atom(6, row([var(15)] * 10020)))]
+BEFORE = [row([V0] * 660)] * 15
+body('the last of 16 arguments 10,020 times, after 32,340 bytes of others', atom(6, row([V9] * 10020)), LAST, atom(5, *BEFORE, V9), size=32736)
+body('the last of 16 arguments 10,020 times, a byte longer than a variable', 'long', LAST, atom(5, *BEFORE, A))
 
 heading('other goals')
 for words, goal in ('true', TRUE), ('fail', FAIL), ('an equality', eq(V0, A)), ('a conjunction', conj(P, P)), ('a disjunction', disj(P, P)):

@@ -106,12 +106,12 @@ module _ {s : List ℕ} {f : Frame} (a : AtomAt s f) where
     unfolding body-with
     body-too-many out g e = rw (← new, sym test ∙ e) (too-many-answer out)
 
-    pub body-written : {program before after table : List ℕ} {at k : ℕ} (g : GoalAt program at) (q : arity (a .terms) ≡ k) → b ≡ false → {r : BodyAnswer}
+    pub body-answered : {program before after table : List ℕ} {at k : ℕ} (g : GoalAt program at) (q : arity (a .terms) ≡ k) → b ≡ false → {r : BodyAnswer}
         → ((x : ArgumentsAt s (record { at = f .goal + 4; arity = k })) → take (k + 1) table ≡ term-places (f .goal + 4) (x .terms))
         → ((h : GoalAt program at) (x : ArgumentTable s k table) → Answered before after (defined (numbered-goal (x .listed .terms) m (h .item))) r)
         → Answered before after (body-with l (g .item) (a .terms) first-new) r
     unfolding body-with numbered-goal atom-arguments
-    body-written g q e t h = rw (← new, sym test ∙ e) (h g (atom-table q t))
+    body-answered g q e t h = rw (← new, sym test ∙ e) (h g (atom-table q t))
 
   -- the body by what was found of a definition
   module _ {program : List ℕ} (d : ProgramAt program) {h : GoalHead} {p k : ℕ} (is : h ≡ goal-head-at s (f .goal)) (e : h ≡ Atom p k) where

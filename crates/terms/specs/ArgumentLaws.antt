@@ -68,7 +68,7 @@ module _ {s places : List ℕ} {k : ℕ} {table : List ℕ} {pos i : ℕ} (u : L
       go nil m p = let q : i ≡ k = omega arith in rw (add-one, take-suc-set table k pos room) (rw q at p)
       go (cons t ts) m p = absurd (omega arith)
 
--- from one place to the next it is as long as the term
+-- the first of the places, and how many they are
 first-place : (at : ℕ) (ts : Terms) → getD (term-places at ts) 0 0 ≡ at
 unfolding term-places
 first-place at nil = refl
@@ -79,6 +79,7 @@ unfolding term-places
 places-many at nil = refl
 places-many at (cons t ts) = omega (arith, places-many (at + length (term-bytes t)) ts)
 
+-- from one place to the next it is as long as the term, which stands there
 next-place : (at : ℕ) (ts : Terms) (m i : ℕ) → i < arity ts
     → getD (term-places at ts) (suc i) 0 ≡ getD (term-places at ts) i 0 + length (term-bytes (numbered ts m i))
 unfolding term-places
@@ -115,8 +116,8 @@ module _ {k : ℕ} {table : List ℕ} (t : TermTable k table) where
     where
       go : (ts : Terms) (i : ℕ) → arity ts ≤ i → numbered ts m i ≡ var (m + (i - arity ts))
       go nil i h = ap var (omega arith)
-      go (cons t ts) zero h = absurd (omega arith)
-      go (cons t ts) (suc i) h = go ts i (omega arith) ∙ ap var (omega arith)
+      go (cons x ts) zero h = absurd (omega arith)
+      go (cons x ts) (suc i) h = go ts i (omega arith) ∙ ap var (omega arith)
 
 -- an argument stands where the table says, and is what the range there cuts out
 module _ {s : List ℕ} {k : ℕ} {table : List ℕ} (a : ArgumentTable s k table) (m i : ℕ) (h : i < k) {r : Range} (is : r ≡ entry table i) where

@@ -19,8 +19,8 @@ use Rattle.terms.specs.Frames.{GoalAt}
 use Rattle.terms.specs.Ahead.{Ahead, ahead-start, ahead-variable, ahead-other, ahead-done, ahead-room, ahead-less-other}
 use Rattle.terms.specs.BodyBytes.{numbered-goal}
 
--- a measure on its way: so many bytes of the whole are behind the cursor, counted up to one more than the room
-pub record Measuring (θ : Substitution) (s whole : List ℕ) (room : ℕ) (c : Cursor) (n : ℕ) : Type 0 where
+-- a count on its way: so many bytes of the whole are behind the cursor, counted up to one more than the room
+pub record Counting (θ : Substitution) (s whole : List ℕ) (room : ℕ) (c : Cursor) (n : ℕ) : Type 0 where
   pub done : List ℕ
   pub long : n ≡ min (room + 1) (length done)
   pub ahead : Ahead θ s whole done c
@@ -37,8 +37,8 @@ module _ {s : List ℕ} {goal : ℕ} (g : GoalAt s goal) (ts : Terms) (m : ℕ) 
   unfolding numbered-goal
   start = ahead-start (numbered ts m) (g .item) (g .formed) (g .stands)
 
-  pub measuring-start : {room : ℕ} → Measuring (numbered ts m) s (goal-bytes (numbered-goal ts m (g .item))) room (record { pos = goal; terms = 0; goals = 1 }) 0
-  measuring-start = record { done = []; long = omega arith; ahead = start }
+  pub counting-start : {room : ℕ} → Counting (numbered ts m) s (goal-bytes (numbered-goal ts m (g .item))) room (record { pos = goal; terms = 0; goals = 1 }) 0
+  counting-start = record { done = []; long = omega arith; ahead = start }
 
   pub writing-start : {out : List ℕ} → Writing (numbered ts m) s (goal-bytes (numbered-goal ts m (g .item))) out out (record { pos = goal; terms = 0; goals = 1 }) 0
   writing-start = record { done = []; put = put-none; ahead = start }
@@ -52,26 +52,26 @@ module _ {θ : Substitution} {s whole done : List ℕ} {c : Cursor} (a : Ahead �
   unfolding size
   node-length = length-cut node-inside
 
-module _ {θ : Substitution} {s whole : List ℕ} {room : ℕ} {c : Cursor} {n : ℕ} (u : Measuring θ s whole room c n) where
-  measuring-more : {d : Cursor} {k to : ℕ} (x : List ℕ) → k ≡ length x → n ≤ room → to ≡ min (room + 1) (n + k) → Ahead θ s whole (u .done ++ x) d
-      → Measuring θ s whole room d to
-  measuring-more x e h q a = record { done = u .done ++ x; long = omega (arith, length-append (u .done) x, u .long); ahead = a }
+module _ {θ : Substitution} {s whole : List ℕ} {room : ℕ} {c : Cursor} {n : ℕ} (u : Counting θ s whole room c n) where
+  counting-more : {d : Cursor} {k to : ℕ} (x : List ℕ) → k ≡ length x → n ≤ room → to ≡ min (room + 1) (n + k) → Ahead θ s whole (u .done ++ x) d
+      → Counting θ s whole room d to
+  counting-more x e h q a = record { done = u .done ++ x; long = omega (arith, length-append (u .done) x, u .long); ahead = a }
 
-  -- what is measured is more than the room
-  pub measuring-full : room < n → n ≡ min (room + 1) (length whole)
-  measuring-full h = omega (arith, u .long, ahead-room (u .ahead))
+  -- what is counted is more than the room
+  pub counting-full : room < n → n ≡ min (room + 1) (length whole)
+  counting-full h = omega (arith, u .long, ahead-room (u .ahead))
 
   module _ (known : Known s) {r : Step} (is : r ≡ next-step s (c .pos) (c .terms) (c .goals)) (h : n ≤ room) where
-    pub measuring-variable : {v : ℕ} {d : Cursor} → r ≡ Variable v d → {k to : ℕ} → k ≡ length (term-bytes (θ v)) → to ≡ min (room + 1) (n + k)
-        → Measuring θ s whole room d to
-    measuring-variable {v} e p q = measuring-more (term-bytes (θ v)) p h q (ahead-variable (u .ahead) known is e)
+    pub counting-variable : {v : ℕ} {d : Cursor} → r ≡ Variable v d → {k to : ℕ} → k ≡ length (term-bytes (θ v)) → to ≡ min (room + 1) (n + k)
+        → Counting θ s whole room d to
+    counting-variable {v} e p q = counting-more (term-bytes (θ v)) p h q (ahead-variable (u .ahead) known is e)
 
-    pub measuring-other : {d : Cursor} → r ≡ Other d → {to : ℕ} → to ≡ min (room + 1) (n + (d .pos - c .pos)) → Measuring θ s whole room d to
-    measuring-other {d} e q =
-        measuring-more (cut s (record { from = c .pos; to = d .pos })) (sym (node-length (u .ahead) known is e)) h q (ahead-other (u .ahead) known is e)
+    pub counting-other : {d : Cursor} → r ≡ Other d → {to : ℕ} → to ≡ min (room + 1) (n + (d .pos - c .pos)) → Counting θ s whole room d to
+    counting-other {d} e q =
+        counting-more (cut s (record { from = c .pos; to = d .pos })) (sym (node-length (u .ahead) known is e)) h q (ahead-other (u .ahead) known is e)
 
-    pub measuring-done : r ≡ Done → n ≡ min (room + 1) (length whole)
-    measuring-done e = u .long ∙ ap (λ (x : List ℕ). min (room + 1) (length x)) (sym (ahead-done (u .ahead) known is e))
+    pub counting-done : r ≡ Done → n ≡ min (room + 1) (length whole)
+    counting-done e = u .long ∙ ap (λ (x : List ℕ). min (room + 1) (length x)) (sym (ahead-done (u .ahead) known is e))
 
 module _ {θ : Substitution} {s whole before after : List ℕ} {c : Cursor} {at : ℕ} (u : Writing θ s whole before after c at) where
   -- the next bytes have room where the whole has

@@ -37,6 +37,7 @@ module _ (M : Machine) (first : ℕ) (start : Event) where
 
   pub filling-start : {here page : List ℕ} {ends : PartEnds} (len : ℕ) → read-event (take len here) ≡ tree start → EndsOf (take len here) ends
       → len ≤ length here → first ≤ step-limit → Filling M first start page page 0 here len ends first
+  unfolding walking-start
   filling-start len e i h k = record { lines = []; put = put-none; walking = walking-start len e h k; ends-are = i start e; small = omega arith }
 
   module _ {before page : List ℕ} {used : ℕ} {here : List ℕ} {len : ℕ} {ends : PartEnds} {step : ℕ} (f : Filling M first start before page used here len ends step) where

@@ -53,11 +53,12 @@ fn advance(
         };
     }
     let moved = turn(program, here, len, ends, there, false);
+    let after = moved.ends;
     Next {
         stopped: moved.number != 0,
         number: moved.number,
         length: moved.length,
-        ends: moved.ends,
+        ends: after,
     }
 }
 

@@ -8,19 +8,19 @@ use Rattle.terms.specs.Body.{numbered}
 use Rattle.terms.specs.Frames.{GoalAt}
 use Rattle.terms.specs.BodyBytes.{numbered-goal}
 use Rattle.terms.specs.Ahead.{ahead-on, ahead-less, ahead-less-other}
-use Rattle.terms.specs.WritingLaws.{Measuring, measuring-start, measuring-variable, measuring-other, measuring-full, measuring-done}
+use Rattle.terms.specs.WritingLaws.{Counting, counting-start, counting-variable, counting-other, counting-full, counting-done}
 use borrow.Author.Needs.{needs}
 use Rattle.terms.proofs.body.body_length.Statement.{statement}
 use Rattle.terms.proofs.body.body_length.Tie as tie
 
 abbrev Inv-loop : tie.InvT-loop
-Inv-loop program goal table k room c₀ n₀ c n = ((g : GoalAt program goal) (t : TermTable k table) (m : ℕ) → Measuring (numbered (t .terms) m) program (goal-bytes (numbered-goal (t .terms) m (g .item))) room c n)
+Inv-loop program goal table k room c₀ n₀ c n = ((g : GoalAt program goal) (t : TermTable k table) (m : ℕ) → Counting (numbered (t .terms) m) program (goal-bytes (numbered-goal (t .terms) m (g .item))) room c n)
 
 abbrev μ-loop : tie.MeasureT-loop
 μ-loop program goal table k room c₀ n₀ c n = length program - c .pos
 
 loop-holds : tie.Need-loop-holds Inv-loop μ-loop
-loop-holds c = λ g t m. measuring-start g (t .terms) m
+loop-holds c = λ g t m. counting-start g (t .terms) m
 
 walk-step-requires : tie.Need-walk-step-requires Inv-loop μ-loop
 walk-step-requires c κs = ahead-on (c .before .loop .inv (c .before .before .before .before .pre .0) (c .before .before .before .before .pre .1 .0) 0 .ahead)
@@ -42,7 +42,7 @@ loop-less c =
 
 loop-again : tie.Need-loop-again Inv-loop μ-loop
 loop-again c = λ g t m.
-    measuring-variable (c .before .before .before .before .before .before .before .loop .inv g t m) (c .before .before .before .before .before .before .before .before .before .shared-slice-known .given) (c .before .before .before .before .before .walk-step .ensures) (c .before .before .before .before .before .before .loop-test .taken) (c .before .before .before .v .given .1)
+    counting-variable (c .before .before .before .before .before .before .before .loop .inv g t m) (c .before .before .before .before .before .before .before .before .before .shared-slice-known .given) (c .before .before .before .before .before .walk-step .ensures) (c .before .before .before .before .before .before .loop-test .taken) (c .before .before .before .v .given .1)
     (c .before .numbered-length .ensures t m) (c .added .ensures)
 
 enum-known-d : tie.Need-enum-known-d Inv-loop μ-loop
@@ -65,16 +65,16 @@ loop-less-2 c =
 
 loop-again-2 : tie.Need-loop-again-2 Inv-loop μ-loop
 loop-again-2 c = λ g t m.
-    measuring-other (c .before .before .before .before .before .before .before .before .loop .inv g t m) (c .before .before .before .before .before .before .before .before .before .before .shared-slice-known .given) (c .before .before .before .before .before .before .walk-step .ensures) (c .before .before .before .before .before .before .before .loop-test .taken) (c .before .before .before .before .d .given .1) (c .added2 .ensures)
+    counting-other (c .before .before .before .before .before .before .before .before .loop .inv g t m) (c .before .before .before .before .before .before .before .before .before .before .shared-slice-known .given) (c .before .before .before .before .before .before .walk-step .ensures) (c .before .before .before .before .before .before .before .loop-test .taken) (c .before .before .before .before .d .given .1) (c .added2 .ensures)
 
 enum-told : tie.Need-enum-told Inv-loop μ-loop
 enum-told c = search needs
 
 returns : tie.Need-returns Inv-loop μ-loop
-returns c = λ g t m. measuring-done (c .before .before .before .before .loop .inv g t m) (c .before .before .before .before .before .before .shared-slice-known .given) (c .before .before .walk-step .ensures) (c .before .before .before .loop-test .taken) (c .enum-told .given .1)
+returns c = λ g t m. counting-done (c .before .before .before .before .loop .inv g t m) (c .before .before .before .before .before .before .shared-slice-known .given) (c .before .before .walk-step .ensures) (c .before .before .before .loop-test .taken) (c .enum-told .given .1)
 
 returns-2 : tie.Need-returns-2 Inv-loop μ-loop
-returns-2 c = λ g t m. measuring-full (c .before .loop .inv g t m) (c .loop-test .left)
+returns-2 c = λ g t m. counting-full (c .before .loop .inv g t m) (c .loop-test .left)
 
 pub body-length-spec : {M : Type 1} → statement M
 body-length-spec =

@@ -1,6 +1,6 @@
 -- `body_with` puts question 9, makes the table of the arguments, and then the body.
 use native.Mathlib.Omega.{arith}
-use Rattle.terms.specs.AnswerLaws.{atom-arguments, atom-few, atom-table, atom-room, first-new-small, body-too-many, body-written}
+use Rattle.terms.specs.AnswerLaws.{atom-arguments, atom-few, atom-table, atom-room, first-new-small, body-too-many, body-answered}
 use borrow.Author.Needs.{needs}
 use Rattle.terms.proofs.body.body_with.Statement.{statement}
 use Rattle.terms.proofs.body.body_with.Tie as tie
@@ -40,7 +40,7 @@ same-length c = search needs
 
 returns-2 : tie.Need-returns-2
 returns-2 c = λ g a q.
-    body-written a (c .before .before .before .before .before .before .before .before .before .before .before .next-variable .ensures (a .frame)) _ (c .before .before .before .before .before .before .before .before .before .before .locals-beyond .ensures) g q (c .before .before .before .before .before .before .before .before .before .if1 .left)
+    body-answered a (c .before .before .before .before .before .before .before .before .before .before .before .next-variable .ensures (a .frame)) _ (c .before .before .before .before .before .before .before .before .before .before .locals-beyond .ensures) g q (c .before .before .before .before .before .before .before .before .before .if1 .left)
     (c .before .before .before .before .before .before .list-arguments .ensures) (c .before .before .numbered-body .ensures)
 
 pub body-with-spec : {M : Type 1} → statement M

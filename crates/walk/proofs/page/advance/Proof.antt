@@ -8,7 +8,10 @@ returns : tie.Need-returns
 returns c = λ w. advanced-limit _ _ _ (c .if1 .taken)
 
 turn-requires : tie.Need-turn-requires
-turn-requires c κs = search needs
+turn-requires c κs =
+    let pre = c .before .before .before .before .before .before .pre in
+    let ready = pre .0 in
+    (ready .passed, (pre .1 .0, (ready .inside, (ready .room, ready .next-room))))
 
 same-length : tie.Need-same-length
 same-length c = search needs
@@ -18,7 +21,7 @@ same-length-2 c = search needs
 
 returns-2 : tie.Need-returns-2
 returns-2 c =
-    let turned = c .before .before .before .before .before in
+    let turned = c .before .before .before .before .before .before in
     let test = turned .before .before .before in
     let known = test .before .before in
     let start = known .before .before in

@@ -10,7 +10,7 @@ use Rattle.stepper.specs.Services.{machine}
 use Rattle.stepper.specs.Desk.{layers}
 use Rattle.stepper.specs.Stepped.{Passed}
 use Rattle.walk.specs.Page.{Filling}
-use Rattle.walk.specs.PageLaws.{passed-at, accepted-event, filling-start, filling-line, filled-done, filled-full}
+use Rattle.walk.specs.PageLaws.{passed-at, accepted-event, filling-start, filling-ends, filling-line, filled-done, filled-full}
 use Rattle.walk.proofs.page.fill_page.Statement.{statement}
 use Rattle.walk.proofs.page.fill_page.Tie as tie
 
@@ -22,8 +22,17 @@ Inv-loop program here₀ start there₀ first page₀ used₀ len₀ ends₀ ste
 abbrev μ-loop : tie.MeasureT-loop
 μ-loop program here₀ start there₀ first page₀ used₀ len₀ ends₀ step₀ here there page used len ends step = 100001 - step
 
+slice-reshare-prefix-part-ends : tie.Need-slice-reshare-prefix-part-ends Inv-loop μ-loop
+slice-reshare-prefix-part-ends c = search needs
+
+slice-aggregate-part-ends : tie.Need-slice-aggregate-part-ends Inv-loop μ-loop
+slice-aggregate-part-ends c = sym (length-take-le _ _ (c .before .before .before .before .before .pre .0 .inside))
+
+part-ends-requires : tie.Need-part-ends-requires Inv-loop μ-loop
+part-ends-requires c κs = let w = c .before .before .before .before .before .pre .0 .passed in accepted-event _ (w .event) (w .reads)
+
 loop-holds : tie.Need-loop-holds Inv-loop μ-loop
-loop-holds c = (search needs, (search needs, (search needs, (search needs, (search needs, (search needs, λ w. filling-start _ _ _ _ (w .reads) ? (omega arith) (omega arith)))))))
+loop-holds c = (search needs, (search needs, (search needs, (search needs, (search needs, (search needs, λ w. filling-start _ _ _ _ (w .reads) (c .part-ends .ensures) (omega arith) (omega arith)))))))
 
 sub-loop : tie.Need-sub-loop Inv-loop μ-loop
 sub-loop c = search needs
@@ -37,15 +46,17 @@ slice-aggregate-put-line c = sym (length-take-le _ _ (c .before .before .before 
 put-line-requires : tie.Need-put-line-requires Inv-loop μ-loop
 put-line-requires c κs =
     let at-loop = c .before .before .before in
-    let now = at-loop .loop .inv .1 .1 .1 .1 .1 .1 (at-loop .before .before .before .before .before .pre .0 .passed) .walking in
-    (accepted-event _ (now .event) (now .reads), search needs)
+    let f = at-loop .loop .inv .1 .1 .1 .1 .1 .1 (at-loop .before .before .before .before .before .before .before .pre .0 .passed) in
+    (accepted-event _ (f .walking .event) (f .walking .reads), (filling-ends _ _ _ f, search needs))
 
 advance-requires : tie.Need-advance-requires Inv-loop μ-loop
 advance-requires c κs =
     let at-loop = c .before .before .before .before .before .before .before .before in
-    let w = at-loop .before .before .before .before .before .pre .0 .passed in
-    let now = at-loop .loop .inv .1 .1 .1 .1 .1 .1 w .walking in
-    (record { passed = passed-at w (now .event) (now .reads); inside = search needs; room = search needs; next-room = search needs }, search needs)
+    let w = at-loop .before .before .before .before .before .before .before .pre .0 .passed in
+    let f = at-loop .loop .inv .1 .1 .1 .1 .1 .1 w in (
+      record { passed = passed-at w (f .walking .event) (f .walking .reads); inside = search needs; room = search needs; next-room = search needs },
+      (filling-ends _ _ _ f, search needs),
+    )
 
 put-stop-requires : tie.Need-put-stop-requires Inv-loop μ-loop
 put-stop-requires c κs = search needs
@@ -78,13 +89,13 @@ loop-less c = search needs
 
 loop-again : tie.Need-loop-again Inv-loop μ-loop
 loop-again c =
-    let step = c .before .before .before .before .before in
+    let step = c .before .before .before .before .before .before in
     let line = step .before .before .before .before .before in
     let at-loop = line .before .before .before .before in
-    let w = at-loop .before .before .before .before .before .pre .0 .passed in
+    let w = at-loop .before .before .before .before .before .before .before .pre .0 .passed in
     let now = at-loop .loop .inv .1 .1 .1 .1 .1 .1 w .walking in
     let written = line .put-line .ensures .0 (now .event) (now .reads) in
-    let onward = step .advance .ensures (passed-at w (now .event) (now .reads)) .goes (c .if1 .left) in (
+    let onward = step .advance .ensures (passed-at w (now .event) (now .reads)) .goes (c .before .if1 .left) in (
       search needs,
       (
         search needs,
@@ -99,7 +110,7 @@ loop-again c =
                 λ w.
                     let f = at-loop .loop .inv .1 .1 .1 .1 .1 .1 w in
                     let next = step .advance .ensures (passed-at w (f .walking .event) (f .walking .reads)) in
-                    filling-line _ _ _ f (line .put-line .ensures .0 (f .walking .event) (f .walking .reads)) (line .put-line .ensures .1) (next .goes (c .if1 .left)),
+                    filling-line _ _ _ f (line .put-line .ensures .0 (f .walking .event) (f .walking .reads)) (line .put-line .ensures .1) (next .goes (c .before .if1 .left)),
               ),
             ),
           ),
@@ -125,6 +136,9 @@ fill-page-spec =
     (tie.spec
     Inv-loop
     μ-loop
+    slice-reshare-prefix-part-ends
+    slice-aggregate-part-ends
+    part-ends-requires
     loop-holds
     sub-loop
     slice-reshare-prefix-put-line

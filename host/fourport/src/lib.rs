@@ -30,8 +30,8 @@
 //! ```
 //!
 //! # Stack
-//! The desk recurses on nested terms. [`STACK`] bytes are enough for every input; the main thread of a Linux program usually has 8 MiB, but Rust's
-//! other threads have 2 MiB unless asked for more.
+//! The desk recurses on nested terms. The deepest calls need 1.6 MiB of native stack; a thread of [`STACK`] bytes has enough. The main thread of a
+//! Linux program usually has 8 MiB, Rust's other threads 2 MiB unless asked for more. A call that runs out of stack ends the process.
 //!
 //! # Panics
 //! Nothing in this crate panics, on any input. (An allocator that fails ends the process, as everywhere in Rust.)

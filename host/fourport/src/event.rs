@@ -19,7 +19,8 @@ pub enum Port {
     Redo,
 }
 
-/// An event record that passed questions 11 to 14. Whether a walk reaches it is not asked.
+/// An event record that passed questions 11 to 14. Whether a walk reaches it is not asked. Equal events have equal bytes, so `==` is document 01's
+/// equality: the same port, goal, ancestors and bets.
 ///
 /// ```
 /// use fourport::{Event, Port};

@@ -84,14 +84,19 @@ fn heads(checker: &mut Checker, dice: &mut Dice) -> Checked<()> {
     Ok(())
 }
 
-/// A deep term in a bet, and many bets that grow one.
+/// A deep term in a bet; many bets that grow a term, or that rename a variable at the bottom of a deep one to and fro.
 fn bets(checker: &mut Checker, dice: &mut Dice) -> Checked<()> {
-    let bets: Vec<Vec<u8>> = if dice.one_in(2) {
-        vec![layout::unifier(&[(0, nested(depth(dice, 8_100), &variable(1)))])]
-    } else {
-        (0..depth(dice, 2_046) as u16).rev().map(|i| layout::unifier(&[(i, symbol(1, &[variable(i + 1)]))])).collect()
+    let renaming = |i: u16| layout::unifier(&[(1 + i % 2, variable(2 - i % 2))]);
+    let bets: Vec<Vec<u8>> = match dice.below(3) {
+        0 => vec![layout::unifier(&[(0, nested(depth(dice, 8_100), &variable(1)))])],
+        1 => (0..depth(dice, 2_046) as u16).rev().map(|i| layout::unifier(&[(i, symbol(1, &[variable(i + 1)]))])).collect(),
+        _ => {
+            let count = if dice.one_in(8) { 3_000 } else { dice.below(400) } as u16;
+            let deep = layout::unifier(&[(0, nested(depth(dice, 2_047), &variable(1)))]);
+            (0..count).rev().map(renaming).chain([deep]).collect()
+        }
     };
-    let goal = equality(&variable(0), &variable(3_000));
+    let goal = equality(&variable(0), &variable(*dice.pick(&[0, 3_000])));
     let event = layout::event(dice.between(1, 4) as u8, &goal, &[], &bets);
     everywhere(checker, dice, &layout::program(&[]), &event)
 }

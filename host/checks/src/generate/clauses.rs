@@ -55,10 +55,19 @@ pub fn clauses(dice: &mut Dice) -> Vec<u8> {
         }
         // many clauses of one predicate
         1 => (0..dice.between(1, 6_000)).map(|_| layout::clause(3, 0, &[], &layout::TRUE)).collect(),
-        // locals near 255 in one predicate or two
+        // locals near 255 in one predicate or two; sometimes the program is near the longest too
         2..=5 => {
             let predicates = dice.between(1, 2);
-            (0..dice.between(3, 5 * predicates)).map(|_| fact_of(dice.below(predicates) as u16, dice.between(60, 64) as u8)).collect()
+            let mut facts: Vec<Vec<u8>> =
+                (0..dice.between(3, 5 * predicates)).map(|_| fact_of(dice.below(predicates) as u16, dice.between(60, 64) as u8)).collect();
+            if dice.one_in(2) {
+                let left = 32_765 - layout::listed(&facts).len() - dice.below(900);
+                facts.insert(
+                    dice.below(facts.len()),
+                    layout::clause(dice.below(4) as u16, 0, &[layout::nested(left / 4 - 3, &layout::symbol(2, &[]))], &layout::TRUE),
+                );
+            }
+            facts
         }
         // a program near the longest: a fact with constants takes 9 bytes for each of them, and two
         6 | 7 => {

@@ -48,8 +48,9 @@ pub fn breaking(dice: &mut Dice) -> Vec<u8> {
     let mut all = definitions(dice);
     let at = dice.below(all.len() + 1);
     let goal = |variable: u16| layout::equality(&layout::variable(0), &layout::variable(variable));
-    match dice.below(4) {
+    match dice.below(5) {
         0 if all.len() > 1 => all.reverse(),
+        4 => all.extend([2, 1].map(|arity| layout::definition(60_000, arity, 0, &goal(0)))),
         1 if !all.is_empty() => all.insert(at, all[at.min(all.len() - 1)].clone()),
         2 => all.push(layout::definition(60_000, 2, 3, &goal(5))),
         _ => all.push(layout::definition(60_000, 0, 0, &goal(*dice.pick(&[0, 1, 65_535])))),

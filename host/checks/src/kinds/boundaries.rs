@@ -23,6 +23,7 @@ pub fn round(checker: &mut Checker, _: &mut Dice) -> Checked<()> {
     short_slices(checker)?;
     ends_of_walks(checker)?;
     doublings(checker)?;
+    orders(checker)?;
     counts(checker)
 }
 
@@ -156,9 +157,10 @@ fn locals(checker: &mut Checker) -> Checked<()> {
     Ok(())
 }
 
-/// Locals of 255 and 256 in the canonical form, also where the program is too long as well.
+/// Locals of 255 and 256 in the canonical form, also where the program is too long as well: then 9 comes before 10.
 fn canonical_locals(checker: &mut Checker) -> Checked<()> {
-    let long = clause(1, 0, &[nested(8_000, &symbol(2, &[]))], &TRUE);
+    // with the facts below the clause record still fits, and its program does not
+    let long = clause(1, 0, &[nested(7_927, &symbol(2, &[]))], &TRUE);
     for last in [62, 63, 64] {
         let facts: Vec<Vec<u8>> = [64, 64, 64, last].map(|variables| fact_of(3, variables)).to_vec();
         let spread: Vec<Vec<u8>> = [64, 64, 64, last].iter().enumerate().map(|(i, &variables)| fact_of(i as u16 % 2, variables)).collect();
@@ -274,6 +276,23 @@ fn doublings(checker: &mut Checker) -> Checked<()> {
             checker.back(&none(), &event(2, &goal, &[], &[unifier(&[])]), ROOM)?;
             if next.number == 0 {
                 checker.back(&none(), &next.bytes, ROOM)?;
+            }
+        }
+    }
+    Ok(())
+}
+
+/// Steps that two questions refuse: 8 and 9 come before 10, and the first 7 before 8.
+fn orders(checker: &mut Checker) -> Checked<()> {
+    let definitions = program(&[definition(5, 1, 1, &equality(&variable(0), &variable(1)))]);
+    for goal in [equality(&variable(0), &term_of(8_193)), equality(&term_of(8_192), &variable(1)), atom(5, &[variable(65_535)])] {
+        for port in 1..=4 {
+            let shortest = event(port, &goal, &[], &[or(1)]).len();
+            for length in [shortest + 9, 32_764, 32_768] {
+                let event = event(port, &goal, &[], &[or(1), bet_of(length - shortest)]);
+                checker.forward(&definitions, &event, ROOM)?;
+                checker.back(&definitions, &event, ROOM)?;
+                checker.run(&definitions, &event, 2, 0, ROOM)?;
             }
         }
     }

@@ -11,7 +11,7 @@ pub fn unifier(dice: &mut Dice, names: Names) -> Vec<u8> {
     let split = dice.below(count + 1) as u16;
     // the names below the split are bound and those above are free, or the other way round
     let (bound, free) = if dice.one_in(2) {
-        ((0..split).collect::<Vec<u16>>(), Names { base: names.base + split, variables: count as u16 - split, ..names })
+        ((0..split).collect::<Vec<u16>>(), Names { base: names.base.saturating_add(split), variables: count as u16 - split, ..names })
     } else {
         ((split..count as u16).collect(), Names { variables: split, ..names })
     };

@@ -1,0 +1,63 @@
+//! The least native stack with which the deepest cases of each service pass: each is tried in a process of its own, on a thread of a given size, since
+//! one that does not fit ends the process.
+
+use checks::generate::layout::{clause, equality, event, listed, nested, program, record, symbol, unifier, variable, TRUE};
+use fourport::raw;
+use std::process::{Command, ExitCode, Stdio};
+use std::{env, thread};
+
+/// A call with an output of 32,768 bytes.
+type Call = fn(&mut [u8]) -> u32;
+
+const CASES: [(&str, Call); 9] = [
+    ("nothing", |_| 0),
+    ("canonical", |out| raw::canonical(&record(&listed(&[clause(5, 1, &[nested(8_186, &variable(0))], &TRUE)])), out)),
+    ("first", |out| raw::first(&record(&equality(&variable(0), &nested(8_188, &symbol(2, &[])))), out)),
+    ("forward", |out| raw::forward(&program(&[]), &event(1, &doubly_nested(), &[], &[]), out)),
+    ("back", |out| raw::back(&program(&[]), &event(3, &doubly_nested(), &[], &[]), out)),
+    ("run", |out| raw::run(&program(&[]), &event(3, &doubly_nested(), &[], &[]), 1, 1, out, &mut 0)),
+    ("value", |out| raw::value(&event(1, &TRUE, &[], &[unifier(&[(0, nested(8_184, &symbol(2, &[])))])]), 0, out, &mut 0)),
+    ("lookup", |_| raw::lookup(&program(&[]), &event(1, &equality(&variable(0), &nested(8_187, &symbol(2, &[]))), &[], &[]), &mut 0) as u32),
+    ("count", |_| raw::count(&mut Default::default(), &event(1, &equality(&variable(0), &nested(8_187, &symbol(2, &[]))), &[], &[]))),
+];
+
+/// g(V0, f(..f(V2)..)) = g(f(..f(V1)..), V1), both values as long as question 8 lets pass: V0 becomes a term of 4,090 levels.
+fn doubly_nested() -> Vec<u8> {
+    equality(&symbol(5, &[variable(0), nested(2_045, &variable(2))]), &symbol(5, &[nested(2_045, &variable(1)), variable(1)]))
+}
+
+/// Does the case pass on a thread of that many KiB?
+fn passes(case: usize, kib: usize) -> bool {
+    let Ok(program) = env::current_exe() else { return false };
+    let child = Command::new(program).args([case.to_string(), kib.to_string()]).stderr(Stdio::null()).status();
+    child.is_ok_and(|status| status.success())
+}
+
+fn measured() {
+    for (case, (name, _)) in CASES.iter().enumerate() {
+        let (mut less, mut enough) = (0, 8_192);
+        while enough - less > 4 {
+            let kib = (less + enough) / 2;
+            if passes(case, kib) {
+                enough = kib;
+            } else {
+                less = kib;
+            }
+        }
+        println!("{name:<10} {enough:>5} KiB");
+    }
+}
+
+fn main() -> ExitCode {
+    let numbers: Vec<usize> = env::args().skip(1).filter_map(|argument| argument.parse().ok()).collect();
+    let &[case, kib] = &numbers[..] else {
+        measured();
+        return ExitCode::SUCCESS;
+    };
+    let call = CASES[case].1;
+    let thread = thread::Builder::new().stack_size(kib << 10).spawn(move || call(&mut vec![0; 32_768]));
+    match thread.map(thread::JoinHandle::join) {
+        Ok(Ok(_)) => ExitCode::SUCCESS,
+        _ => ExitCode::FAILURE,
+    }
+}

@@ -1,0 +1,228 @@
+//! One case put to the desk and to the twin; number, record and every other byte of the output are compared.
+
+use crate::generate::Dice;
+use crate::rules::rule;
+use crate::table::{Met, Table};
+use fourport::{raw, Counts};
+use std::fmt;
+use std::time::{Duration, Instant};
+use twin::rules::Direction;
+use twin::services;
+
+/// Bytes before and after the lent output that nobody may touch.
+const MARGIN: usize = 16;
+/// The longest output that is lent.
+const LONGEST: usize = 70_000;
+
+#[derive(Clone, Copy, Debug, PartialEq, Eq)]
+pub enum Service {
+    Canonical,
+    First,
+    Forward,
+    Back,
+    Run,
+    Value,
+    Lookup,
+    Count,
+}
+
+impl Service {
+    pub const ALL: [Service; 8] =
+        [Service::Canonical, Service::First, Service::Forward, Service::Back, Service::Run, Service::Value, Service::Lookup, Service::Count];
+
+    /// The numbers that the service can give. A query has no question 4, so the first event never gives 14.
+    pub fn numbers(self) -> &'static [usize] {
+        match self {
+            Service::Canonical => &[0, 1, 2, 3, 4, 5, 9, 10],
+            Service::First => &[0, 5, 10, 11, 12, 13],
+            Service::Forward | Service::Back | Service::Run => &[0, 1, 2, 3, 4, 5, 6, 7, 8, 9, 10, 11, 12, 13, 14],
+            Service::Value => &[0, 5, 8, 11, 12, 13, 14],
+            Service::Lookup => &[0],
+            Service::Count => &[0, 11, 12, 13, 14],
+        }
+    }
+}
+
+/// An answer: the number, the numbers beside it (steps taken, bytes written, a place, counts), and what is written.
+#[derive(Clone, Debug, PartialEq, Eq)]
+pub struct Answer {
+    pub number: u32,
+    pub beside: Vec<u64>,
+    pub bytes: Vec<u8>,
+}
+
+/// The first case that the desk and the twin answer differently, or that breaks a law.
+pub struct Difference(pub String);
+
+pub type Checked<T> = Result<T, Difference>;
+
+impl fmt::Display for Difference {
+    fn fmt(&self, f: &mut fmt::Formatter<'_>) -> fmt::Result {
+        f.write_str(&self.0)
+    }
+}
+
+pub fn hexa(bytes: &[u8]) -> String {
+    bytes.iter().map(|byte| format!("{byte:02X}")).collect()
+}
+
+/// The inputs of a case, for the report.
+struct Inputs<'a> {
+    records: &'a [&'a [u8]],
+    numbers: String,
+}
+
+/// The two sides of a case: what was answered and how long it took.
+struct Sides {
+    desk: Answer,
+    twin: Answer,
+    times: (Duration, Duration),
+    untouched: bool,
+}
+
+pub struct Checker {
+    pattern: Vec<u8>,
+    out: Vec<u8>,
+    pub table: Table,
+    /// the kind of case that is being made
+    pub kind: usize,
+}
+
+impl Checker {
+    pub fn new(seed: u64, kinds: &[&'static str]) -> Checker {
+        let mut dice = Dice::new(seed);
+        let pattern: Vec<u8> = (0..LONGEST + 2 * MARGIN).map(|_| dice.byte()).collect();
+        Checker { out: pattern.clone(), pattern, table: Table::new(kinds), kind: 0 }
+    }
+
+    /// The output of that length, filled with the pattern, put to the desk.
+    fn timed(&mut self, room: usize, desk: impl FnOnce(&mut [u8]) -> (u32, Vec<u64>)) -> ((u32, Vec<u64>), Duration) {
+        let whole = room + 2 * MARGIN;
+        self.out[..whole].copy_from_slice(&self.pattern[..whole]);
+        let start = Instant::now();
+        let answer = desk(&mut self.out[MARGIN..MARGIN + room]);
+        (answer, start.elapsed())
+    }
+
+    /// Desk and twin on one case with an output. What the twin writes must stand at the start of the desk's output, and all else be the pattern.
+    fn sides(&mut self, room: usize, desk: impl FnOnce(&mut [u8]) -> (u32, Vec<u64>), twin: impl FnOnce() -> Answer) -> Sides {
+        let ((number, beside), desk_time) = self.timed(room, desk);
+        let start = Instant::now();
+        let twin = twin();
+        let twin_time = start.elapsed();
+        let end = MARGIN + twin.bytes.len();
+        let untouched = self.out[..MARGIN] == self.pattern[..MARGIN] && self.out[end..room + 2 * MARGIN] == self.pattern[end..room + 2 * MARGIN];
+        let bytes = self.out[MARGIN..end].to_vec();
+        Sides { desk: Answer { number, beside, bytes }, twin, times: (desk_time, twin_time), untouched }
+    }
+
+    fn settle(&mut self, service: Service, sides: Sides, inputs: Inputs<'_>) -> Checked<Answer> {
+        let Sides { desk, twin, times, untouched } = sides;
+        if desk == twin && untouched {
+            let met = if service == Service::Lookup && twin.beside == [0, 0] { Met::Empty } else { Met::Number(twin.number) };
+            self.table.add(self.kind, service, met, times.0, times.1);
+            return Ok(twin);
+        }
+        let records: String = inputs.records.iter().map(|record| format!("\n  lent {}", hexa(record))).collect();
+        let side = |answer: &Answer| format!("{} {:?} {}", answer.number, answer.beside, hexa(&answer.bytes));
+        let touched = if untouched { "" } else { "\n  bytes beyond what the twin writes were touched" };
+        Err(Difference(format!("{service:?} {}{records}\n  desk {}\n  twin {}{touched}", inputs.numbers, side(&desk), side(&twin))))
+    }
+
+    pub fn canonical(&mut self, clauses: &[u8], room: usize) -> Checked<Answer> {
+        let sides = self.sides(room, |out| (raw::canonical(clauses, out), vec![]), || reply(services::canonical(clauses, room)));
+        self.settle(Service::Canonical, sides, Inputs { records: &[clauses], numbers: format!("output {room}") })
+    }
+
+    pub fn first(&mut self, query: &[u8], room: usize) -> Checked<Answer> {
+        let sides = self.sides(room, |out| (raw::first(query, out), vec![]), || reply(services::first(query, room)));
+        self.settle(Service::First, sides, Inputs { records: &[query], numbers: format!("output {room}") })
+    }
+
+    pub fn step(&mut self, direction: Direction, program: &[u8], event: &[u8], room: usize) -> Checked<Answer> {
+        let back = direction == Direction::Back;
+        let service = if back { Service::Back } else { Service::Forward };
+        let desk = if back { raw::back } else { raw::forward };
+        let twin = if back { services::back } else { services::forward };
+        let sides = self.sides(room, |out| (desk(program, event, out), vec![]), || reply(twin(program, event, room)));
+        let answer = self.settle(service, sides, Inputs { records: &[program, event], numbers: format!("output {room}") })?;
+        if answer.number == 0 {
+            let (from, to) = if back { (&answer.bytes[..], event) } else { (event, &answer.bytes[..]) };
+            if let Some(rule) = rule(from, to) {
+                self.table.add_rule(rule, back);
+            }
+        }
+        Ok(answer)
+    }
+
+    pub fn forward(&mut self, program: &[u8], event: &[u8], room: usize) -> Checked<Answer> {
+        self.step(Direction::Forward, program, event, room)
+    }
+
+    pub fn back(&mut self, program: &[u8], event: &[u8], room: usize) -> Checked<Answer> {
+        self.step(Direction::Back, program, event, room)
+    }
+
+    /// A run, forward where `back` is 0.
+    pub fn run(&mut self, program: &[u8], event: &[u8], steps: u32, back: u8, room: usize) -> Checked<Answer> {
+        let desk = |out: &mut [u8]| {
+            let mut taken = 0xDEAD_BEEF;
+            let number = raw::run(program, event, steps, back, out, &mut taken);
+            (number, vec![u64::from(taken)])
+        };
+        let direction = if back == 0 { Direction::Forward } else { Direction::Back };
+        let twin = || {
+            let run = services::run(program, event, steps, direction, room);
+            Answer { number: run.number.into(), beside: vec![run.steps.into()], bytes: run.bytes }
+        };
+        let sides = self.sides(room, desk, twin);
+        self.settle(Service::Run, sides, Inputs { records: &[program, event], numbers: format!("steps {steps} back {back} output {room}") })
+    }
+
+    pub fn value(&mut self, event: &[u8], v: u16, room: usize) -> Checked<Answer> {
+        let desk = |out: &mut [u8]| {
+            let mut written = 0xDEAD_BEEF;
+            let number = raw::value(event, v, out, &mut written);
+            (number, vec![u64::from(written)])
+        };
+        let twin = || {
+            let answer = reply(services::value(event, v, room));
+            Answer { beside: vec![answer.bytes.len() as u64], ..answer }
+        };
+        let sides = self.sides(room, desk, twin);
+        self.settle(Service::Value, sides, Inputs { records: &[event], numbers: format!("variable {v} output {room}") })
+    }
+
+    /// The place and the length of the definition.
+    pub fn lookup(&mut self, program: &[u8], event: &[u8]) -> Checked<Answer> {
+        let desk = |_: &mut [u8]| {
+            let mut at = 0xDEAD_BEEF;
+            let length = raw::lookup(program, event, &mut at);
+            (0, vec![at as u64, length as u64])
+        };
+        let twin = || {
+            let place = services::place(program, event).unwrap_or(0..0);
+            Answer { number: 0, beside: vec![place.start as u64, place.len() as u64], bytes: Vec::new() }
+        };
+        let sides = self.sides(0, desk, twin);
+        self.settle(Service::Lookup, sides, Inputs { records: &[program, event], numbers: String::new() })
+    }
+
+    pub fn count(&mut self, event: &[u8], before: [u32; 4]) -> Checked<Answer> {
+        let desk = |_: &mut [u8]| {
+            let mut counts = Counts { call: before[0], exit: before[1], fail: before[2], redo: before[3] };
+            let number = raw::count(&mut counts, event);
+            (number, [counts.call, counts.exit, counts.fail, counts.redo].map(u64::from).to_vec())
+        };
+        let twin = || {
+            let (number, after) = services::count(event, before);
+            Answer { number: number.into(), beside: after.map(u64::from).to_vec(), bytes: Vec::new() }
+        };
+        let sides = self.sides(0, desk, twin);
+        self.settle(Service::Count, sides, Inputs { records: &[event], numbers: format!("counts {before:?}") })
+    }
+}
+
+fn reply(reply: services::Reply) -> Answer {
+    Answer { number: reply.number.into(), beside: vec![], bytes: reply.bytes }
+}

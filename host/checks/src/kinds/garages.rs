@@ -1,0 +1,38 @@
+//! The little garages of the repository's examples, walked to their end and back, each service at each event.
+
+use crate::compare::{Checked, Checker, Difference};
+use crate::generate::Dice;
+
+const GARAGES: [&[u8]; 5] = [
+    include_bytes!("../../../../examples/door-sign.in"),
+    include_bytes!("../../../../examples/one-bay.in"),
+    include_bytes!("../../../../examples/one-light.in"),
+    include_bytes!("../../../../examples/sensor-line.in"),
+    include_bytes!("../../../../examples/three-bays.in"),
+];
+
+const MOST_STEPS: usize = 2_000;
+
+pub fn round(checker: &mut Checker, dice: &mut Dice) -> Checked<()> {
+    for input in GARAGES {
+        let (program, query) = input.split_at(2 + usize::from(u16::from_be_bytes([input[0], input[1]])));
+        let mut events = vec![checker.first(query, 32_768)?.bytes];
+        for _ in 0..MOST_STEPS {
+            let event = &events[events.len() - 1];
+            checker.value(event, dice.below(8) as u16, 32_768)?;
+            checker.lookup(program, event)?;
+            checker.count(event, [dice.long(); 4])?;
+            let next = checker.forward(program, event, 32_768)?;
+            if next.number != 0 {
+                break;
+            }
+            events.push(next.bytes);
+        }
+        for pair in events.windows(2).rev() {
+            if checker.back(program, &pair[1], 32_768)?.bytes != pair[0] {
+                return Err(Difference("a step back from a reached event gave another event than it came from".into()));
+            }
+        }
+    }
+    Ok(())
+}

@@ -1,0 +1,41 @@
+//! Walks from a query forward and all the way back: each step back gives the event it came from.
+
+use super::values::known_variable;
+use crate::compare::{Checked, Checker, Difference};
+use crate::generate::{programs, room, Dice};
+
+pub fn round(checker: &mut Checker, dice: &mut Dice) -> Checked<()> {
+    let (program, query) = (programs::program(dice), programs::query(dice));
+    let start = checker.first(&query, room(dice))?;
+    if start.number != 0 {
+        return Ok(());
+    }
+    let mut events = vec![start.bytes];
+    for _ in 0..if dice.one_in(50) { 600 } else { dice.between(5, 80) } {
+        let event = &events[events.len() - 1];
+        if dice.one_in(15) {
+            aside(checker, dice, &program, event)?;
+        }
+        let next = checker.forward(&program, event, room(dice))?;
+        match next.number {
+            0 => events.push(next.bytes),
+            5 => {}
+            _ => break,
+        }
+    }
+    for pair in events.windows(2).rev() {
+        let source = checker.back(&program, &pair[1], 32_768)?;
+        if source.bytes != pair[0] {
+            return Err(Difference("a step back from a reached event gave another event than it came from".into()));
+        }
+    }
+    Ok(())
+}
+
+/// The other services at an event of the walk.
+fn aside(checker: &mut Checker, dice: &mut Dice, program: &[u8], event: &[u8]) -> Checked<()> {
+    checker.value(event, known_variable(dice, event), room(dice))?;
+    checker.lookup(program, event)?;
+    checker.count(event, [dice.long(); 4])?;
+    Ok(())
+}

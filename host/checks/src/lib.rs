@@ -1,0 +1,37 @@
+//! The desk beside the twin: generated cases put to both, compared in number, record and untouched bytes.
+#![forbid(unsafe_code)]
+
+pub mod compare;
+pub mod generate;
+pub mod kinds;
+pub mod rules;
+pub mod table;
+
+use compare::{Checked, Checker, Difference};
+use generate::Dice;
+use kinds::KINDS;
+use table::Table;
+
+/// Boundaries once, and then rounds of the kind that is most behind its share, until there are that many cases.
+pub fn check(seed: u64, cases: u64) -> Checked<Table> {
+    let names: Vec<&'static str> = KINDS.iter().map(|kind| kind.name).collect();
+    let mut checker = Checker::new(seed, &names);
+    let mut rounds = [0; KINDS.len()];
+    for kind in (0..KINDS.len()).filter(|&kind| KINDS[kind].share == 0) {
+        round(&mut checker, seed, kind, &mut rounds)?;
+    }
+    while checker.table.cases() < cases {
+        let shared = (0..KINDS.len()).filter(|&kind| KINDS[kind].share > 0);
+        let behind = shared.min_by_key(|&kind| checker.table.cases_of(kind) * 1_000 / KINDS[kind].share);
+        round(&mut checker, seed, behind.unwrap_or_default(), &mut rounds)?;
+    }
+    Ok(checker.table)
+}
+
+fn round(checker: &mut Checker, seed: u64, kind: usize, rounds: &mut [u64]) -> Checked<()> {
+    checker.kind = kind;
+    let at = format!("{}, round {}, seed {seed}", KINDS[kind].name, rounds[kind]);
+    let mut dice = Dice::of(seed, kind, rounds[kind]);
+    rounds[kind] += 1;
+    (KINDS[kind].round)(checker, &mut dice).map_err(|difference| Difference(format!("{at}: {difference}")))
+}

@@ -1,0 +1,127 @@
+//! What was met: cases by kind, by service and number, steps by rule.
+
+use crate::compare::Service;
+use crate::rules::RULES;
+use std::fmt;
+use std::time::Duration;
+
+#[derive(Clone, Copy, Default)]
+struct Row {
+    numbers: [u64; 15],
+    /// lookups without a definition
+    empty: u64,
+    desk: Duration,
+    twin: Duration,
+    slowest: Duration,
+}
+
+impl Row {
+    fn cases(&self) -> u64 {
+        self.numbers.iter().sum::<u64>() + self.empty
+    }
+}
+
+/// The answer to one case.
+#[derive(Clone, Copy)]
+pub enum Met {
+    Number(u32),
+    Empty,
+}
+
+pub struct Table {
+    kinds: Vec<(&'static str, Row)>,
+    services: [Row; Service::ALL.len()],
+    rules: [[u64; 2]; RULES.len()],
+    /// pairs of lists of steps whose ends are different, and equal
+    pub ends: [u64; 2],
+}
+
+impl Table {
+    pub fn new(kinds: &[&'static str]) -> Table {
+        Table {
+            kinds: kinds.iter().map(|&kind| (kind, Row::default())).collect(),
+            services: Default::default(),
+            rules: [[0; 2]; RULES.len()],
+            ends: [0; 2],
+        }
+    }
+
+    pub fn add(&mut self, kind: usize, service: Service, met: Met, desk: Duration, twin: Duration) {
+        for row in [&mut self.kinds[kind].1, &mut self.services[service as usize]] {
+            match met {
+                Met::Number(number) => row.numbers[number as usize] += 1,
+                Met::Empty => row.empty += 1,
+            }
+            row.desk += desk;
+            row.twin += twin;
+            row.slowest = row.slowest.max(desk);
+        }
+    }
+
+    pub fn add_rule(&mut self, rule: usize, back: bool) {
+        self.rules[rule][usize::from(back)] += 1;
+    }
+
+    pub fn cases(&self) -> u64 {
+        self.kinds.iter().map(|(_, row)| row.cases()).sum()
+    }
+
+    pub fn cases_of(&self, kind: usize) -> u64 {
+        self.kinds[kind].1.cases()
+    }
+
+    /// What a run should have met and did not: a case that is never made cannot fail.
+    pub fn missed(&self) -> Vec<String> {
+        let mut missed = Vec::new();
+        for service in Service::ALL {
+            let row = &self.services[service as usize];
+            let unmet = service.numbers().iter().filter(|&&number| row.numbers[number] == 0);
+            missed.extend(unmet.map(|number| format!("{service:?} never gave {number}")));
+            if service == Service::Lookup && row.empty == 0 {
+                missed.push("Lookup always found a definition".into());
+            }
+        }
+        for (rule, counts) in RULES.iter().zip(&self.rules) {
+            for (way, count) in ["forward", "back"].iter().zip(counts) {
+                if *count == 0 {
+                    missed.push(format!("never read {way}: {rule}"));
+                }
+            }
+        }
+        if self.ends.contains(&0) {
+            missed.push("two lists of steps always ended alike, or never".into());
+        }
+        missed
+    }
+}
+
+fn line(f: &mut fmt::Formatter<'_>, name: &str, row: &Row) -> fmt::Result {
+    write!(f, "{name:<12}{:>8}", row.cases())?;
+    for count in row.numbers.iter().chain([&row.empty]) {
+        write!(f, "{:>7}", if *count == 0 { ".".into() } else { count.to_string() })?;
+    }
+    let seconds = |time: Duration| time.as_secs_f64();
+    writeln!(f, "{:>8.2}{:>8.2}{:>9.2}", seconds(row.desk), seconds(row.twin), seconds(row.slowest) * 1000.0)
+}
+
+fn head(f: &mut fmt::Formatter<'_>, name: &str) -> fmt::Result {
+    write!(f, "{name:<12}{:>8}", "cases")?;
+    (0..15).try_for_each(|number| write!(f, "{number:>7}"))?;
+    writeln!(f, "{:>7}{:>8}{:>8}{:>9}", "empty", "desk s", "twin s", "most ms")
+}
+
+impl fmt::Display for Table {
+    fn fmt(&self, f: &mut fmt::Formatter<'_>) -> fmt::Result {
+        head(f, "service")?;
+        Service::ALL.iter().try_for_each(|&service| line(f, &format!("{service:?}").to_lowercase(), &self.services[service as usize]))?;
+        writeln!(f)?;
+        head(f, "kind")?;
+        self.kinds.iter().try_for_each(|(kind, row)| line(f, kind, row))?;
+        writeln!(f, "\n{:<62}{:>9}{:>9}", "rule", "forward", "back")?;
+        for (rule, [forward, back]) in RULES.iter().zip(&self.rules) {
+            writeln!(f, "{rule:<62}{forward:>9}{back:>9}")?;
+        }
+        let [different, equal] = self.ends;
+        writeln!(f, "\ntwo lists of steps: {equal} pairs ended at equal events, {different} at different ones")
+    }
+}

@@ -1,0 +1,40 @@
+//! FOURPORT_CASES generated cases (100,000 and more by default) from FOURPORT_SEED, put to the desk and to the twin. Prints a table of what was met,
+//! or the first difference whole; fails too where a number or a rule was never met.
+
+use checks::check;
+use std::process::ExitCode;
+use std::time::Instant;
+use std::{env, thread};
+
+const CASES: u64 = 200_000;
+
+fn set(name: &str, otherwise: u64) -> u64 {
+    env::var(name).ok().and_then(|text| text.parse().ok()).unwrap_or(otherwise)
+}
+
+fn compared() -> bool {
+    let (seed, cases, start) = (set("FOURPORT_SEED", 1), set("FOURPORT_CASES", CASES), Instant::now());
+    match check(seed, cases) {
+        Err(difference) => {
+            println!("{difference}");
+            false
+        }
+        Ok(table) => {
+            println!("{table}");
+            let missed = table.missed();
+            missed.iter().for_each(|what| println!("missed: {what}"));
+            println!("{} cases from seed {seed}, no difference, {:.1} s", table.cases(), start.elapsed().as_secs_f64());
+            missed.is_empty()
+        }
+    }
+}
+
+fn main() -> ExitCode {
+    // deep terms need more than the 2 MiB of an ordinary thread
+    let checked = thread::Builder::new().stack_size(8 << 20).spawn(compared).map(thread::JoinHandle::join);
+    if matches!(checked, Ok(Ok(true))) {
+        ExitCode::SUCCESS
+    } else {
+        ExitCode::FAILURE
+    }
+}

@@ -1,0 +1,139 @@
+//! Event records, and what one asks of a single event.
+
+use crate::output;
+use crate::{raw, Query, Refusal, RECORD_LIMIT};
+
+/// A program of no definitions, to put an event's questions.
+const NO_DEFINITIONS: [u8; 5] = [0, 3, 1, 0, 0];
+
+/// The four ports.
+#[derive(Clone, Copy, Debug, PartialEq, Eq, Hash)]
+pub enum Port {
+    /// a goal is called
+    Call,
+    /// it exits with an answer
+    Exit,
+    /// it fails
+    Fail,
+    /// it is asked for another answer
+    Redo,
+}
+
+/// An event record that passed questions 11 to 14. Whether a walk reaches it is not asked. Equal events have equal bytes, so `==` is document 01's
+/// equality: the same port, goal, ancestors and bets.
+///
+/// ```
+/// use fourport::{Event, Port};
+/// let event = Event::from_bytes([0, 7, 1, 4, 0x10, 0, 0, 0, 0])?;
+/// assert_eq!(event.port(), Port::Redo);
+/// # Ok::<(), fourport::Refusal>(())
+/// ```
+#[derive(Clone, Debug, PartialEq, Eq, Hash)]
+pub struct Event(Vec<u8>);
+
+/// The bytes of a term, without length or version.
+#[derive(Clone, Debug, PartialEq, Eq, Hash)]
+pub struct Term(Vec<u8>);
+
+impl Event {
+    /// The record, if it passes the questions. They are put by a run of no steps.
+    ///
+    /// ```
+    /// use fourport::{Event, Refusal, Which};
+    /// assert_eq!(Event::from_bytes([0, 7, 1, 5, 0x10, 0, 0, 0, 0]), Err(Refusal::Grammar(Which::Event)));
+    /// ```
+    pub fn from_bytes(bytes: impl Into<Vec<u8>>) -> Result<Event, Refusal> {
+        let bytes = bytes.into();
+        Refusal::unless_done(raw::run(&NO_DEFINITIONS, &bytes, 0, 0, &mut vec![0; RECORD_LIMIT], &mut 0))?;
+        Ok(Event(bytes))
+    }
+
+    /// The first event of a query; refused by [`Refusal::Fit`] only.
+    ///
+    /// ```
+    /// use fourport::{Event, Port, Query};
+    /// let event = Event::first(&Query::from_bytes([0, 2, 1, 0x11])?)?;
+    /// assert_eq!(event.port(), Port::Call);
+    /// # Ok::<(), fourport::Refusal>(())
+    /// ```
+    pub fn first(query: &Query) -> Result<Event, Refusal> {
+        output::record(|out| raw::first(query.as_bytes(), out)).map(Event)
+    }
+
+    /// The whole record.
+    pub fn as_bytes(&self) -> &[u8] {
+        &self.0
+    }
+
+    /// The event's port: its byte is 1 to 4, since the event passed the questions.
+    ///
+    /// ```
+    /// # use fourport::{Event, Port};
+    /// let event = Event::from_bytes([0, 7, 1, 3, 0x10, 0, 0, 0, 0])?;
+    /// assert_eq!(event.port(), Port::Fail);
+    /// # Ok::<(), fourport::Refusal>(())
+    /// ```
+    pub fn port(&self) -> Port {
+        match self.0.get(3) {
+            Some(1) => Port::Call,
+            Some(2) => Port::Exit,
+            Some(3) => Port::Fail,
+            _ => Port::Redo,
+        }
+    }
+
+    /// S(v): what the event's bets make of a variable; refused by [`Refusal::Value`] only.
+    ///
+    /// ```
+    /// # use fourport::Event;
+    /// // exit V0 = a, with the unifier V0/a
+    /// let event = Event::from_bytes([0, 23, 1, 2, 0x12, 1, 0, 0, 2, 0, 2, 0, 0, 0, 0, 1, 0x20, 0, 1, 0, 0, 2, 0, 2, 0])?;
+    /// assert_eq!(event.value(0)?.as_bytes(), [2, 0, 2, 0]);
+    /// assert_eq!(event.value(7)?.as_bytes(), [1, 0, 7]);
+    /// # Ok::<(), fourport::Refusal>(())
+    /// ```
+    pub fn value(&self, v: u16) -> Result<Term, Refusal> {
+        let (mut out, mut written) = (vec![0; RECORD_LIMIT], 0);
+        Refusal::unless_done(raw::value(&self.0, v, &mut out, &mut written))?;
+        out.truncate(written as usize);
+        out.shrink_to_fit();
+        Ok(Term(out))
+    }
+
+    /// An event that the desk wrote.
+    pub(crate) fn written(bytes: Vec<u8>) -> Event {
+        Event(bytes)
+    }
+
+    /// The record becomes the one that the desk wrote at the start of `out`.
+    pub(crate) fn replace(&mut self, out: &[u8]) {
+        self.0.clear();
+        self.0.extend_from_slice(out.get(..output::record_length(out)).unwrap_or(out));
+    }
+}
+
+impl Term {
+    /// The term's bytes.
+    ///
+    /// ```
+    /// # use fourport::Event;
+    /// let event = Event::from_bytes([0, 7, 1, 1, 0x10, 0, 0, 0, 0])?;
+    /// assert_eq!(event.value(65_535)?.as_bytes(), [1, 255, 255]);
+    /// # Ok::<(), fourport::Refusal>(())
+    /// ```
+    pub fn as_bytes(&self) -> &[u8] {
+        &self.0
+    }
+}
+
+impl AsRef<[u8]> for Event {
+    fn as_ref(&self) -> &[u8] {
+        &self.0
+    }
+}
+
+impl AsRef<[u8]> for Term {
+    fn as_ref(&self) -> &[u8] {
+        &self.0
+    }
+}

@@ -1,0 +1,74 @@
+//! The rule desk for Rust: safe calls into its proved archive (`rt staticlib fourport`).
+//!
+//! The desk walks a query through pure Prolog clauses, one port event after another (call, exit, fail, redo), forward and back. Every answer is the
+//! proved code's; this crate lends it memory and gives its numbers names. Document 01 says what the records are.
+//!
+//! - [`Clauses`], [`Program`], [`Query`] and [`Event`] hold the bytes of a record that passed the gate's questions 1 to 4, so a program cannot be
+//!   lent as an event and what is lent later is never refused as a record.
+//! - [`Walk`] stands at an event and steps forward and back from there.
+//! - [`Refusal`] is a no to one of the questions; its [`number`](Refusal::number) is document 01's.
+//! - [`raw`] is the same over byte slices with an output lent by the caller: any bytes, any length, no allocation.
+//!
+//! ```
+//! use fourport::{Event, Port, Program, Query, Refusal};
+//!
+//! // bay 1 is taken; a light is red where its bay is taken and green where it is free; which light has bay 1?
+//! let input = include_bytes!("../../../examples/one-bay.in");
+//! let (program, query) = input.split_at(2 + usize::from(u16::from_be_bytes([input[0], input[1]])));
+//! let program = Program::from_bytes(program)?;
+//! let mut walk = program.walk(Event::first(&Query::from_bytes(query)?)?);
+//!
+//! assert_eq!(walk.forwards().count(), 19);
+//! assert_eq!((walk.stopped(), walk.event().port()), (Some(Refusal::Walk), Port::Exit));
+//! let answer = walk.event().value(0)?;
+//!
+//! // back to event 7, where the light was chosen, and on again
+//! assert_eq!(walk.backs().take(12).count(), 12);
+//! assert_eq!((walk.net(), walk.event().value(0)?), (7, answer));
+//! assert_eq!(walk.forwards().count(), 12);
+//! # Ok::<(), Refusal>(())
+//! ```
+//!
+//! # Stack
+//! The desk recurses on nested terms. The deepest calls need 1.6 MiB of native stack; a thread of [`STACK`] bytes has enough. The main thread of a
+//! Linux program usually has 8 MiB, Rust's other threads 2 MiB unless asked for more. A call that runs out of stack ends the process.
+//!
+//! # Panics
+//! Nothing in this crate panics, on any input. (An allocator that fails ends the process, as everywhere in Rust.)
+#![deny(missing_docs)]
+#![deny(unsafe_op_in_unsafe_fn)]
+#![deny(unsafe_code)]
+
+mod clauses;
+mod counts;
+mod event;
+mod output;
+mod program;
+mod query;
+pub mod raw;
+mod refusal;
+#[allow(unsafe_code)]
+mod sys;
+mod walk;
+
+pub use clauses::Clauses;
+pub use counts::Counts;
+pub use event::{Event, Port, Term};
+pub use program::{Definition, Direction, Program, Run};
+pub use query::Query;
+pub use refusal::{Refusal, Which};
+pub use walk::{Backs, Forwards, Walk};
+
+/// The longest record, and the least output that question 5 lets pass.
+pub const RECORD_LIMIT: usize = 32_768;
+
+/// Native stack, in bytes, that is enough for any call.
+///
+/// ```
+/// let answer = std::thread::Builder::new().stack_size(fourport::STACK).spawn(|| {
+///     let mut out = vec![0; fourport::RECORD_LIMIT];
+///     fourport::raw::first(&[0, 2, 1, 0x10], &mut out)
+/// });
+/// assert_eq!(answer.unwrap().join().unwrap(), 0);
+/// ```
+pub const STACK: usize = 4 << 20;

@@ -1,0 +1,214 @@
+//! Program records, and the steps under one.
+
+use crate::output;
+use crate::{raw, Clauses, Event, Refusal, Walk, RECORD_LIMIT};
+use std::ops::Range;
+
+/// The event call true with empty stacks, to put a program's questions.
+const CALL_TRUE: [u8; 9] = [0, 7, 1, 1, 0x10, 0, 0, 0, 0];
+
+/// A program record that passed questions 1 to 4. It stays the same throughout a walk.
+///
+/// ```
+/// use fourport::{Event, Program, Query, Refusal};
+/// let program = Program::from_bytes([0, 3, 1, 0, 0])?;
+/// let call = Event::first(&Query::from_bytes([0, 2, 1, 0x10])?)?;
+/// let exit = program.forward(&call)?;
+/// assert_eq!(program.back(&exit)?, call);
+/// assert_eq!(program.forward(&exit), Err(Refusal::Walk));
+/// # Ok::<(), Refusal>(())
+/// ```
+#[derive(Clone, Debug, PartialEq, Eq, Hash)]
+pub struct Program(Vec<u8>);
+
+/// Which way a run goes.
+#[derive(Clone, Copy, Debug, PartialEq, Eq, Hash)]
+pub enum Direction {
+    /// the rules from left to right
+    Forward,
+    /// the rules from right to left
+    Back,
+}
+
+/// Where a run came to.
+#[derive(Clone, Debug, PartialEq, Eq, Hash)]
+pub struct Run {
+    /// the event reached; where no step was taken it is the given one
+    pub event: Event,
+    /// the steps taken
+    pub taken: u32,
+    /// what refused the next step; nothing where the run ended on its count
+    pub stopped: Option<Refusal>,
+}
+
+/// The definition that an atom names: a part of the program that it was found in.
+#[derive(Clone, Copy, Debug, PartialEq, Eq, Hash)]
+pub struct Definition<'p> {
+    bytes: &'p [u8],
+    at: usize,
+}
+
+impl Program {
+    /// The record, if it passes the questions. They are put by a run of no steps.
+    ///
+    /// ```
+    /// use fourport::{Program, Refusal, Which};
+    /// assert_eq!(Program::from_bytes([0, 3, 1, 0]), Err(Refusal::Frame(Which::Program)));
+    /// ```
+    pub fn from_bytes(bytes: impl Into<Vec<u8>>) -> Result<Program, Refusal> {
+        let bytes = bytes.into();
+        Refusal::unless_done(raw::run(&bytes, &CALL_TRUE, 0, 0, &mut vec![0; RECORD_LIMIT], &mut 0))?;
+        Ok(Program(bytes))
+    }
+
+    /// The canonical program of the clauses; refused by [`Refusal::Locals`] or [`Refusal::Fit`] only.
+    ///
+    /// ```
+    /// # use fourport::{Clauses, Program};
+    /// let clauses = Clauses::from_bytes([0, 8, 1, 0, 1, 0, 5, 0, 0, 0x11])?;
+    /// assert_eq!(Program::canonical(&clauses)?.as_bytes().len(), 10);
+    /// # Ok::<(), fourport::Refusal>(())
+    /// ```
+    pub fn canonical(clauses: &Clauses) -> Result<Program, Refusal> {
+        output::record(|out| raw::canonical(clauses.as_bytes(), out)).map(Program)
+    }
+
+    /// The whole record.
+    pub fn as_bytes(&self) -> &[u8] {
+        &self.0
+    }
+
+    /// One step forward; refused by questions 6 to 10 only.
+    ///
+    /// ```
+    /// # use fourport::{Event, Port, Program};
+    /// let program = Program::from_bytes([0, 3, 1, 0, 0])?;
+    /// // redo true
+    /// let event = Event::from_bytes([0, 7, 1, 4, 0x10, 0, 0, 0, 0])?;
+    /// assert_eq!(program.forward(&event)?.port(), Port::Fail);
+    /// # Ok::<(), fourport::Refusal>(())
+    /// ```
+    pub fn forward(&self, event: &Event) -> Result<Event, Refusal> {
+        output::record(|out| raw::forward(&self.0, event.as_bytes(), out)).map(Event::written)
+    }
+
+    /// One step back; refused by questions 6 to 10 only.
+    ///
+    /// ```
+    /// # use fourport::{Event, Program, Refusal};
+    /// let program = Program::from_bytes([0, 3, 1, 0, 0])?;
+    /// // redo true
+    /// let event = Event::from_bytes([0, 7, 1, 4, 0x10, 0, 0, 0, 0])?;
+    /// assert_eq!(program.back(&event), Err(Refusal::Match));
+    /// # Ok::<(), Refusal>(())
+    /// ```
+    pub fn back(&self, event: &Event) -> Result<Event, Refusal> {
+        output::record(|out| raw::back(&self.0, event.as_bytes(), out)).map(Event::written)
+    }
+
+    /// That many single steps, or as many as are accepted. That a run is stopped is no error; one occurs only where a record is refused, which a
+    /// `Program` and an `Event` are not.
+    ///
+    /// ```
+    /// # use fourport::{Direction, Event, Program, Query, Refusal};
+    /// let program = Program::from_bytes([0, 3, 1, 0, 0])?;
+    /// // true, true
+    /// let start = Event::first(&Query::from_bytes([0, 4, 1, 0x13, 0x10, 0x10])?)?;
+    /// let there = program.run(&start, u32::MAX, Direction::Forward)?;
+    /// assert_eq!((there.taken, there.stopped), (5, Some(Refusal::Walk)));
+    /// let again = program.run(&there.event, 5, Direction::Back)?;
+    /// assert_eq!((again.event, again.stopped), (start, None));
+    /// # Ok::<(), Refusal>(())
+    /// ```
+    pub fn run(&self, event: &Event, steps: u32, direction: Direction) -> Result<Run, Refusal> {
+        let (mut taken, mut stopped) = (0, None);
+        let back = u8::from(direction == Direction::Back);
+        let record = output::record(|out| {
+            let number = raw::run(&self.0, event.as_bytes(), steps, back, out, &mut taken);
+            // 6 to 10 stop a run, and the event reached is written; any other number but 0 refuses it
+            match number {
+                6..=10 => {
+                    stopped = Refusal::from_number(number);
+                    0
+                }
+                _ => number,
+            }
+        })?;
+        Ok(Run { event: Event::written(record), taken, stopped })
+    }
+
+    /// The definition that the event's goal names; nothing where the goal is no atom or has no definition.
+    ///
+    /// ```
+    /// # use fourport::{Event, Program, Query};
+    /// let program = Program::from_bytes([0, 8, 1, 0, 1, 0, 5, 0, 0, 0x10])?;
+    /// let event = Event::first(&Query::from_bytes([0, 5, 1, 0x15, 0, 5, 0])?)?;
+    /// let definition = program.definition(&event).unwrap();
+    /// assert_eq!((definition.predicate(), definition.arity(), definition.locals()), (5, 0, 0));
+    /// assert_eq!(definition.goal(), [0x10]);
+    /// assert_eq!(definition.place(), 5..10);
+    /// # Ok::<(), fourport::Refusal>(())
+    /// ```
+    pub fn definition(&self, event: &Event) -> Option<Definition<'_>> {
+        let mut at = 0;
+        let length = raw::lookup(&self.0, event.as_bytes(), &mut at);
+        let bytes = self.0.get(at..)?.get(..length)?;
+        (!bytes.is_empty()).then_some(Definition { bytes, at })
+    }
+
+    /// A walk that stands at the event.
+    ///
+    /// ```
+    /// # use fourport::{Event, Port, Program, Query};
+    /// let program = Program::from_bytes([0, 3, 1, 0, 0])?;
+    /// let mut walk = program.walk(Event::first(&Query::from_bytes([0, 2, 1, 0x10])?)?);
+    /// assert_eq!(walk.forward()?.port(), Port::Exit);
+    /// # Ok::<(), fourport::Refusal>(())
+    /// ```
+    pub fn walk(&self, event: Event) -> Walk<'_> {
+        Walk::new(self, event)
+    }
+}
+
+impl<'p> Definition<'p> {
+    /// The definition's bytes: predicate, arity, locals, goal.
+    pub fn as_bytes(self) -> &'p [u8] {
+        self.bytes
+    }
+
+    /// Where these bytes stand in the program's record.
+    pub fn place(self) -> Range<usize> {
+        self.at..self.at + self.bytes.len()
+    }
+
+    /// The predicate's number.
+    pub fn predicate(self) -> u16 {
+        u16::from_be_bytes([self.byte(0), self.byte(1)])
+    }
+
+    /// The number of the head's variables.
+    pub fn arity(self) -> u8 {
+        self.byte(2)
+    }
+
+    /// The number of locals.
+    pub fn locals(self) -> u8 {
+        self.byte(3)
+    }
+
+    /// The bytes of the goal.
+    pub fn goal(self) -> &'p [u8] {
+        self.bytes.get(4..).unwrap_or_default()
+    }
+
+    /// A byte of the head, which every definition has.
+    fn byte(self, at: usize) -> u8 {
+        self.bytes.get(at).copied().unwrap_or_default()
+    }
+}
+
+impl AsRef<[u8]> for Program {
+    fn as_ref(&self) -> &[u8] {
+        &self.0
+    }
+}

@@ -1,0 +1,104 @@
+//! The desk's services over byte slices, with an output lent by the caller: any bytes, any length. Nothing is allocated.
+//!
+//! The result is document 01's number, 0 for done; a refusal leaves the output untouched, and bytes after a written record stay as they were. A
+//! written record's length is its first two bytes, big-endian, and 2.
+
+use crate::{sys, Counts};
+
+/// Clauses to canonical program: 0, 1 to 5, 9 or 10.
+///
+/// ```
+/// let mut out = vec![7; 32_768];
+/// assert_eq!(fourport::raw::canonical(&[0, 3, 1, 0, 0], &mut out), 0);
+/// assert_eq!(out[..6], [0, 3, 1, 0, 0, 7]);
+/// assert_eq!(fourport::raw::canonical(&[0, 3, 1, 0, 0], &mut out[1..]), 5);
+/// ```
+pub fn canonical(clauses: &[u8], out: &mut [u8]) -> u32 {
+    sys::canonical(clauses, out)
+}
+
+/// Query to first event: 0, 11 to 13, 5 or 10.
+///
+/// ```
+/// let mut out = vec![7; 32_768];
+/// assert_eq!(fourport::raw::first(&[0, 2, 1, 0x10], &mut out), 0);
+/// assert_eq!(out[..10], [0, 7, 1, 1, 0x10, 0, 0, 0, 0, 7]);
+/// assert_eq!(fourport::raw::first(&[], &mut out), 11);
+/// ```
+pub fn first(query: &[u8], out: &mut [u8]) -> u32 {
+    sys::first(query, out)
+}
+
+/// One step forward: 0 to 14.
+///
+/// ```
+/// let (program, call) = ([0, 3, 1, 0, 0], [0, 7, 1, 1, 0x10, 0, 0, 0, 0]);
+/// let mut out = vec![7; 32_768];
+/// assert_eq!(fourport::raw::forward(&program, &call, &mut out), 0);
+/// assert_eq!(out[..10], [0, 7, 1, 2, 0x10, 0, 0, 0, 0, 7]);
+/// ```
+pub fn forward(program: &[u8], event: &[u8], out: &mut [u8]) -> u32 {
+    sys::forward(program, event, out)
+}
+
+/// One step back: 0 to 14.
+///
+/// ```
+/// let (program, call) = ([0, 3, 1, 0, 0], [0, 7, 1, 1, 0x10, 0, 0, 0, 0]);
+/// let mut out = vec![7; 32_768];
+/// assert_eq!(fourport::raw::back(&program, &call, &mut out), 6);
+/// assert!(out.iter().all(|&byte| byte == 7));
+/// ```
+pub fn back(program: &[u8], event: &[u8], out: &mut [u8]) -> u32 {
+    sys::back(program, event, out)
+}
+
+/// A run, forward where `back` is 0, else back: 0 to 14. The event reached is written, also where 6 to 10 stopped the run; `taken` becomes the steps
+/// taken, 0 where nothing is written.
+///
+/// ```
+/// let (program, call) = ([0, 3, 1, 0, 0], [0, 7, 1, 1, 0x10, 0, 0, 0, 0]);
+/// let (mut out, mut taken) = (vec![7; 32_768], 99);
+/// assert_eq!(fourport::raw::run(&program, &call, u32::MAX, 0, &mut out, &mut taken), 6);
+/// assert_eq!((taken, out[3]), (1, 2));
+/// ```
+pub fn run(program: &[u8], event: &[u8], steps: u32, back: u8, out: &mut [u8], taken: &mut u32) -> u32 {
+    sys::run(program, event, steps, back, out, taken)
+}
+
+/// S(v) as bare term bytes: 0, 11 to 14, 5 or 8. `written` becomes their number, 0 after a refusal.
+///
+/// ```
+/// let call = [0, 7, 1, 1, 0x10, 0, 0, 0, 0];
+/// let (mut out, mut written) = (vec![7; 32_768], 99);
+/// assert_eq!(fourport::raw::value(&call, 258, &mut out, &mut written), 0);
+/// assert_eq!((written, &out[..4]), (3, &[1, 1, 2, 7][..]));
+/// ```
+pub fn value(event: &[u8], v: u16, out: &mut [u8], written: &mut u32) -> u32 {
+    sys::value(event, v, out, written)
+}
+
+/// The definition that the event's goal names: the length of the part, and in `at` its place in the program. Both are 0 exactly when a record is
+/// refused, the goal is no atom, or no definition exists.
+///
+/// ```
+/// let (program, event) = ([0, 8, 1, 0, 1, 0, 5, 0, 0, 0x10], [0, 10, 1, 1, 0x15, 0, 5, 0, 0, 0, 0, 0]);
+/// let mut at = 99;
+/// assert_eq!(fourport::raw::lookup(&program, &event, &mut at), 5);
+/// assert_eq!(program[at..], [0, 5, 0, 0, 0x10]);
+/// ```
+pub fn lookup(program: &[u8], event: &[u8], at: &mut usize) -> usize {
+    sys::lookup(program, event, at)
+}
+
+/// Adds the event's port to the counts: 0, or 11 to 14 and the counts stay.
+///
+/// ```
+/// let mut counts = fourport::Counts::default();
+/// assert_eq!(fourport::raw::count(&mut counts, &[0, 7, 1, 2, 0x10, 0, 0, 0, 0]), 0);
+/// assert_eq!(fourport::raw::count(&mut counts, &[0, 7, 1, 2, 0x10, 0, 0, 0]), 11);
+/// assert_eq!(counts.exit, 1);
+/// ```
+pub fn count(counts: &mut Counts, event: &[u8]) -> u32 {
+    sys::count(counts, event)
+}

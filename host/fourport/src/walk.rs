@@ -1,0 +1,155 @@
+//! A walk: an event under a program, and steps forward and back from where one is.
+
+use crate::{raw, Event, Program, Refusal, RECORD_LIMIT};
+use std::iter::FusedIterator;
+
+/// Stands at an event of a program's walk. A refused step leaves it where it is.
+///
+/// ```
+/// use fourport::{Event, Port, Program, Query, Refusal};
+/// let program = Program::from_bytes([0, 3, 1, 0, 0])?;
+/// // true ; fail
+/// let start = Event::first(&Query::from_bytes([0, 4, 1, 0x14, 0x10, 0x11])?)?;
+/// let mut walk = program.walk(start.clone());
+///
+/// let ports: Vec<Port> = walk.forwards().map(|event| event.port()).collect();
+/// assert_eq!(ports, [Port::Call, Port::Exit, Port::Exit]);
+/// assert_eq!((walk.stopped(), walk.net()), (Some(Refusal::Walk), 3));
+///
+/// walk.back()?;
+/// assert_eq!(walk.backs().last(), Some(start));
+/// assert_eq!((walk.stopped(), walk.net()), (Some(Refusal::Walk), 0));
+/// # Ok::<(), Refusal>(())
+/// ```
+#[derive(Clone, Debug)]
+pub struct Walk<'p> {
+    program: &'p Program,
+    event: Event,
+    /// what the next step writes into, made once
+    out: Vec<u8>,
+    net: i64,
+    stopped: Option<Refusal>,
+}
+
+impl<'p> Walk<'p> {
+    pub(crate) fn new(program: &'p Program, event: Event) -> Walk<'p> {
+        Walk { program, event, out: vec![0; RECORD_LIMIT], net: 0, stopped: None }
+    }
+
+    /// The event where the walk stands.
+    pub fn event(&self) -> &Event {
+        &self.event
+    }
+
+    /// The event where the walk stands, without the walk.
+    pub fn into_event(self) -> Event {
+        self.event
+    }
+
+    /// The steps forward less the steps back that were accepted so far.
+    pub fn net(&self) -> i64 {
+        self.net
+    }
+
+    /// What refused the last step tried; nothing where it was accepted, or none was tried.
+    pub fn stopped(&self) -> Option<Refusal> {
+        self.stopped
+    }
+
+    /// One step forward.
+    ///
+    /// ```
+    /// # use fourport::{Event, Program, Query, Refusal};
+    /// let program = Program::from_bytes([0, 3, 1, 0, 0])?;
+    /// let mut walk = program.walk(Event::first(&Query::from_bytes([0, 2, 1, 0x11])?)?);
+    /// let failed = walk.forward()?.clone();
+    /// assert_eq!(walk.forward(), Err(Refusal::Walk));
+    /// assert_eq!(walk.event(), &failed);
+    /// # Ok::<(), Refusal>(())
+    /// ```
+    pub fn forward(&mut self) -> Result<&Event, Refusal> {
+        let number = raw::forward(self.program.as_bytes(), self.event.as_bytes(), &mut self.out);
+        self.stepped(number, 1)
+    }
+
+    /// One step back.
+    ///
+    /// ```
+    /// # use fourport::{Event, Program, Query, Refusal};
+    /// let program = Program::from_bytes([0, 3, 1, 0, 0])?;
+    /// let mut walk = program.walk(Event::first(&Query::from_bytes([0, 2, 1, 0x11])?)?);
+    /// assert_eq!(walk.back(), Err(Refusal::Walk));
+    /// # Ok::<(), Refusal>(())
+    /// ```
+    pub fn back(&mut self) -> Result<&Event, Refusal> {
+        let number = raw::back(self.program.as_bytes(), self.event.as_bytes(), &mut self.out);
+        self.stepped(number, -1)
+    }
+
+    /// The events ahead, one step forward for each, up to the first that is refused: see [`Walk::stopped`] then. A walk need not end.
+    ///
+    /// ```
+    /// # use fourport::{Event, Program, Query};
+    /// let program = Program::from_bytes([0, 3, 1, 0, 0])?;
+    /// let mut walk = program.walk(Event::first(&Query::from_bytes([0, 4, 1, 0x13, 0x10, 0x10])?)?);
+    /// assert_eq!(walk.forwards().take(2).count(), 2);
+    /// assert_eq!(walk.forwards().count(), 3);
+    /// # Ok::<(), fourport::Refusal>(())
+    /// ```
+    pub fn forwards(&mut self) -> Forwards<'_, 'p> {
+        Forwards(self)
+    }
+
+    /// The events behind, one step back for each, up to the first that is refused: see [`Walk::stopped`] then.
+    ///
+    /// ```
+    /// # use fourport::{Event, Program, Query};
+    /// let program = Program::from_bytes([0, 3, 1, 0, 0])?;
+    /// let mut walk = program.walk(Event::first(&Query::from_bytes([0, 4, 1, 0x13, 0x10, 0x10])?)?);
+    /// let there: Vec<Event> = walk.forwards().collect();
+    /// let again: Vec<Event> = walk.backs().collect();
+    /// assert_eq!(again[0], there[3]);
+    /// # Ok::<(), fourport::Refusal>(())
+    /// ```
+    pub fn backs(&mut self) -> Backs<'_, 'p> {
+        Backs(self)
+    }
+
+    fn stepped(&mut self, number: u32, by: i64) -> Result<&Event, Refusal> {
+        self.stopped = Refusal::from_number(number);
+        if let Some(refusal) = self.stopped {
+            return Err(refusal);
+        }
+        self.event.replace(&self.out);
+        self.net = self.net.saturating_add(by);
+        Ok(&self.event)
+    }
+}
+
+/// The events ahead of a walk, each where the walk then stands: see [`Walk::forwards`].
+#[derive(Debug)]
+pub struct Forwards<'w, 'p>(&'w mut Walk<'p>);
+
+/// The events behind a walk, each where the walk then stands: see [`Walk::backs`].
+#[derive(Debug)]
+pub struct Backs<'w, 'p>(&'w mut Walk<'p>);
+
+impl Iterator for Forwards<'_, '_> {
+    type Item = Event;
+
+    fn next(&mut self) -> Option<Event> {
+        self.0.forward().ok().cloned()
+    }
+}
+
+impl Iterator for Backs<'_, '_> {
+    type Item = Event;
+
+    fn next(&mut self) -> Option<Event> {
+        self.0.back().ok().cloned()
+    }
+}
+
+/// A step that was refused is refused again: nothing has changed.
+impl FusedIterator for Forwards<'_, '_> {}
+impl FusedIterator for Backs<'_, '_> {}

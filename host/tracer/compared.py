@@ -113,7 +113,7 @@ def first_difference(one, other):
 
 def prolog_shows(walks):
     """kind -> number -> lines"""
-    boxes = run('boxes.pl', [w.boxes() for w in walks], len(walks) * SECONDS_PER_WALK)
+    boxes = run('printed.pl', [w.boxes() for w in walks], len(walks) * SECONDS_PER_WALK)
     own = run('own.pl', [w.own() for w in walks], len(walks) * SECONDS_PER_WALK)
     split = {n: [each.split(' ', 2) for each in lines] for n, lines in boxes.items()}
     return {

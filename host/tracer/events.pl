@@ -1,6 +1,6 @@
 % What an event does: it is printed, up to a limit, or counted. Both take a goal in its boxes, which ends at its first answer or in fail.
-:- module(events, [printing/2, printed/4, counting/2, counted/1]).
-:- meta_predicate printing(+, 1), counting(-, 1).
+:- module(events, [printing/2, printed/4, counting/3, counted/1]).
+:- meta_predicate printing(+, 1), counting(+, -, 1).
 
 printing(Limit, Boxes) :-
     nb_setval(left, Limit),
@@ -16,9 +16,10 @@ printed(Port, Above, Under, Goal) :-
             format("~w ~w ", [Port, Depth]),
             write_term(Goal, [numbervars(false), ignore_ops(true)]), nl ).
 
-counting(Events, Boxes) :-
+%  The events of so many walks.
+counting(Walks, Events, Boxes) :-
     Counter = events(0),
-    ( \+ call(Boxes, Counter) -> true ; true ),
+    \+ ( between(1, Walks, _), ( call(Boxes, Counter) -> fail ) ),
     arg(1, Counter, Events).
 
 counted(Counter) :- arg(1, Counter, Before), After is Before + 1, nb_setarg(1, Counter, After).

@@ -35,5 +35,6 @@ fn main() {
             calls::table(&Fourport, &Twin);
         }
     };
-    std::thread::scope(|scope| std::thread::Builder::new().stack_size(STACK).spawn_scoped(scope, print).expect("a thread").join()).expect("no failure");
+    std::thread::scope(|scope| std::thread::Builder::new().stack_size(STACK).spawn_scoped(scope, print).expect("a thread").join())
+        .expect("no failure");
 }

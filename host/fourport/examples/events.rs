@@ -5,6 +5,7 @@
 //! that ended the walk, or `cut`. Records, goals and values are in hexadecimal; all of them are the desk's own answers.
 
 use fourport::{raw, RECORD_LIMIT, STACK};
+use std::collections::BTreeSet;
 use std::io::{self, BufWriter, Read, Write};
 
 fn main() -> io::Result<()> {
@@ -65,11 +66,15 @@ fn printed(event: &[u8], out: &mut impl Write) -> io::Result<bool> {
 }
 
 /// Where an accepted event's goal ends, and its variables in the order of their numbers.
-fn goal(event: &[u8]) -> (usize, std::collections::BTreeSet<u16>) {
-    let (mut at, mut terms, mut goals, mut variables) = (4, 0, 1, std::collections::BTreeSet::new());
+fn goal(event: &[u8]) -> (usize, BTreeSet<u16>) {
+    let (mut at, mut terms, mut goals, mut variables) = (4, 0, 1, BTreeSet::new());
     while terms + goals > 0 {
         let kind = event[at];
-        if terms > 0 { terms -= 1 } else { goals -= 1 }
+        if terms > 0 {
+            terms -= 1;
+        } else {
+            goals -= 1;
+        }
         at += match kind {
             0x01 => 3,
             0x02 | 0x15 => 4,

@@ -64,6 +64,7 @@ pub fn cases() -> Vec<Case> {
         ("chain of variables, rising", chain(1_168, false)),
         ("chain of variables, falling", chain(1_168, true)),
         ("as many variables against as many others", (variables(0), variables(leaves))),
+        ("as many variables against the next ones", (variables(0), variables(1))),
         ("two equal trees of constants", (constants.clone(), constants)),
         ("copies of a variable against trees of 16 variables", largest_sheaves(16)),
         ("copies of a variable against trees of 48 variables", largest_sheaves(48)),

@@ -60,7 +60,7 @@ fn cases() -> Vec<Case> {
 fn timed(desk: &dyn Desk, call: &Call) -> (f64, usize, Vec<u8>) {
     let mut out = vec![0; ROOM];
     let answer = call.answer(desk, &mut out);
-    let time = least(5, || assert_eq!(call.answer(desk, &mut out), answer));
+    let time = least(3, || assert_eq!(call.answer(desk, &mut out), answer));
     (time.as_secs_f64() * 1e3, answer, out)
 }
 

@@ -30,7 +30,12 @@ pub fn cases() -> Vec<Case> {
     ];
     let events = [
         ("an equality of two terms of 16 KB", equal(&deep_term, &deep_term), vec![], vec![]),
-        ("a goal of 5,400 joins, itself among the ancestors and bets", deep_goal.clone(), vec![half(1, &conj(&deep_goal, &truth()))], vec![by(&deep_goal)]),
+        (
+            "a goal of 5,400 joins, itself among the ancestors and bets",
+            deep_goal.clone(),
+            vec![half(1, &conj(&deep_goal, &truth()))],
+            vec![by(&deep_goal)],
+        ),
         ("an atom of 8,180 terms within each other", atom(1, &[nested(8_180)]), vec![], vec![]),
         ("16,000 bets OR", truth(), vec![], vec![or(1); 16_000]),
         ("8,000 ancestors", truth(), vec![half(1, &conj(&truth(), &truth())); 8_000], vec![]),

@@ -1,81 +1,43 @@
-"""A walk of the desk's walk program, and the same walk of the model with the goals of its events."""
-import subprocess
-from unittest import mock
+"""The desk's own walks: host/fourport/examples/events over many queries at once."""
+import functools, subprocess
 
-from desk_model import steps
-from desk_model.body import body
-from desk_model.gate import Refused
-from desk_model.substitution import replaced
-from desk_model.trees import *
-from desk_model.walk import line
-
-MOST_EVENTS = 2000
+from desk_model import gate, reader
+from desk_model.writer import listed_record, record
+from walks import MOST_EVENTS, Met, Walk
 
 
-def desk_lines(walk, data):
-    """the lines of the events, at most MOST_EVENTS, and the stop number, None where the walk is cut there"""
-    with subprocess.Popen([walk], stdin=subprocess.PIPE, stdout=subprocess.PIPE) as desk:
-        desk.stdin.write(data)
-        desk.stdin.close()
-        lines, stop = [], None
-        for printed in desk.stdout:
-            printed = printed.decode()
-            if printed.startswith('stop '):
-                stop = int(printed[5:])
-            elif len(lines) < MOST_EVENTS:
-                lines.append(printed)
-                continue
-            break
-        desk.kill()
-    return lines, stop
+@functools.cache
+def goal_of(hexadecimal):
+    return reader.whole(reader.goal, bytes.fromhex(hexadecimal))
 
 
-class Numbering:
-    """what the body rule looks through for its greatest variable number"""
-
-    def __init__(self, *places):
-        self.greatest = max(place.greatest for place in places)
+@functools.cache
+def term_of(hexadecimal):
+    return reader.whole(reader.term, bytes.fromhex(hexadecimal))
 
 
-def body_over_bets(program, found):
-    """the body as request M-101 numbers it"""
-    return body(program, found['P'], Numbering(found['U'], found['S']))
+def met(line):
+    """port, depth, goal, and a number and a value for each variable of the goal"""
+    port, depth, goal, *values = line.split()
+    return Met(int(port), int(depth), goal_of(goal), {int(v): term_of(t) for v, t in zip(values[::2], values[1::2])})
 
 
-class Walk:
-    """the model's walk: its events, and the stop number, None where the walk is cut"""
-
-    def __init__(self, program, goal):
-        self.goal, self.events, self.stop, self.known = goal, [Event(CALL, goal, EMPTY, EMPTY)], None, {}
-        try:
-            while len(self.events) < MOST_EVENTS:
-                self.events.append(steps.step_forward(program, self.events[-1]))
-            steps.step_forward(program, self.events[-1])
-        except Refused as no:
-            self.stop = no.number
-
-    def ended(self):
-        return self.stop == 6
-
-    def lines(self):
-        return [line(step, event) for step, event in enumerate(self.events)]
-
-    def bindings(self, bets):
-        """S as one substitution; stacks are shared between events, so each is made once"""
-        if bets == EMPTY:
-            return {}
-        if id(bets) not in self.known:
-            below = self.bindings(bets.rest)
-            if isinstance(bets.top, Unifier) and bets.top.pairs:
-                new = {p.variable: p.term for p in bets.top.pairs}
-                below = {**{v: replaced(t, new) if t.greatest >= 0 else t for v, t in below.items()}, **new}
-            self.known[id(bets)] = below
-        return self.known[id(bets)]
-
-    def under_bets(self, event, part):
-        return replaced(part, self.bindings(event.bets))
-
-
-def walk_over_bets(program, goal):
-    with mock.patch.object(steps, 'call_body', body_over_bets):
-        return Walk(program, goal)
+def desk_walks(events_program, asked):
+    """a walk for each (clauses, goal)"""
+    data = b''.join(listed_record(clauses) + record(goal) for clauses, goal in asked)
+    desk = subprocess.run([events_program, str(MOST_EVENTS)], input=data, stdout=subprocess.PIPE)
+    found, program, events = [], None, []
+    for line in desk.stdout.decode().splitlines():
+        word, _, rest = line.partition(' ')
+        if word == 'program':
+            program, events = gate.program(bytes.fromhex(rest)), []
+        elif word not in ('stop', 'cut'):
+            events.append(met(line))
+        elif program is None:
+            raise SystemExit(f'clauses or query {len(found)} are refused by question {rest}')
+        else:
+            found.append(Walk(program, events, int(rest) if rest else None))
+            program = None
+    if desk.returncode or len(found) != len(asked):
+        raise SystemExit(f'{events_program} gave {len(found)} of {len(asked)} walks')
+    return found

@@ -56,11 +56,11 @@ def boxes_case(number, limit, goal, program):
     return f'case({number},{limit},{boxed(goal)},[{",".join(definitions)}]).\n'
 
 
-def own_case(number, answers, ports, asked, goal, values, clauses, predicates):
-    """asked: the query whose answers are wanted; goal: the one to be traced, which may go on with fail"""
-    listed = [f'p{name}/{arity}' for name, arity in predicates]
-    return (f'case({number},{answers},{ports},{plain(asked)},{plain(goal)},{applied("values", list(map(boxed, values)))},'
-            f'[{",".join(map(clause_text, clauses))}],[{",".join(listed)}]).\n')
+def own_case(number, answers, ports, query, values):
+    """the first answers of the query, and the first ports of its goal, which may go on with fail"""
+    listed = [f'p{name}/{arity}' for name, arity in query.predicates()]
+    return (f'case({number},{answers},{ports},{plain(query.asked)},{plain(query.goal)},{applied("values", list(map(boxed, values)))},'
+            f'[{",".join(map(clause_text, query.clauses))}],[{",".join(listed)}]).\n')
 
 
 def run(program, cases, seconds):

@@ -1,0 +1,105 @@
+//! events MOST: the walks of many queries, for a reader that is no Rust program.
+//!
+//! Standard input holds clause records, each with a query record behind it. For each pair there is a line with the canonical program, then a line per
+//! event, at most MOST: port, number of ancestors, goal, and for each variable of the goal its number and value; then a line `stop` with the number
+//! that ended the walk, or `cut`. Records, goals and values are in hexadecimal; all of them are the desk's own answers.
+
+use fourport::{raw, RECORD_LIMIT, STACK};
+use std::collections::BTreeSet;
+use std::io::{self, BufWriter, Read, Write};
+
+fn main() -> io::Result<()> {
+    let most = std::env::args().nth(1).and_then(|word| word.parse().ok()).unwrap_or(usize::MAX);
+    std::thread::Builder::new().stack_size(STACK).spawn(move || walks(most))?.join().expect("the desk does not panic")
+}
+
+fn walks(most: usize) -> io::Result<()> {
+    let (mut input, mut out) = (Vec::new(), BufWriter::new(io::stdout().lock()));
+    io::stdin().lock().read_to_end(&mut input)?;
+    let mut rest = &input[..];
+    while !rest.is_empty() {
+        let (clauses, behind) = rest.split_at(length(rest));
+        let (query, behind) = behind.split_at(length(behind));
+        match walk(clauses, query, most, &mut out)? {
+            0 => writeln!(out, "cut")?,
+            number => writeln!(out, "stop {number}")?,
+        }
+        rest = behind;
+    }
+    out.flush()
+}
+
+/// The number that ended the walk, 0 where it is cut.
+fn walk(clauses: &[u8], query: &[u8], most: usize, out: &mut impl Write) -> io::Result<u32> {
+    let (mut program, mut event, mut next) = (vec![0; RECORD_LIMIT], vec![0; RECORD_LIMIT], vec![0; RECORD_LIMIT]);
+    let number = raw::canonical(clauses, &mut program);
+    if number != 0 {
+        return Ok(number);
+    }
+    let program = &program[..length(&program)];
+    writeln!(out, "program {}", hex(program))?;
+    let mut number = raw::first(query, &mut event);
+    for _ in 0..most {
+        if number != 0 || !printed(&event[..length(&event)], out)? {
+            return Ok(number);
+        }
+        number = raw::forward(program, &event[..length(&event)], &mut next);
+        if number == 0 {
+            std::mem::swap(&mut event, &mut next);
+        }
+    }
+    Ok(number)
+}
+
+/// The event's line; false, and no line, where a value is refused.
+fn printed(event: &[u8], out: &mut impl Write) -> io::Result<bool> {
+    let (end, variables) = goal(event);
+    let (mut line, mut value, mut written) = (String::new(), vec![0; RECORD_LIMIT], 0);
+    for v in variables {
+        if raw::value(event, v, &mut value, &mut written) != 0 {
+            return Ok(false);
+        }
+        line += &format!(" {v} {}", hex(&value[..written as usize]));
+    }
+    writeln!(out, "{} {} {}{line}", event[3], word(event, end), hex(&event[4..end]))?;
+    Ok(true)
+}
+
+/// Where an accepted event's goal ends, and its variables in the order of their numbers.
+fn goal(event: &[u8]) -> (usize, BTreeSet<u16>) {
+    let (mut at, mut terms, mut goals, mut variables) = (4, 0, 1, BTreeSet::new());
+    while terms + goals > 0 {
+        let kind = event[at];
+        if terms > 0 {
+            terms -= 1;
+        } else {
+            goals -= 1;
+        }
+        at += match kind {
+            0x01 => 3,
+            0x02 | 0x15 => 4,
+            _ => 1,
+        };
+        match kind {
+            0x01 => _ = variables.insert(word(event, at - 2)),
+            0x02 | 0x15 => terms += usize::from(event[at - 1]),
+            0x12 => terms += 2,
+            0x13 | 0x14 => goals += 2,
+            _ => (),
+        }
+    }
+    (at, variables)
+}
+
+fn word(bytes: &[u8], at: usize) -> u16 {
+    u16::from_be_bytes([bytes[at], bytes[at + 1]])
+}
+
+/// The length of the record at the start.
+fn length(bytes: &[u8]) -> usize {
+    2 + usize::from(word(bytes, 0))
+}
+
+fn hex(bytes: &[u8]) -> String {
+    bytes.iter().map(|byte| format!("{byte:02x}")).collect()
+}

@@ -47,6 +47,7 @@ pub mod Fitted
 pub mod Pairs
 pub mod BindsSome
 pub mod BetRow
+pub mod Entries
 pub mod Gathering
 pub mod Applied
 pub mod Answered

@@ -1,9 +1,9 @@
--- A row of bets that stand in a record, and the places of those that bind something: the only ones that S has to apply.
+-- A row of bets that stand in a record, and the pairs of each.
 use mathlib.Core.Path.{_≡_, refl, sym, ap, _∙_}
 use mathlib.Core.Bool.{true, _&&_}
 use mathlib.Core.List.{List, [], _∷_, _++_}
 use native.Mathlib.Omega.{arith}
-use Prim.Native.Nat.{ℕ, zero, suc, _+_, _-_, _≤_, _<_}
+use Prim.Native.Nat.{ℕ, _+_, _-_, _≤_, _<_}
 use lib.ListN.{length, length-append}
 use Rattle.records.specs.Syntax.{Term, Binding, Bet}
 use Rattle.records.specs.Syntax.Binding.{bind}
@@ -31,6 +31,11 @@ pub record BetAt (s : List ℕ) (at : ℕ) (b : Bet) : Type 0 where
   pub end : ℕ
   pub stands : Stands s at (bet-bytes b) end
 
+-- some bet does
+pub record BetHere (s : List ℕ) (at : ℕ) : Type 0 where
+  pub bet : Bet
+  pub here : BetAt s at bet
+
 -- n bets stand at a position, top first
 pub record Bets (s : List ℕ) (at n : ℕ) : Type 0 where
   pub bets : List Bet
@@ -53,72 +58,12 @@ head-pairs (Or k) = 0
 head-pairs By = 0
 head-pairs NoBet = 0
 
--- the place of a bet with n pairs, if it has any
-abbrev pub mark : ℕ → ℕ → List ℕ
-mark zero at = []
-mark (suc n) at = at ∷ []
-
--- the places of the bets that bind something
-unfoldable pub places : ℕ → List Bet → List ℕ
-places at [] = []
-places at (b ∷ bets) = mark (length (bet-pairs b)) at ++ places (at + length (bet-bytes b)) bets
-
--- a bet alone, if it has pairs
-abbrev pub binding-bet : List Binding → Bet → List Bet
-binding-bet [] b = []
-binding-bet (p ∷ σ) b = b ∷ []
-
--- these bets themselves
-unfoldable pub binding-bets : List Bet → List Bet
-binding-bets [] = []
-binding-bets (b ∷ bets) = binding-bet (bet-pairs b) b ++ binding-bets bets
-
 -- a bet is applied by its pairs
 pub apply-pairs : (b : Bet) (bets : List Bet) (t : Term) → apply (b ∷ bets) t ≡ substitute (as-substitution (bet-pairs b)) (apply bets t)
 unfolding apply
 apply-pairs (unifier σ) bets t = refl
 apply-pairs (or h) bets t = sym (substitute-var (apply bets t))
 apply-pairs (by g) bets t = sym (substitute-var (apply bets t))
-
--- so those that bind something do what all do
-pub apply-binding-bets : (bets : List Bet) (t : Term) → apply (binding-bets bets) t ≡ apply bets t
-unfolding binding-bets
-apply-binding-bets [] t = refl
-apply-binding-bets (b ∷ bets) t = go (bet-pairs b) refl (apply-binding-bets bets t)
-  where
-    go : (σ : List Binding) → bet-pairs b ≡ σ → apply (binding-bets bets) t ≡ apply bets t → apply (binding-bet σ b ++ binding-bets bets) t ≡ apply (b ∷ bets) t
-    go [] e ih = ih ∙ sym (apply-pairs b bets t ∙ ap (λ (σ : List Binding). substitute (as-substitution σ) (apply bets t)) e ∙ substitute-var (apply bets t))
-    go (p ∷ σ) e ih =
-        apply-pairs b (binding-bets bets) t ∙ ap (substitute (as-substitution (bet-pairs b))) ih ∙ sym (apply-pairs b bets t)
-
--- at each place stands its bet
-abbrev pub Marks : List ℕ → List ℕ → List Bet → Type 0
-Marks s [] [] = Unit {0}
-Marks s [] (b ∷ bets) = ⊥
-Marks s (p ∷ ps) [] = ⊥
-Marks s (p ∷ ps) (b ∷ bets) = BetAt s p b × Marks s ps bets
-
-pub marks-length : (s ps : List ℕ) (bets : List Bet) → Marks s ps bets → length ps ≡ length bets
-marks-length s [] [] m = refl
-marks-length s [] (b ∷ bets) m = absurd m
-marks-length s (p ∷ ps) [] m = absurd m
-marks-length s (p ∷ ps) (b ∷ bets) m = ap suc (marks-length s ps bets (m .1))
-
--- the bets that bind something stand at their places
-pub places-marks : {s : List ℕ} {at e : ℕ} (bets : List Bet) → All BetFormed bets → every bet-rules bets ≡ true → Stands s at (each bet-bytes bets) e
-    → Marks s (places at bets) (binding-bets bets)
-unfolding places binding-bets
-places-marks [] f r w = tt
-places-marks {s} {at} {e} (b ∷ bets) f r w =
-    go (bet-pairs b) refl (places-marks bets (f .1) (and-right (bet-rules b) (every bet-rules bets) r) (stands-second (bet-bytes b) (each bet-bytes bets) w))
-  where
-    first : BetAt s at b
-    first = record { formed = f .0; rules = and-left (bet-rules b) (every bet-rules bets) r; end = at + length (bet-bytes b); stands = stands-first (bet-bytes b) (each bet-bytes bets) w }
-
-    go : (σ : List Binding) → bet-pairs b ≡ σ → Marks s (places (at + length (bet-bytes b)) bets) (binding-bets bets)
-        → Marks s (mark (length σ) at ++ places (at + length (bet-bytes b)) bets) (binding-bet σ b ++ binding-bets bets)
-    go [] q m = m
-    go (p ∷ σ) q m = (first, m)
 
 -- the first of some bets
 pub record FirstBet (s : List ℕ) (at n : ℕ) (p : Bets s at n) : Type 0 where

@@ -1,24 +1,25 @@
 -- The pairs of a bet stack, one after the other: what S(T) makes of a variable is found by looking for the last pair that binds it.
 -- Choice: an entry names the bets above its own, since these are what is applied to its term.
-use mathlib.Core.Path.{_≡_, refl, sym, ap, _∙_}
-use mathlib.Core.Bool.{true, _&&_}
-use mathlib.Core.List.{List, [], _∷_, _++_, append-assoc, append-nil}
+use mathlib.Core.Path.{_≡_}
+use mathlib.Core.Bool.{true}
+use mathlib.Core.List.{List, [], _∷_, _++_}
 use mathlib.Core.Option.{Option, none, some}
 use mathlib.Core.Logic.{ite}
 use native.Mathlib.Decide.{ℕ-discrete}
-use native.Mathlib.Omega.{arith}
-use Prim.Native.Nat.{ℕ, zero, suc, _+_, _-_, _≤_, _<_}
-use lib.ListN.{length, getD, length-append, take, drop}
+use Prim.Native.Nat.{ℕ, suc, _+_, _-_, _≤_, _<_}
+use lib.ListN.{length, getD, drop}
 use Rattle.records.specs.Syntax.{Term, Binding, Bet}
 use Rattle.records.specs.Syntax.Term.{var}
 use Rattle.records.specs.Syntax.Binding.{bind}
 use Rattle.records.specs.Encode.{term-bytes}
 use Rattle.records.specs.Formed.{TermFormed}
-use Rattle.records.specs.RecordRules.{bound, every, bet-rules}
+use Rattle.records.specs.RecordRules.{every, bet-rules}
 use Rattle.records.specs.Heads.{word-at}
 use Rattle.records.specs.Stands.{Stands}
 use Rattle.records.specs.declared.heads.Word.the-variants.{Number}
-use Rattle.terms.specs.Substitution.{apply}
+use Rattle.records.specs.declared.ends.Found.{Found}
+use Rattle.records.specs.declared.ends.Found.the-variants.{At, Nothing}
+use Rattle.terms.specs.Substitution.{Substitution, apply}
 use Rattle.terms.specs.BetRow.{bet-pairs}
 
 -- a pair of a bet: its variable, its term, and the bets above that bet
@@ -73,3 +74,17 @@ pub record PairTable (s places firsts : List ℕ) (i : ℕ) : Type 0 where
   pub entered : Entereds s places firsts 0 (entries [] bets)
   pub places-held : i ≤ length places
   pub firsts-held : i ≤ length firsts
+
+-- they are the pairs of these bets
+pub record Listed (bets : List Bet) (s places firsts : List ℕ) (i : ℕ) : Type 0 where
+  pub table : PairTable s places firsts i
+  pub are : table .bets ≡ bets
+
+-- what a look for v finds: the place in the tables of the last entry that binds it, or that there is none
+pub record FoundPair (bets : List Bet) (i v : ℕ) (r : Found) : Type 0 where
+  pub found : {k : ℕ} → r ≡ At k → (k < i) × ((x : Entry) × (drop k (entries [] bets) ≡ x ∷ drop (suc k) (entries [] bets)) × (last-of v (entries [] bets) ≡ some x))
+  pub none-binds : r ≡ Nothing → last-of v (entries [] bets) ≡ none
+
+-- what S makes of the variables
+abbrev pub under : List Bet → Substitution
+under bets v = apply bets (var v)

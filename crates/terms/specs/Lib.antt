@@ -45,10 +45,12 @@ pub mod WritingLaws
 pub mod AnswerLaws
 pub mod Fitted
 pub mod Pairs
-pub mod BindsSome
 pub mod BetRow
 pub mod Entries
-pub mod Gathering
+pub mod EntryLaws
+pub mod UnderLaws
+pub mod Listing
+pub mod ListingLaws
 pub mod Applied
 pub mod Answered
 pub mod ValueService

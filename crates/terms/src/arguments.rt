@@ -14,7 +14,7 @@ pub struct Arguments {
     pub arity: usize,
 }
 
-fn position(f: Found) -> usize
+pub fn position(f: Found) -> usize
     ensures { λ r. ⌜ r ≡ position f ⌝ }
 {
     match f {

@@ -4,6 +4,7 @@ use crate::substitute::Sized;
 use crate::unifier::put_unifier;
 use crate::unifier::unify_values;
 use records::put::Range;
+ghost use mathlib.Core.Path.{_≡_};
 ghost use Prim.Native.Nat.{_+_, _*_, _≤_};
 ghost use lib.ListN.{length};
 ghost use Rattle.terms.specs.Applied.{TermAt};
@@ -112,68 +113,51 @@ fn unifier_with(
     n: usize,
     a: &[u8],
     right: Range,
-    table: &mut [usize],
+    places: &mut [usize],
+    firsts: &mut [usize],
     out: &mut [u8],
 ) -> UnifierAnswer
     requires { ⌜ Bets (now event) bets n ⌝ }
     requires { ⌜ TermAt (now event) (right .from) (right .to) ⌝ }
-    requires { ⌜ length (now event) ≤ 8 * length (now table) ⌝ }
+    requires { ⌜ length (now event) ≤ 5 * length (now places) ⌝ }
+    requires { ⌜ length (now firsts) ≡ length (now places) ⌝ }
     requires { ⌜ OneValue (now a) ⌝ }
     ensures { λ r. ⌜ ((p : Bets (now (event .entry)) bets n) (v : OneValue (now (a .entry))) (t : TermAt (now (event .entry)) (right .from) (right .to)) → Answered (now (out .entry)) (now (out .exit)) (outcome-of (some (v .value .term)) (value-under (p .bets) (t .term))) r) ⌝ }
 {
     let mut b: [u8; 8192] = [0; 8192];
-    let mut work: [u8; 8192] = [0; 8192];
-    let Sized::Fits(m) = apply_bets(
-        event,
-        bets,
-        n,
-        event,
-        right.from,
-        right.to,
-        table,
-        &mut b,
-        &mut work,
-    ) else {
+    let Sized::Fits(m) = apply_bets(event, bets, n, event, right.from, places, firsts, &mut b)
+    else {
         return UnifierAnswer::TooLarge;
     };
     write_unifier(a, &b[..m], out)
 }
 
-// The unifier of the values that the n bets at `bets` of the event give the terms at two of its ranges. The table is for the bets' places.
+// The unifier of the values that the n bets at `bets` of the event give the terms at two of its ranges. The tables are for the bets' pairs.
 fn unifier_by(
     event: &[u8],
     bets: usize,
     n: usize,
     left: Range,
     right: Range,
-    table: &mut [usize],
+    places: &mut [usize],
+    firsts: &mut [usize],
     out: &mut [u8],
 ) -> UnifierAnswer
     requires { ⌜ Bets (now event) bets n ⌝ }
     requires { ⌜ TermAt (now event) (left .from) (left .to) ⌝ }
     requires { ⌜ TermAt (now event) (right .from) (right .to) ⌝ }
-    requires { ⌜ length (now event) ≤ 8 * length (now table) ⌝ }
+    requires { ⌜ length (now event) ≤ 5 * length (now places) ⌝ }
+    requires { ⌜ length (now firsts) ≡ length (now places) ⌝ }
     ensures { λ r. ⌜ ((p : Bets (now (event .entry)) bets n) (s : TermAt (now (event .entry)) (left .from) (left .to)) (t : TermAt (now (event .entry)) (right .from) (right .to)) → Answered (now (out .entry)) (now (out .exit)) (unified-under (p .bets) (s .term) (t .term)) r) ⌝ }
 {
     let mut a: [u8; 8192] = [0; 8192];
-    let mut work: [u8; 8192] = [0; 8192];
-    let Sized::Fits(k) = apply_bets(
-        event,
-        bets,
-        n,
-        event,
-        left.from,
-        left.to,
-        table,
-        &mut a,
-        &mut work,
-    ) else {
+    let Sized::Fits(k) = apply_bets(event, bets, n, event, left.from, places, firsts, &mut a) else {
         return UnifierAnswer::TooLarge;
     };
-    unifier_with(event, bets, n, &a[..k], right, table, out)
+    unifier_with(event, bets, n, &a[..k], right, places, firsts, out)
 }
 
-// For an event of at most 2,048 bytes: a small table suffices.
+// For an event of at most 2,048 bytes: small tables suffice.
 fn unifier_of_short(
     event: &[u8],
     bets: usize,
@@ -188,8 +172,9 @@ fn unifier_of_short(
     requires { ⌜ length (now event) ≤ 2048 ⌝ }
     ensures { λ r. ⌜ ((p : Bets (now (event .entry)) bets n) (s : TermAt (now (event .entry)) (left .from) (left .to)) (t : TermAt (now (event .entry)) (right .from) (right .to)) → Answered (now (out .entry)) (now (out .exit)) (unified-under (p .bets) (s .term) (t .term)) r) ⌝ }
 {
-    let mut table: [usize; 256] = [0; 256];
-    unifier_by(event, bets, n, left, right, &mut table, out)
+    let mut places: [usize; 410] = [0; 410];
+    let mut firsts: [usize; 410] = [0; 410];
+    unifier_by(event, bets, n, left, right, &mut places, &mut firsts, out)
 }
 
 // For any event.
@@ -207,8 +192,9 @@ fn unifier_of_long(
     requires { ⌜ length (now event) ≤ 32768 ⌝ }
     ensures { λ r. ⌜ ((p : Bets (now (event .entry)) bets n) (s : TermAt (now (event .entry)) (left .from) (left .to)) (t : TermAt (now (event .entry)) (right .from) (right .to)) → Answered (now (out .entry)) (now (out .exit)) (unified-under (p .bets) (s .term) (t .term)) r) ⌝ }
 {
-    let mut table: [usize; 4096] = [0; 4096];
-    unifier_by(event, bets, n, left, right, &mut table, out)
+    let mut places: [usize; 6554] = [0; 6554];
+    let mut firsts: [usize; 6554] = [0; 6554];
+    unifier_by(event, bets, n, left, right, &mut places, &mut firsts, out)
 }
 
 // The unifier of the values that the n bets at `bets` of the event give the terms at two of its ranges.

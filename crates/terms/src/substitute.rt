@@ -1,6 +1,5 @@
-// A unifier applied once to a term. The unifier's pairs stand in an event, the term in another slice.
+// S(T): a term under the pairs of a bet stack, which stand in an event and are listed in a table. Each variable is looked up once.
 use records::ends::Found;
-use records::ends::term_end;
 use records::heads::Word;
 use records::heads::word_at;
 use records::put::Range;
@@ -8,28 +7,24 @@ use records::put::put_range;
 use records::walk::Cursor;
 use records::walk::Step;
 use records::walk::walk_step;
-ghost use mathlib.Core.Path.{_≡_};
+ghost use mathlib.Core.List.{List};
+ghost use Prim.Native.Nat.{ℕ, _≤_};
+ghost use lib.ListN.{length};
 ghost use Rattle.records.specs.Encode.{term-bytes};
 ghost use Rattle.records.specs.Range.{cut, Inside};
 ghost use Rattle.records.specs.Stands.{Stands};
-ghost use Rattle.records.specs.Steps.{On, met};
+ghost use Rattle.records.specs.Steps.{On};
 ghost use Rattle.records.specs.Syntax.Term.{var};
 ghost use Rattle.records.specs.Walk.{walk};
-ghost use Rattle.terms.specs.BindsSome.{binds-some};
+ghost use Rattle.terms.specs.Substitution.{apply};
 ghost use Rattle.terms.specs.Fitted.{Fitted};
 ghost use Rattle.terms.specs.NodeBytes.{walk-bytes};
-ghost use Rattle.terms.specs.Pairs.{Pairs, Looked, pairs-substitution};
+ghost use Rattle.terms.specs.Entries.{PairTable, FoundPair, under};
 
 // How many bytes were written, or that they are more than the output holds.
 pub enum Sized {
     Fits(usize),
     TooLarge,
-}
-
-// The place of the term that a variable becomes, or that no pair binds the variable.
-pub enum Image {
-    Bound(usize, usize),
-    Free,
 }
 
 // The bytes of a range of a source, at the start of the output.
@@ -43,64 +38,62 @@ pub fn put_piece(out: &mut [u8], src: &[u8], range: Range) -> Sized
     Sized::Fits(put_range(out, 0, src, range))
 }
 
-// What the n pairs at `at` make of the variable v. They rise, so a pair above v ends the search.
-pub fn image_of(event: &[u8], at: usize, n: usize, v: usize) -> Image
-    requires { ⌜ Pairs (now event) at n ⌝ }
-    ensures { λ r. ⌜ ((p : Pairs (now (event .entry)) at n) → Looked (now (event .entry)) (p .bindings) v r) ⌝ }
+// Where, among the first i pairs of a table, the last one stands that binds v.
+fn find_pair(event: &[u8], places: &[usize], i: usize, v: usize) -> Found
+    requires { ⌜ i ≤ length (now places) ⌝ }
+    ensures { λ r. ⌜ ((firsts : List ℕ) (p : PairTable (now (event .entry)) (now (places .entry)) firsts i) → FoundPair (p .bets) i v r) ⌝ }
 {
-    let mut pos = at;
-    let mut left = n;
-    while 0 < left {
-        let Word::Number(x) = word_at(event, pos) else {
-            return Image::Free;
-        };
-        if v < x {
-            return Image::Free;
-        }
-        let Found::At(end) = term_end(event, pos + 2) else {
-            return Image::Free;
+    let mut k = i;
+    while 0 < k {
+        k = k - 1;
+        let at = places[k];
+        let Word::Number(x) = word_at(event, at) else {
+            return Found::Nothing;
         };
         if x == v {
-            return Image::Bound(pos + 2, end);
+            return Found::At(k);
         }
-        pos = end;
-        left = left - 1;
     }
-    Image::Free
+    Found::Nothing
 }
 
-// What the n pairs at `at` make of the variable v, at the start of the output; v itself stands in the range of s.
-fn put_image(
+// What the first i pairs of the table make of the variable v, at the start of the output; v itself stands in the range of s. A pair's term is under
+// the pairs of the bets above its own, which are fewer.
+fn put_variable(
     event: &[u8],
-    at: usize,
-    n: usize,
+    places: &[usize],
+    firsts: &[usize],
+    i: usize,
     v: usize,
     s: &[u8],
     range: Range,
     out: &mut [u8],
 ) -> Sized
-    requires { ⌜ Pairs (now event) at n ⌝ }
+    requires { ⌜ PairTable (now event) (now places) (now firsts) i ⌝ }
     requires { ⌜ Stands (now s) (range .from) (term-bytes (var v)) (range .to) ⌝ }
-    ensures { λ r. ⌜ ((p : Pairs (now (event .entry)) at n) → Fitted (now (out .entry)) (term-bytes (pairs-substitution p v)) (now (out .exit)) r) ⌝ }
+    ensures { λ r. ⌜ ((p : PairTable (now (event .entry)) (now (places .entry)) (now (firsts .entry)) i) → Fitted (now (out .entry)) (term-bytes (apply (p .bets) (var v))) (now (out .exit)) r) ⌝ }
 {
-    match image_of(event, at, n, v) {
-        Image::Bound(from, to) => put_piece(out, event, Range { from, to }),
-        Image::Free => put_piece(out, s, range),
-    }
+    let Found::At(k) = find_pair(event, places, i, v) else {
+        return put_piece(out, s, range);
+    };
+    let at = places[k] + 2;
+    let above = firsts[k];
+    put_under(event, places, firsts, above, event, at, out)
 }
 
-// The term at `from` of s under the n pairs at `at`, at the start of the output.
-pub fn substitute_term(
+// The term at `from` of s under the first i pairs of the table, at the start of the output.
+pub fn put_under(
     event: &[u8],
-    at: usize,
-    n: usize,
+    places: &[usize],
+    firsts: &[usize],
+    i: usize,
     s: &[u8],
     from: usize,
     out: &mut [u8],
 ) -> Sized
-    requires { ⌜ Pairs (now event) at n ⌝ }
+    requires { ⌜ PairTable (now event) (now places) (now firsts) i ⌝ }
     requires { ⌜ On (walk (now s) from 1 0) ⌝ }
-    ensures { λ r. ⌜ ((p : Pairs (now (event .entry)) at n) → Fitted (now (out .entry)) (walk-bytes (pairs-substitution p) (walk (now (s .entry)) from 1 0)) (now (out .exit)) r) ⌝ }
+    ensures { λ r. ⌜ ((p : PairTable (now (event .entry)) (now (places .entry)) (now (firsts .entry)) i) → Fitted (now (out .entry)) (walk-bytes (under (p .bets)) (walk (now (s .entry)) from 1 0)) (now (out .exit)) r) ⌝ }
 {
     let mut c = Cursor {
         pos: from,
@@ -114,7 +107,16 @@ pub fn substitute_term(
             Step::Variable(v, d) => {
                 let end = d.pos;
                 let piece = Range { from: pos, to: end };
-                let Sized::Fits(m) = put_image(event, at, n, v, s, piece, &mut out[len..]) else {
+                let Sized::Fits(m) = put_variable(
+                    event,
+                    places,
+                    firsts,
+                    i,
+                    v,
+                    s,
+                    piece,
+                    &mut out[len..],
+                ) else {
                     return Sized::TooLarge;
                 };
                 len += m;
@@ -130,29 +132,6 @@ pub fn substitute_term(
                 c = d;
             }
             Step::Done => return Sized::Fits(len),
-        }
-    }
-}
-
-// Whether the n pairs at `at` bind a variable of the term at `from` of s.
-pub fn binds_some(event: &[u8], at: usize, n: usize, s: &[u8], from: usize) -> bool
-    requires { ⌜ Pairs (now event) at n ⌝ }
-    requires { ⌜ On (walk (now s) from 1 0) ⌝ }
-    ensures { λ r. ⌜ ((p : Pairs (now (event .entry)) at n) → r ≡ binds-some (p .bindings) (met (walk (now (s .entry)) from 1 0))) ⌝ }
-{
-    let mut c = Cursor {
-        pos: from,
-        terms: 1,
-        goals: 0,
-    };
-    loop {
-        match walk_step(s, c) {
-            Step::Variable(v, d) => match image_of(event, at, n, v) {
-                Image::Bound(_, _) => return true,
-                Image::Free => c = d,
-            },
-            Step::Other(d) => c = d,
-            Step::Done => return false,
         }
     }
 }

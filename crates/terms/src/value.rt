@@ -16,22 +16,22 @@ ghost use Rattle.terms.specs.BetRow.{Bets};
 ghost use Rattle.terms.specs.Outcome.{value};
 ghost use Rattle.terms.specs.ValueService.{Replied, reply-into, value-reply};
 
-// S(v) under the n bets at `at` of the event. The value is left in a; the table and b are for the work.
+// S(v) under the n bets at `at` of the event. The value is left in the output; the tables are for the pairs of the bets.
 pub fn variable_value(
     event: &[u8],
     at: usize,
     n: usize,
     v: u16,
-    table: &mut [usize],
-    a: &mut [u8],
-    b: &mut [u8],
+    places: &mut [usize],
+    firsts: &mut [usize],
+    out: &mut [u8],
 ) -> Sized
     requires { ⌜ Bets (now event) at n ⌝ }
-    requires { ⌜ Buffers (now event) (now table) (now a) (now b) ⌝ }
-    ensures { λ r. ⌜ ((p : Bets (now (event .entry)) at n) → Answered (p .bets) (var v) (now (a .exit)) r) ⌝ }
+    requires { ⌜ Buffers (now event) (now places) (now firsts) (now out) ⌝ }
+    ensures { λ r. ⌜ ((p : Bets (now (event .entry)) at n) → Answered (p .bets) (var v) (now (out .exit)) r) ⌝ }
 {
     let term: [u8; 3] = [1, (v / 256) as u8, (v % 256) as u8];
-    apply_bets(event, at, n, &term, 0, 3, table, a, b)
+    apply_bets(event, at, n, &term, 0, places, firsts, out)
 }
 
 // Questions 5 and 8, and then S(v) as bare term bytes at the start of the output.
@@ -46,16 +46,17 @@ pub fn put_value(event: &[u8], at: usize, n: usize, v: u16, out: &mut [u8]) -> E
             length: 0,
         };
     }
-    let mut table: [usize; 4096] = [0; 4096];
-    let mut a: [u8; 8192] = [0; 8192];
-    let mut b: [u8; 8192] = [0; 8192];
-    let Sized::Fits(m) = variable_value(event, at, n, v, &mut table, &mut a, &mut b) else {
+    let mut places: [usize; 6554] = [0; 6554];
+    let mut firsts: [usize; 6554] = [0; 6554];
+    let mut value: [u8; 8192] = [0; 8192];
+    let Sized::Fits(m) = variable_value(event, at, n, v, &mut places, &mut firsts, &mut value)
+    else {
         return Emit {
             number: 8,
             length: 0,
         };
     };
-    let length = put_range(out, 0, &a, Range { from: 0, to: m });
+    let length = put_range(out, 0, &value, Range { from: 0, to: m });
     Emit { number: 0, length }
 }
 

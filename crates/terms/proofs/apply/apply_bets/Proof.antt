@@ -1,35 +1,18 @@
-use Rattle.terms.specs.Answered.{answered, copied, not-copied, gathered-here, binding-held}
-use Rattle.terms.specs.Applied.{held-limit}
-use Rattle.terms.specs.Pairs.{term-inside}
-use mathlib.Core.Path.{sym, _∙_}
+use Rattle.terms.specs.Answered.{answered}
+use Rattle.terms.specs.Applied.{term-on}
 use borrow.Author.Needs.{needs}
 use Rattle.terms.proofs.apply.apply_bets.Statement.{statement}
 use Rattle.terms.proofs.apply.apply_bets.Tie as tie
 
-put-piece-requires : tie.Need-put-piece-requires
-put-piece-requires c κs = term-inside (c .before .before .before .before .before .before .pre .1 .0 .term) (c .before .before .before .before .before .before .pre .1 .0 .stands)
+list-bets-requires : tie.Need-list-bets-requires
+list-bets-requires c κs = search needs
 
-enum-known-len : tie.Need-enum-known-len
-enum-known-len c = search needs
-
-enum-told : tie.Need-enum-told
-enum-told c = search needs
+put-under-requires : tie.Need-put-under-requires
+put-under-requires c κs =
+    let pre = c .before .before .before .before .before .before .before .before .before .before .before .before .before .before .before .pre in (c .before .before .before .before .before .before .before .list-bets .ensures (pre .0) .table, term-on (pre .1 .0 .1))
 
 same-length : tie.Need-same-length
 same-length c = search needs
-
-returns : tie.Need-returns
-returns c = λ p q. not-copied q (c .before .before .before .before .put-piece .ensures) (c .before .before .before .before .before .before .before .before .before .before .before .pre .1 .1 .first) (c .enum-told .given .1)
-
-gather-requires : tie.Need-gather-requires
-gather-requires c κs = search needs
-
-apply-places-requires : tie.Need-apply-places-requires
-apply-places-requires c κs =
-    let p = c .before .before .before .before .before .before .before .before .before .before .before .before .before .before .before .before .before .before .before .pre .0 in
-    let f = c .before .before .before .before .before .before .before .before .before .before .before .before .put-piece .ensures in
-    let w = c .before .before .before .before .before .before .before .before .before .before .before .before .before .before .before .before .before .before .before .pre .1 .1 in
-    (gathered-here p (c .before .before .before .before .before .gather .ensures p), (copied (c .before .before .before .before .before .before .before .before .before .before .before .before .before .before .before .before .before .before .before .pre .1 .0) f (c .before .before .before .before .before .before .before .before .len .given .1), w .second ∙ sym (w .first) ∙ sym (f .kept)))
 
 same-length-2 : tie.Need-same-length-2
 same-length-2 c = search needs
@@ -37,27 +20,17 @@ same-length-2 c = search needs
 same-length-3 : tie.Need-same-length-3
 same-length-3 c = search needs
 
-same-length-4 : tie.Need-same-length-4
-same-length-4 c = search needs
-
-returns-2 : tie.Need-returns-2
-returns-2 c = λ p q.
-    let f = c .before .before .before .before .before .before .before .before .before .before .before .before .before .before .before .before .before .put-piece .ensures in
-    let w = c .before .before .before .before .before .before .before .before .before .before .before .before .before .before .before .before .before .before .before .before .before .before .before .before .pre .1 .1 in
-    answered (same-length-3 c ∙ w .first) (binding-held (p .bets) (q .term) (held-limit (c .before .before .before .before .apply-places .ensures (gathered-here p (c .before .before .before .before .before .before .before .before .before .before .gather .ensures p)) (copied q f (c .before .before .before .before .before .before .before .before .before .before .before .before .before .len .given .1))) (f .kept ∙ w .first)))
+returns : tie.Need-returns
+returns c =
+    λ p to q. let listed = c .before .before .before .before .before .before .before .before .before .before .list-bets .ensures p in answered listed q (c .before .before .before .before .before .before .before .before .before .before .before .before .before .before .before .before .before .before .pre .1 .1 .limit) (c .before .before .put-under .ensures (listed .table))
 
 pub apply-bets-spec : {M : Type 1} → statement M
 apply-bets-spec =
     tie.close
     (tie.spec
-    put-piece-requires
-    enum-known-len
-    enum-told
+    list-bets-requires
+    put-under-requires
     same-length
-    returns
-    gather-requires
-    apply-places-requires
     same-length-2
     same-length-3
-    same-length-4
-    returns-2)
+    returns)

@@ -8,11 +8,9 @@ use Rattle.terms.proofs.equality.unifier_by.Tie as tie
 slice-aggregate-apply-bets : tie.Need-slice-aggregate-apply-bets
 slice-aggregate-apply-bets c = search needs
 
-slice-aggregate-apply-bets-2 : tie.Need-slice-aggregate-apply-bets-2
-slice-aggregate-apply-bets-2 c = search needs
-
 apply-bets-requires : tie.Need-apply-bets-requires
-apply-bets-requires c κs = search needs
+apply-bets-requires c κs =
+    let p = c .before .before .before .before .before .before .before .pre in (p .0, ((_, p .1 .0), record { entries = p .1 .1 .1 .0; same = p .1 .1 .1 .1; limit = search needs }))
 
 enum-known-k : tie.Need-enum-known-k
 enum-known-k c = search needs
@@ -23,46 +21,53 @@ enum-told c = search needs
 same-length : tie.Need-same-length
 same-length c = search needs
 
+same-length-2 : tie.Need-same-length-2
+same-length-2 c = search needs
+
 returns : tie.Need-returns
 returns c =
-    λ p s t. left-large (s .term) (t .term) (c .before .before .before .before .before .before .apply-bets .ensures p s) (c .enum-told .given .1)
+    λ p s t. left-large (s .term) (t .term) (c .before .before .before .before .before .before .before .apply-bets .ensures p _ s) (c .enum-told .given .1)
 
 array-share-prefix-a : tie.Need-array-share-prefix-a
 array-share-prefix-a c =
-    let p = c .before .before .before .before .before .before .before .before .before .before .before .before .before .before .pre in value-length (p .1 .0 .term) (c .before .before .before .before .before .before .before .apply-bets .ensures (p .0) (p .1 .0)) (c .before .k .given .1)
+    let p = c .before .before .before .before .before .before .before .before .before .before .before .before .before .before .before .before .pre in value-length (p .1 .0 .term) (c .before .before .before .before .before .before .before .before .apply-bets .ensures (p .0) _ (p .1 .0)) (c .before .k .given .1)
 
 slice-aggregate-unifier-with : tie.Need-slice-aggregate-unifier-with
 slice-aggregate-unifier-with c =
-    let p = c .before .before .before .before .before .before .before .before .before .before .before .before .before .before .before .pre in sym (part-length _ _ (value-length (p .1 .0 .term) (c .before .before .before .before .before .before .before .before .apply-bets .ensures (p .0) (p .1 .0)) (c .before .before .k .given .1)))
+    let p = c .before .before .before .before .before .before .before .before .before .before .before .before .before .before .before .before .before .pre in sym (part-length _ _ (value-length (p .1 .0 .term) (c .before .before .before .before .before .before .before .before .before .apply-bets .ensures (p .0) _ (p .1 .0)) (c .before .before .k .given .1)))
 
 unifier-with-requires : tie.Need-unifier-with-requires
 unifier-with-requires c κs =
-    let p = c .before .before .before .before .before .before .before .before .before .before .before .before .before .before .before .before .before .pre in (p .0, (p .1 .1 .0, (search needs, one-value (p .1 .0 .term) (c .before .before .before .before .before .before .before .before .before .before .apply-bets .ensures (p .0) (p .1 .0)) (c .before .before .before .before .k .given .1) (p .0 .formed) (p .1 .0 .formed))))
-
-same-length-2 : tie.Need-same-length-2
-same-length-2 c = search needs
+    let p = c .before .before .before .before .before .before .before .before .before .before .before .before .before .before .before .before .before .before .before .before .pre in (p .0, (p .1 .1 .0, (search needs, (search needs, one-value (p .1 .0 .term) (c .before .before .before .before .before .before .before .before .before .before .before .before .apply-bets .ensures (p .0) _ (p .1 .0)) (c .before .before .before .before .before .k .given .1) (p .0 .formed) (p .1 .0 .formed)))))
 
 same-length-3 : tie.Need-same-length-3
 same-length-3 c = search needs
 
+same-length-4 : tie.Need-same-length-4
+same-length-4 c = search needs
+
+same-length-5 : tie.Need-same-length-5
+same-length-5 c = search needs
+
 returns-2 : tie.Need-returns-2
 returns-2 c =
-    λ p s t. left-within (s .term) (t .term) (c .before .before .before .before .before .before .before .before .before .before .before .before .before .before .before .apply-bets .ensures p s) (c .before .before .before .before .before .before .before .before .before .k .given .1) (c .before .before .before .before .unifier-with .ensures p (one-value (s .term) (c .before .before .before .before .before .before .before .before .before .before .before .before .before .before .before .apply-bets .ensures p s) (c .before .before .before .before .before .before .before .before .before .k .given .1) (p .formed) (s .formed)) t)
+    λ p s t. let a = c .before .before .before .before .before .before .before .before .before .before .before .before .before .before .before .before .before .before .before .apply-bets .ensures p _ s in let k = c .before .before .before .before .before .before .before .before .before .before .before .before .k .given .1 in left-within (s .term) (t .term) a k (c .before .before .before .before .before .before .unifier-with .ensures p (one-value (s .term) a k (p .formed) (s .formed)) t)
 
 pub unifier-by-spec : {M : Type 1} → statement M
 unifier-by-spec =
     tie.close
     (tie.spec
     slice-aggregate-apply-bets
-    slice-aggregate-apply-bets-2
     apply-bets-requires
     enum-known-k
     enum-told
     same-length
+    same-length-2
     returns
     array-share-prefix-a
     slice-aggregate-unifier-with
     unifier-with-requires
-    same-length-2
     same-length-3
+    same-length-4
+    same-length-5
     returns-2)

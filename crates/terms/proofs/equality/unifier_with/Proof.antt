@@ -8,11 +8,9 @@ use Rattle.terms.proofs.equality.unifier_with.Tie as tie
 slice-aggregate-apply-bets : tie.Need-slice-aggregate-apply-bets
 slice-aggregate-apply-bets c = search needs
 
-slice-aggregate-apply-bets-2 : tie.Need-slice-aggregate-apply-bets-2
-slice-aggregate-apply-bets-2 c = search needs
-
 apply-bets-requires : tie.Need-apply-bets-requires
-apply-bets-requires c κs = search needs
+apply-bets-requires c κs =
+    let p = c .before .before .before .before .before .before .before .before .pre in (p .0, ((_, p .1 .0), record { entries = p .1 .1 .0; same = p .1 .1 .1 .0; limit = search needs }))
 
 enum-known-m : tie.Need-enum-known-m
 enum-known-m c = search needs
@@ -23,46 +21,53 @@ enum-told c = search needs
 same-length : tie.Need-same-length
 same-length c = search needs
 
+same-length-2 : tie.Need-same-length-2
+same-length-2 c = search needs
+
 returns : tie.Need-returns
 returns c =
-    λ p v t. right-large (v .value .term) (t .term) (c .before .before .before .before .before .before .apply-bets .ensures p t) (c .enum-told .given .1)
+    λ p v t. right-large (v .value .term) (t .term) (c .before .before .before .before .before .before .before .apply-bets .ensures p _ t) (c .enum-told .given .1)
 
 array-share-prefix-b : tie.Need-array-share-prefix-b
 array-share-prefix-b c =
-    let p = c .before .before .before .before .before .before .before .before .before .before .before .before .before .before .before .pre in value-length (p .1 .0 .term) (c .before .before .before .before .before .before .before .apply-bets .ensures (p .0) (p .1 .0)) (c .before .m .given .1)
+    let p = c .before .before .before .before .before .before .before .before .before .before .before .before .before .before .before .before .before .pre in value-length (p .1 .0 .term) (c .before .before .before .before .before .before .before .before .apply-bets .ensures (p .0) _ (p .1 .0)) (c .before .m .given .1)
 
 slice-aggregate-write-unifier : tie.Need-slice-aggregate-write-unifier
 slice-aggregate-write-unifier c =
-    let p = c .before .before .before .before .before .before .before .before .before .before .before .before .before .before .before .before .pre in sym (part-length _ _ (value-length (p .1 .0 .term) (c .before .before .before .before .before .before .before .before .apply-bets .ensures (p .0) (p .1 .0)) (c .before .before .m .given .1)))
+    let p = c .before .before .before .before .before .before .before .before .before .before .before .before .before .before .before .before .before .before .pre in sym (part-length _ _ (value-length (p .1 .0 .term) (c .before .before .before .before .before .before .before .before .before .apply-bets .ensures (p .0) _ (p .1 .0)) (c .before .before .m .given .1)))
 
 write-unifier-requires : tie.Need-write-unifier-requires
 write-unifier-requires c κs =
-    let p = c .before .before .before .before .before .before .before .before .before .before .before .before .before .before .before .before .before .pre in (p .1 .1 .1, one-value (p .1 .0 .term) (c .before .before .before .before .before .before .before .before .before .apply-bets .ensures (p .0) (p .1 .0)) (c .before .before .before .m .given .1) (p .0 .formed) (p .1 .0 .formed))
-
-same-length-2 : tie.Need-same-length-2
-same-length-2 c = search needs
+    let p = c .before .before .before .before .before .before .before .before .before .before .before .before .before .before .before .before .before .before .before .pre in (p .1 .1 .1 .1, one-value (p .1 .0 .term) (c .before .before .before .before .before .before .before .before .before .before .apply-bets .ensures (p .0) _ (p .1 .0)) (c .before .before .before .m .given .1) (p .0 .formed) (p .1 .0 .formed))
 
 same-length-3 : tie.Need-same-length-3
 same-length-3 c = search needs
 
+same-length-4 : tie.Need-same-length-4
+same-length-4 c = search needs
+
+same-length-5 : tie.Need-same-length-5
+same-length-5 c = search needs
+
 returns-2 : tie.Need-returns-2
 returns-2 c =
-    λ p v t. let b = one-value (t .term) (c .before .before .before .before .before .before .before .before .before .before .before .before .apply-bets .ensures p t) (c .before .before .before .before .before .before .m .given .1) (p .formed) (t .formed) in right-within (v .value .term) (t .term) (c .before .before .before .before .before .before .before .before .before .before .before .before .apply-bets .ensures p t) (c .before .before .before .before .before .before .m .given .1) (c .before .before .write-unifier .ensures .each (v .value .term) (b .value .term) (v .value .formed) (b .value .formed) (v .value .same) (b .value .same))
+    λ p v t. let s = c .before .before .before .before .before .before .before .before .before .before .before .before .before .apply-bets .ensures p _ t in let m = c .before .before .before .before .before .before .m .given .1 in let b = one-value (t .term) s m (p .formed) (t .formed) in right-within (v .value .term) (t .term) s m (c .before .before .write-unifier .ensures .each (v .value .term) (b .value .term) (v .value .formed) (b .value .formed) (v .value .same) (b .value .same))
 
 pub unifier-with-spec : {M : Type 1} → statement M
 unifier-with-spec =
     tie.close
     (tie.spec
     slice-aggregate-apply-bets
-    slice-aggregate-apply-bets-2
     apply-bets-requires
     enum-known-m
     enum-told
     same-length
+    same-length-2
     returns
     array-share-prefix-b
     slice-aggregate-write-unifier
     write-unifier-requires
-    same-length-2
     same-length-3
+    same-length-4
+    same-length-5
     returns-2)

@@ -17,7 +17,8 @@ slice-aggregate-variable-value-3 : tie.Need-slice-aggregate-variable-value-3
 slice-aggregate-variable-value-3 c = search needs
 
 variable-value-requires : tie.Need-variable-value-requires
-variable-value-requires c κs = search needs
+variable-value-requires c κs =
+    let p = c .before .before .before .before .before .before .pre in (p .0, record { entries = omega (arith, p .1); same = search needs; limit = search needs })
 
 enum-known-m : tie.Need-enum-known-m
 enum-known-m c = search needs

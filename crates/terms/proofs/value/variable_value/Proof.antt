@@ -14,7 +14,7 @@ slice-aggregate-apply-bets : tie.Need-slice-aggregate-apply-bets
 slice-aggregate-apply-bets c = search needs
 
 apply-bets-requires : tie.Need-apply-bets-requires
-apply-bets-requires c κs = (c .before .before .before .before .before .before .before .before .pre .0, (variable-at _ (omega arith), c .before .before .before .before .before .before .before .before .pre .1))
+apply-bets-requires c κs = (c .before .before .before .before .before .before .before .before .pre .0, ((3, variable-at _ (omega arith)), c .before .before .before .before .before .before .before .before .pre .1))
 
 same-length : tie.Need-same-length
 same-length c = search needs
@@ -26,7 +26,7 @@ same-length-3 : tie.Need-same-length-3
 same-length-3 c = search needs
 
 returns : tie.Need-returns
-returns c = λ p. c .before .before .before .before .before .before .apply-bets .ensures p (variable-at _ (omega arith))
+returns c = λ p. c .before .before .before .before .before .before .apply-bets .ensures p 3 (variable-at _ (omega arith))
 
 pub variable-value-spec : {M : Type 1} → statement M
 variable-value-spec =

@@ -1,8 +1,8 @@
 use Rattle.terms.specs.BetRow.{head-pairs}
 use mathlib.Core.Path.{sym, ap, _∙_}
 use borrow.Author.Needs.{needs}
-use Rattle.terms.proofs.apply.pairs_at.Statement.{statement}
-use Rattle.terms.proofs.apply.pairs_at.Tie as tie
+use Rattle.terms.proofs.pairs.pairs_at.Statement.{statement}
+use Rattle.terms.proofs.pairs.pairs_at.Tie as tie
 
 bet-head-requires : tie.Need-bet-head-requires
 bet-head-requires c κs = search needs

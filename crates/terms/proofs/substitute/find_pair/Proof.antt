@@ -1,0 +1,71 @@
+use Rattle.terms.specs.Entries.{PairTable, entries}
+use Rattle.terms.specs.EntryLaws.{Searching, find-start, find-none, find-number, find-found, find-next}
+use mathlib.Core.List.{List, []}
+use Prim.Native.Nat.{ℕ, _≤_}
+use native.Mathlib.Omega.{arith}
+use borrow.Author.Needs.{needs}
+use Rattle.terms.proofs.substitute.find_pair.Statement.{statement}
+use Rattle.terms.proofs.substitute.find_pair.Tie as tie
+
+abbrev Inv-loop : tie.InvT-loop
+Inv-loop event places i v k₀ k = (k ≤ i) × ((firsts : List ℕ) (p : PairTable event places firsts i) → Searching (entries [] (p .bets)) v k)
+
+abbrev μ-loop : tie.MeasureT-loop
+μ-loop event places i v k₀ k = k
+
+loop-holds : tie.Need-loop-holds Inv-loop μ-loop
+loop-holds c = (omega arith, λ firsts p. find-start p _)
+
+sub-k : tie.Need-sub-k Inv-loop μ-loop
+sub-k c = search needs
+
+mul-at : tie.Need-mul-at Inv-loop μ-loop
+mul-at c = search needs
+
+shared-slice-read-at : tie.Need-shared-slice-read-at Inv-loop μ-loop
+shared-slice-read-at c = omega (arith, c .before .before .loop .inv .0, c .before .before .before .before .before .pre)
+
+word-at-requires : tie.Need-word-at-requires Inv-loop μ-loop
+word-at-requires c κs = search needs
+
+enum-known-x : tie.Need-enum-known-x Inv-loop μ-loop
+enum-known-x c = search needs
+
+enum-told : tie.Need-enum-told Inv-loop μ-loop
+enum-told c = search needs
+
+returns : tie.Need-returns Inv-loop μ-loop
+returns c = λ firsts p. absurd (find-number p (c .before .before .before .before .before .loop .inv .1 firsts p) (omega arith) (c .before .before .word-at .ensures) (c .enum-told .given .1))
+
+returns-2 : tie.Need-returns-2 Inv-loop μ-loop
+returns-2 c =
+    λ firsts p. find-found p (c .before .before .before .before .before .before .before .loop .inv .1 firsts p) (omega arith) (c .before .before .before .before .word-at .ensures) (c .before .before .x .given .1) (omega arith)
+
+loop-less : tie.Need-loop-less Inv-loop μ-loop
+loop-less c = search needs
+
+loop-again : tie.Need-loop-again Inv-loop μ-loop
+loop-again c =
+    (omega (arith, c .before .before .before .before .before .before .before .loop .inv .0), λ firsts p. find-next p (c .before .before .before .before .before .before .before .loop .inv .1 firsts p) (omega arith) (c .before .before .before .before .word-at .ensures) (c .before .before .x .given .1) (λ e. omega arith))
+
+returns-3 : tie.Need-returns-3 Inv-loop μ-loop
+returns-3 c = λ firsts p. find-none p (c .before .loop .inv .1 firsts p) (omega arith)
+
+pub find-pair-spec : {M : Type 1} → statement M
+find-pair-spec =
+    tie.close
+    (tie.spec
+    Inv-loop
+    μ-loop
+    loop-holds
+    sub-k
+    mul-at
+    shared-slice-read-at
+    word-at-requires
+    enum-known-x
+    enum-told
+    returns
+    returns-2
+    loop-less
+    loop-again
+    returns-3)

@@ -1,0 +1,96 @@
+// The pairs of a bet stack in two tables, the top bet's first: entry k has the place of a pair, and the number of entries before those of its bet.
+use crate::arguments::position;
+use records::ends::bet_end;
+use records::ends::term_end;
+use records::heads::BetHead;
+use records::heads::bet_head;
+ghost use mathlib.Core.Path.{_≡_};
+ghost use Prim.Native.Nat.{_+_, _*_, _≤_};
+ghost use lib.ListN.{length};
+ghost use Rattle.records.specs.Heads.{bet-head-at};
+ghost use Rattle.terms.specs.BetRow.{BetHere, Bets, bet-pairs, head-pairs};
+ghost use Rattle.terms.specs.Entries.{Listed};
+ghost use Rattle.terms.specs.Listing.{Filled};
+ghost use Rattle.terms.specs.Pairs.{Pairs};
+
+// How many pairs the bet at a position has; OR and BY have none.
+pub fn pairs_at(event: &[u8], at: usize) -> usize
+    ensures { λ r. ⌜ r ≡ head-pairs (bet-head-at (now (event .entry)) at) ⌝ }
+{
+    match bet_head(event, at) {
+        BetHead::Unifier(n) => n,
+        BetHead::Or(_) => 0,
+        BetHead::By => 0,
+        BetHead::NoBet => 0,
+    }
+}
+
+// The n pairs at `at`, all of one bet, from entry `first` on. Gives the number of entries there are then.
+fn list_pairs(
+    event: &[u8],
+    at: usize,
+    n: usize,
+    first: usize,
+    places: &mut [usize],
+    firsts: &mut [usize],
+) -> usize
+    requires { ⌜ Pairs (now event) at n ⌝ }
+    requires { ⌜ first + n ≤ length (now places) ⌝ }
+    requires { ⌜ length (now firsts) ≡ length (now places) ⌝ }
+    ensures { λ r. ⌜ ((p : Pairs (now (event .entry)) at n) → Filled (now (event .entry)) (p .bindings) first (now (places .entry)) (now (firsts .entry)) (now (places .exit)) (now (firsts .exit)) r) ⌝ }
+{
+    let end = first + n;
+    let mut pos = at;
+    let mut k = first;
+    while k < end {
+        places[k] = pos;
+        firsts[k] = first;
+        pos = position(term_end(event, pos + 2));
+        k += 1;
+    }
+    k
+}
+
+// The pairs of the bet at `at`, from entry `first` on.
+fn list_bet(
+    event: &[u8],
+    at: usize,
+    first: usize,
+    places: &mut [usize],
+    firsts: &mut [usize],
+) -> usize
+    requires { ⌜ BetHere (now event) at ⌝ }
+    requires { ⌜ first + head-pairs (bet-head-at (now event) at) ≤ length (now places) ⌝ }
+    requires { ⌜ length (now firsts) ≡ length (now places) ⌝ }
+    ensures { λ r. ⌜ ((p : BetHere (now (event .entry)) at) → Filled (now (event .entry)) (bet-pairs (p .bet)) first (now (places .entry)) (now (firsts .entry)) (now (places .exit)) (now (firsts .exit)) r) ⌝ }
+{
+    let n = pairs_at(event, at);
+    if n == 0 {
+        return first;
+    }
+    list_pairs(event, at + 3, n, first, places, firsts)
+}
+
+// All pairs of the n bets at `at`, and how many these are. A pair has at least 5 bytes.
+pub fn list_bets(
+    event: &[u8],
+    at: usize,
+    n: usize,
+    places: &mut [usize],
+    firsts: &mut [usize],
+) -> usize
+    requires { ⌜ Bets (now event) at n ⌝ }
+    requires { ⌜ length (now event) ≤ 5 * length (now places) ⌝ }
+    requires { ⌜ length (now firsts) ≡ length (now places) ⌝ }
+    ensures { λ r. ⌜ ((p : Bets (now (event .entry)) at n) → Listed (p .bets) (now (event .entry)) (now (places .exit)) (now (firsts .exit)) r) ⌝ }
+{
+    let mut pos = at;
+    let mut left = n;
+    let mut k = 0;
+    while 0 < left {
+        k = list_bet(event, pos, k, places, firsts);
+        pos = position(bet_end(event, pos));
+        left = left - 1;
+    }
+    k
+}

@@ -22,7 +22,7 @@ class Walk:
 
     def shown(self, kind, goal, all_answers):
         """the lines to be compared with Prolog's; goal: the query whose answers are wanted"""
-        return {'ports': self.ports, 'goals': self.goals, 'atoms': self.atoms}[kind]() if kind != 'answers' else self.answers(goal, all_answers)
+        return self.answers(goal, all_answers) if kind == 'answers' else {'ports': self.ports, 'goals': self.goals, 'atoms': self.atoms}[kind]()
 
     def ports(self):
         return [f'{WORDS[e.port]} {e.depth}' for e in self.events]

@@ -47,26 +47,29 @@ impl Walk {
         assert_eq!(desk.run(&self.program, &self.last, self.steps, true, &mut out), (0, self.steps));
     }
 
-    /// Nanoseconds a step where each step crosses the boundary, and the mean length of an event.
-    fn single(&self, desk: &dyn Desk, back: bool) -> (f64, f64) {
-        let (mut here, mut there, mut bytes) = (vec![0; ROOM], vec![0; ROOM], 0);
+    /// Over the whole walk by single steps; the lengths of its events together.
+    fn stepped(&self, desk: &dyn Desk, back: bool) -> usize {
+        let (mut here, mut there) = (vec![0; ROOM], vec![0; ROOM]);
         let from = if back { &self.last } else { &self.first };
-        let time = nanoseconds(|| {
-            here[..from.len()].copy_from_slice(from);
-            bytes = from.len();
-            for _ in 0..self.steps {
-                let event = record_at(&here);
-                let number = if back { desk.back(&self.program, event, &mut there) } else { desk.forward(&self.program, event, &mut there) };
-                assert_eq!(number, 0);
-                std::mem::swap(&mut here, &mut there);
-                bytes += record_at(&here).len();
-            }
-        });
-        (time / f64::from(self.steps), bytes as f64 / f64::from(self.steps + 1))
+        here[..from.len()].copy_from_slice(from);
+        let mut bytes = from.len();
+        for _ in 0..self.steps {
+            let event = record_at(&here);
+            let number = if back { desk.back(&self.program, event, &mut there) } else { desk.forward(&self.program, event, &mut there) };
+            assert_eq!(number, 0);
+            std::mem::swap(&mut here, &mut there);
+            bytes += record_at(&here).len();
+        }
+        bytes
+    }
+
+    /// Nanoseconds a step where each step crosses the boundary.
+    fn single(&self, desk: &dyn Desk, back: bool) -> f64 {
+        nanoseconds(|| _ = self.stepped(desk, back)) / f64::from(self.steps)
     }
 
     pub fn mean_length(&self, desk: &dyn Desk) -> f64 {
-        self.single(desk, false).1
+        self.stepped(desk, false) as f64 / f64::from(self.steps + 1)
     }
 }
 
@@ -77,13 +80,12 @@ fn rate(nanoseconds: f64) -> String {
 
 fn row(name: &str, walk: &Walk, desk: &dyn Desk, twin: &dyn Desk, prolog: &Rates) -> String {
     let (forward, back) = (walk.run(desk, false), walk.run(desk, true));
-    let (single, length) = walk.single(desk, false);
-    let (single_back, _) = walk.single(desk, true);
+    let (single, single_back) = (walk.single(desk, false), walk.single(desk, true));
     let (twin_forward, twin_back) = (walk.run(twin, false), walk.run(twin, true));
     let (tracer, boxes) = (1e9 / prolog.tracer[name], 1e9 / prolog.boxes[name]);
     let rates = [forward, back, single, single_back, twin_forward, twin_back, tracer, boxes].map(rate);
     let ratios = [twin_forward, tracer, boxes].map(|other| format!("{:.2}", other / forward));
-    format!("| {name} | {} | {length:.0} | {} | {} |", walk.steps, rates.join(" | "), ratios.join(" | "))
+    format!("| {name} | {} | {:.0} | {} | {} |", walk.steps, walk.mean_length(desk), rates.join(" | "), ratios.join(" | "))
 }
 
 pub fn table(folder: &Path, desk: &dyn Desk, twin: &dyn Desk) {

@@ -9,7 +9,7 @@ use std::{env, thread};
 /// A call with an output of 32,768 bytes.
 type Call = fn(&mut [u8]) -> u32;
 
-const CASES: [(&str, Call); 9] = [
+const CASES: [(&str, Call); 11] = [
     ("nothing", |_| 0),
     ("canonical", |out| raw::canonical(&record(&listed(&[clause(5, 1, &[nested(8_186, &variable(0))], &TRUE)])), out)),
     ("first", |out| raw::first(&record(&equality(&variable(0), &nested(8_188, &symbol(2, &[])))), out)),
@@ -17,6 +17,8 @@ const CASES: [(&str, Call); 9] = [
     ("back", |out| raw::back(&program(&[]), &event(3, &doubly_nested(), &[], &[]), out)),
     ("run", |out| raw::run(&program(&[]), &event(3, &doubly_nested(), &[], &[]), 1, 1, out, &mut 0)),
     ("value", |out| raw::value(&event(1, &TRUE, &[], &[unifier(&[(0, nested(8_184, &symbol(2, &[])))])]), 0, out, &mut 0)),
+    ("value, renamed", |out| raw::value(&event(1, &TRUE, &[], &renamed()), 0, out, &mut 0)),
+    ("run, renamed", |out| raw::run(&program(&[]), &event(1, &equality(&variable(0), &variable(0)), &[], &renamed()), 1, 0, out, &mut 0)),
     ("lookup", |_| raw::lookup(&program(&[]), &event(1, &equality(&variable(0), &nested(8_187, &symbol(2, &[]))), &[], &[]), &mut 0) as u32),
     ("count", |_| raw::count(&mut Default::default(), &event(1, &equality(&variable(0), &nested(8_187, &symbol(2, &[]))), &[], &[]))),
 ];
@@ -24,6 +26,11 @@ const CASES: [(&str, Call); 9] = [
 /// g(V0, f(..f(V2)..)) = g(f(..f(V1)..), V1), both values as long as question 8 lets pass: V0 becomes a term of 4,090 levels.
 fn doubly_nested() -> Vec<u8> {
     equality(&symbol(5, &[variable(0), nested(2_045, &variable(2))]), &symbol(5, &[nested(2_045, &variable(1)), variable(1)]))
+}
+
+/// As many bets as fit, each of which gives the variable another number: one level for each.
+fn renamed() -> Vec<Vec<u8>> {
+    (0..4_090).rev().map(|v| unifier(&[(v, variable(v + 1))])).collect()
 }
 
 /// Does the case pass on a thread of that many KiB?
@@ -44,7 +51,7 @@ fn measured() {
                 less = kib;
             }
         }
-        println!("{name:<10} {enough:>5} KiB");
+        println!("{name:<14} {enough:>5} KiB");
     }
 }
 

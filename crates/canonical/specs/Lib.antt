@@ -5,6 +5,7 @@ pub mod PredicateLaws
 pub mod LookupLaws
 pub mod FormedLaws
 pub mod ServiceLaws
+pub mod Demand
 pub mod Sizes
 pub mod SizeLaws
 pub mod Order

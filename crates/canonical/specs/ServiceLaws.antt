@@ -1,12 +1,14 @@
--- Laws of the service: what it writes passes the program's questions 1 to 4 and says the clauses' canonical form; every number has its reason.
+-- Laws of the service: what it writes passes the program's questions 1 to 4 and says the clauses' canonical form; for clauses that were read it is done
+-- exactly where questions 5, 9 and 10 say yes; where it is not done, the output is untouched.
 use mathlib.Core.Path.{_≡_, refl, sym, ap, _∙_}
+use mathlib.Core.Logic.{_↔_}
 use mathlib.Core.Bool.{Bool, true, false}
 use mathlib.Core.List.{List, [], _∷_, _++_}
 use Prim.Native.Nat.{ℕ, suc, _+_, _≤_, _<_}
 use native.Mathlib.Omega.{arith}
 use lib.Dec.{leb}
 use lib.ListN.{length, drop, length-append, length-drop}
-use borrow.Author.Tests.{leb-true}
+use borrow.Author.Tests.{leb-true, le-leb}
 use Rattle.records.specs.Syntax.{Definition, Clause}
 use Rattle.records.specs.Encode.{counted, definition-bytes, record-of, program-record}
 use Rattle.records.specs.RecordRules.{every}
@@ -29,6 +31,10 @@ canonical-read s b cs e f n =
 passed : (q : Question) (b : Bool) (next : Answer) (ds : List Definition) → ask q b next ≡ gives ds → (b ≡ true) × (next ≡ gives ds)
 passed q true next ds e = (refl, e)
 passed q false next ds e = absurd (let z : _≡_ {A = ℕ} 0 1 = cc in omega arith)
+
+-- a record says one list of clauses
+pub same-clauses : (cs ds : List Clause) → tree cs ≡ tree ds → cs ≡ ds
+same-clauses cs ds e = cc
 
 -- what is given: the clauses were read, there is room, and the program is their canonical form, whose locals and whose record fit
 pub record Gives (clauses : List ℕ) (room : ℕ) (ds : List Definition) : Type 0 where
@@ -109,6 +115,22 @@ canonical-done clauses b out h = go (answered (length out) (read-clauses clauses
               ap read-program (front-record (counted definition-bytes ds) (drop (length (program-record ds)) out) (body-short ds (g .short)))
               ∙ gives-read clauses b (length out) ds e ∙ ap tree (g .form);
         }
+
+-- done exactly where the output passes question 5, and the canonical form's locals and its record pass 9 and 10
+pub canonical-done-iff : (clauses out : List ℕ) (cs : List Clause) → read-clauses clauses ≡ tree cs
+    → (canonical-record clauses out .number ≡ 0)
+    ↔ ((32768 ≤ length out) × (every locals-fit (canonical cs) ≡ true) × (length (program-record (canonical cs)) ≤ 32768))
+unfolding canonical-record answered made reply
+canonical-done-iff clauses out cs h =
+    (go (answered (length out) (read-clauses clauses)) refl, λ k. rw (h, le-leb 32768 (length out) (k .0), k .1, le-leb (length (program-record (canonical cs))) 32768 (k .2)))
+  where
+    go : (a : Answer) → answered (length out) (read-clauses clauses) ≡ a → reply out a .number ≡ 0
+        → (32768 ≤ length out) × (every locals-fit (canonical cs) ≡ true) × (length (program-record (canonical cs)) ≤ 32768)
+    go (refused q) e n = absurd (question-positive q n)
+    go (gives ds) e n =
+        let g = answered-gives clauses (length out) ds e in
+        let same : ds ≡ canonical cs = g .form ∙ ap canonical (same-clauses (g .read) cs (sym (g .reads) ∙ h)) in
+        (g .roomy, rw same at (g .locals-small), rw same at (g .short))
 
 -- not done: the output is untouched
 pub canonical-refused : (clauses out : List ℕ) → (canonical-record clauses out .number ≡ 0 → ⊥) → canonical-record clauses out .output ≡ out

@@ -39,6 +39,25 @@ given-body Φ too-many c k f g = tt
 given-body Φ undefined c k f g = f refl
 given-body Φ (defined b) c k f g = g b refl
 
+-- one event either way, where questions 8 and 9 say yes
+pub unifier-either : (x : Unified) (c : Event) → (x ≡ too-large → ⊥) → by-unifier x c (λ m. c) ≡ gives c
+unfolding by-unifier
+unifier-either too-large c h = absurd (h refl)
+unifier-either clash c h = refl
+unifier-either (unified m) c h = refl
+
+pub body-either : (x : Body) (c : Event) → (x ≡ too-many → ⊥) → by-body x c (λ g. c) ≡ gives c
+unfolding by-body
+body-either too-many c h = absurd (h refl)
+body-either undefined c h = refl
+body-either (defined g) c h = refl
+
+pub given-unifier-either : (Φ : Event → Type 0) (x : Unified) (c : Event) → ((x ≡ too-large → ⊥) → Φ c) → Given Φ (by-unifier x c (λ m. c))
+given-unifier-either Φ x c f = given-unifier Φ x c (λ m. c) (λ h. f (λ k. true≢false cc)) (λ m h. f (λ k. true≢false cc))
+
+pub given-body-either : (Φ : Event → Type 0) (x : Body) (c : Event) → ((x ≡ too-many → ⊥) → Φ c) → Given Φ (by-body x c (λ g. c))
+given-body-either Φ x c f = given-body Φ x c (λ g. c) (λ h. f (λ k. true≢false cc)) (λ g h. f (λ k. true≢false cc))
+
 -- the same for the bet on top; what is claimed may speak of the whole stack
 pub given-top-unifier : (Φ : List Bet → Event → Type 0) (s : List Bet) (k : List Binding → List Bet → Answer)
     → ((m : List Binding) (t : List Bet) → Given (Φ (unifier m ∷ t)) (k m t)) → Given (Φ s) (top-unifier s k)

@@ -4,7 +4,7 @@ use mathlib.Core.Logic.{_↔_}
 use mathlib.Core.Bool.{Bool, true, false, true≢false}
 use mathlib.Core.List.{List, [], _∷_}
 use mathlib.Core.Option.{Option, none, some}
-use Rattle.records.specs.Syntax.{Goal, truth, failure, equal, conj, disj, atom, first, second, Ancestor, called, in-conj, in-disj, Binding, Bet, unifier, or, by, Port, call, exit, fail, redo, Event, event, goal?}
+use Rattle.records.specs.Syntax.{Goal, truth, failure, equal, conj, disj, atom, first, second, called, in-conj, in-disj, Binding, unifier, or, by, call, exit, fail, redo, Event, event, goal?}
 use Rattle.records.specs.Question.{Question, possible, matches, values, locals}
 use Rattle.terms.specs.Outcome.{Unified, too-large, clash, unified}
 use Rattle.terms.specs.Body.{Body, too-many, undefined, defined}
@@ -12,10 +12,10 @@ use Rattle.stepper.specs.Machine.{Machine, Answer, refused, gives, answe
 use Rattle.stepper.specs.Rules.{half, matching, by-unifier, by-body, fitting, ununifiable, step-forward, candidate, checked, step-back}
 use Rattle.stepper.specs.Answers.{matching-no, matching-refused, fitting-passes}
 use Rattle.stepper.specs.Listed.{Rule, conj-call, conj-exit-first, conj-fail-first, conj-exit-second, conj-fail-second, conj-redo, disj-call, disj-fail-first, disj-fail-second, disj-exit-first, disj-exit-second, disj-redo, true-call, true-redo, fail-call, equal-call, equal-clash, equal-redo, atom-call, atom-undefined, atom-exit, atom-fail, atom-redo}
-use Rattle.stepper.specs.Sources.{Own}
-use Rattle.stepper.specs.SourceLaws.{source-candidate}
+use Rattle.stepper.specs.Sources.{Own, Candidate}
+use Rattle.stepper.specs.SourceLaws.{always-unified, always-defined, source-candidate, candidate-iff, candidate-ruled}
 use Rattle.stepper.specs.RefusalLaws.{OnRefused, nothing}
-use Rattle.stepper.specs.ListedLaws.{disj-exit}
+use Rattle.stepper.specs.ListedLaws.{forward-iff}
 use Rattle.stepper.specs.Refusals.{Begins, BackRefusal, walk-begins, no-right-side, exit-value-too-large, fail-value-too-large, body-local-too-large, fail-local-too-large, candidate-too-large, leads-elsewhere}
 
 differ : (c : Event) (q : Question) → gives c ≡ refused q → ⊥
@@ -63,13 +63,6 @@ module _ (N : Machine) where
   right-side-asks c e atom-redo h = sourced c e atom-redo tt h
   right-side-asks c e equal-redo h = by-unifier-asks (N .unify _ _ _) _ _ h
   right-side-asks c e atom-fail h = by-body-asks (N .body _ _ _ _) _ _ h
-
--- machines whose every unifier, or every body, is the one given
-abbrev unifying : List Binding → Machine
-unifying m = record { unify = λ s l r. unified m; body = λ p ts u s. undefined; limit = λ e. none }
-
-abbrev defining : Goal → Machine
-defining g = record { unify = λ s l r. clash; body = λ p ts u s. defined g; limit = λ e. none }
 
 module _ (M : Machine) where
   -- an event that the first question 7 refuses under every machine
@@ -138,46 +131,23 @@ module _ (M : Machine) where
   unfolding candidate
   begins-refused (event call g [] []) w = refl
 
-  -- a right side that asks for the goal a, where no rule leads to the event
-  unmatched : (p : Port) (u : List Ancestor) (s : List Bet) (g a : Goal) (c : Event) → Rule M c (event p a u s)
-      → ((N : Machine) (c : Event) → Rule N c (event p g u s) → ⊥) → matching (goal? g a) c ≡ refused matches
-  unmatched p u s g a c r n = matching-no (goal? g a) c (λ h. n M c (subst (λ x. Rule M c (event p x u s)) (sym h) r))
+  -- where no rule leads to the event, only 7 refuses
+  only-matches : (e : Event) (q : Question) → (Begins e → ⊥) → ((N : Machine) (c : Event) → Rule N c e → ⊥) → BackRefusal M e q → q ≡ matches
+  only-matches e q w n (walk-begins b) = absurd (w b)
+  only-matches e q w n (no-right-side b m) = refl
+  only-matches e q w n (exit-value-too-large {m = m} h) = absurd (n (always-unified m) _ (equal-call refl))
+  only-matches e q w n (fail-value-too-large h) = absurd (n nothing _ (equal-clash refl))
+  only-matches e q w n (body-local-too-large {g = g} h) = absurd (n (always-defined g) _ (atom-call refl))
+  only-matches e q w n (fail-local-too-large h) = absurd (n nothing _ (atom-undefined refl))
+  only-matches e q w n (candidate-too-large {c = c} k u l) = let r = candidate-ruled M c e k in absurd (n (r .0) c (r .1))
+  only-matches e q w n (leads-elsewhere k l f) = refl
 
   unled-refused : (e : Event) → (Begins e → ⊥) → ((N : Machine) (c : Event) → Rule N c e → ⊥) → candidate M e ≡ refused matches
-  unfolding candidate
-  unled-refused (event call g [] []) w n = absurd (w tt)
-  unled-refused (event call g [] (b ∷ s)) w n = refl
-  unled-refused (event call g (in-conj first a b ∷ u) s) w n = unmatched call _ s g a _ conj-call n
-  unled-refused (event call g (in-conj second a b ∷ u) s) w n = unmatched call _ s g b _ conj-exit-first n
-  unled-refused (event call g (in-disj first a b ∷ u) s) w n = unmatched call _ s g a _ disj-call n
-  unled-refused (event call g (in-disj second a b ∷ u) s) w n = unmatched call _ s g b _ disj-fail-first n
-  unled-refused (event call g (called p ts ∷ u) s) w n = absurd (n (defining g) (event call (atom p ts) u s) (atom-call refl))
-  unled-refused (event exit truth u s) w n = absurd (n M (event call truth u s) true-call)
-  unled-refused (event exit failure u s) w n = refl
-  unled-refused (event exit (equal l r) u []) w n = refl
-  unled-refused (event exit (equal l r) u (unifier m ∷ s)) w n = absurd (n (unifying m) (event call (equal l r) u s) (equal-call refl))
-  unled-refused (event exit (equal l r) u (or k ∷ s)) w n = refl
-  unled-refused (event exit (equal l r) u (by g ∷ s)) w n = refl
-  unled-refused (event exit (conj a b) u s) w n = absurd (n M (event exit b (in-conj second a b ∷ u) s) conj-exit-second)
-  unled-refused (event exit (disj a b) u []) w n = refl
-  unled-refused (event exit (disj a b) u (unifier m ∷ s)) w n = refl
-  unled-refused (event exit (disj a b) u (or k ∷ s)) w n = absurd (n M (event exit (half k a b) (in-disj k a b ∷ u) s) (disj-exit M k a b u s))
-  unled-refused (event exit (disj a b) u (by g ∷ s)) w n = refl
-  unled-refused (event exit (atom p ts) u []) w n = refl
-  unled-refused (event exit (atom p ts) u (unifier m ∷ s)) w n = refl
-  unled-refused (event exit (atom p ts) u (or k ∷ s)) w n = refl
-  unled-refused (event exit (atom p ts) u (by g ∷ s)) w n = absurd (n M (event exit g (called p ts ∷ u) s) atom-exit)
-  unled-refused (event fail truth u s) w n = absurd (n M (event redo truth u s) true-redo)
-  unled-refused (event fail failure u s) w n = absurd (n M (event call failure u s) fail-call)
-  unled-refused (event fail (equal l r) u s) w n = absurd (n nothing (event call (equal l r) u s) (equal-clash refl))
-  unled-refused (event fail (conj a b) u s) w n = absurd (n M (event fail a (in-conj first a b ∷ u) s) conj-fail-first)
-  unled-refused (event fail (disj a b) u s) w n = absurd (n M (event fail b (in-disj second a b ∷ u) s) disj-fail-second)
-  unled-refused (event fail (atom p ts) u s) w n = absurd (n nothing (event call (atom p ts) u s) (atom-undefined refl))
-  unled-refused (event redo g [] s) w n = refl
-  unled-refused (event redo g (in-conj first a b ∷ u) s) w n = unmatched redo _ s g a _ conj-fail-second n
-  unled-refused (event redo g (in-conj second a b ∷ u) s) w n = unmatched redo _ s g b _ conj-redo n
-  unled-refused (event redo g (in-disj k a b ∷ u) s) w n = unmatched redo _ s g (half k a b) _ (disj-redo k) n
-  unled-refused (event redo g (called p ts ∷ u) s) w n = absurd (n M (event redo (atom p ts) u (by g ∷ s)) atom-redo)
+  unled-refused e w n = go (candidate M e) refl
+    where
+      go : (a : Answer) → candidate M e ≡ a → candidate M e ≡ refused matches
+      go (refused q) k = k ∙ ap refused (only-matches e q w n (subst (OnRefused (BackRefusal M e)) k (candidate-refusal e)))
+      go (gives c) k = let r = candidate-ruled M c e (candidate-iff M e c .0 k) in absurd (n (r .0) c (r .1))
 
   -- every listed refusal is made
   refusal-made : (e : Event) (q : Question) → BackRefusal M e q → step-back M e ≡ refused q
@@ -188,22 +158,23 @@ module _ (M : Machine) where
   refusal-made e q (fail-value-too-large h) = rw h
   refusal-made e q (body-local-too-large h) = rw h
   refusal-made e q (fail-local-too-large h) = rw h
-  refusal-made e q (candidate-too-large k u l) = ap (checked M e) k ∙ rw (u, l)
+  refusal-made e q (candidate-too-large {c = c} k u l) = ap (checked M e) (candidate-iff M e c .1 k) ∙ rw (u, l)
   refusal-made e q (leads-elsewhere {c = c} k l n) =
-      ap (checked M e) k ∙ fitting-passes (ununifiable M c) (M .limit c) _ l ∙ matching-no (answer? (step-forward M c) (gives e)) c n
+      ap (checked M e) (candidate-iff M e c .1 k) ∙ fitting-passes (ununifiable M c) (M .limit c) _ l
+      ∙ matching-no (answer? (step-forward M c) (gives e)) c (λ h. n (forward-iff M c e .0 h))
 
   -- and no other
   refusal-listed : (e : Event) (q : Question) → step-back M e ≡ refused q → BackRefusal M e q
   unfolding step-back checked fitting
   refusal-listed e q h = go (candidate M e) refl h
     where
-      last : (c : Event) → candidate M e ≡ gives c → (ununifiable M c ≡ false → M .limit c ≡ none)
+      last : (c : Event) → Candidate M c e → (ununifiable M c ≡ false → M .limit c ≡ none)
           → matching (answer? (step-forward M c) (gives e)) c ≡ refused q → BackRefusal M e q
       last c k l h =
           let r = matching-refused (answer? (step-forward M c) (gives e)) c q h in
-          subst (BackRefusal M e) (r .1) (leads-elsewhere k l (r .0))
+          subst (BackRefusal M e) (r .1) (leads-elsewhere k l (λ f. r .0 (forward-iff M c e .1 f)))
 
-      asked : (c : Event) → candidate M e ≡ gives c → (b : Bool) (o : Option Question) → ununifiable M c ≡ b → M .limit c ≡ o
+      asked : (c : Event) → Candidate M c e → (b : Bool) (o : Option Question) → ununifiable M c ≡ b → M .limit c ≡ o
           → fitting b o (matching (answer? (step-forward M c) (gives e)) c) ≡ refused q → BackRefusal M e q
       asked c k true o u l h = last c k (λ z. absurd (true≢false (sym u ∙ z))) h
       asked c k false none u l h = last c k (λ z. l) h
@@ -211,7 +182,7 @@ module _ (M : Machine) where
 
       go : (a : Answer) → candidate M e ≡ a → checked M e a ≡ refused q → BackRefusal M e q
       go (refused p) k h = let same : p ≡ q = cc in subst (BackRefusal M e) same (subst (OnRefused (BackRefusal M e)) k (candidate-refusal e))
-      go (gives c) k h = asked c k (ununifiable M c) (M .limit c) refl refl h
+      go (gives c) k h = asked c (candidate-iff M e c .0 k) (ununifiable M c) (M .limit c) refl refl h
 
   -- a step back is refused exactly as listed
   pub back-refused-iff : (e : Event) (q : Question) → (step-back M e ≡ refused q) ↔ BackRefusal M e q

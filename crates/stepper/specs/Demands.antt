@@ -2,6 +2,7 @@
 -- A `Program` is bytes that pass questions 1 to 4. A `Start` is a query for which the query service gave the first event with 0. A `Move` is a
 -- direction and a lent buffer of any length and content. `served c q ms` is a list of steps ms under the program c from q's first event: the record
 -- at which it ends, and how many steps forward and how many back were accepted; each step gets the record that the last accepted one gave.
+-- `DemandsExample` has one of each.
 use mathlib.Core.Path.{_≡_}
 use mathlib.Core.Logic.{_↔_, _⊎_}
 use mathlib.Core.List.{List}
@@ -65,6 +66,8 @@ module _ (c : Program layers) where
       → ((served c q ms .event ≡ start q) × (serve layers (c .program) (back-into b) (served c q ms .event) ≡ none))
       ⊎ CameFrom layers (c .program) (served c q ms .event) b
   demand-2-reached = came-from layers lawful c
+
+  -- (That clauses become the canonical form which the rules work on is the last page of the crate `canonical`, `Demand`.)
 
   -- Demand 3. For every two lists of steps forward and back, in any mixture and refused ones included, under one program and each from the first
   -- event of a query: the events d and e that they end at are equal in port, goal, ancestor stack and bet stack exactly when the two queries are

@@ -8,8 +8,8 @@ use Rattle.stepper.specs.Rules.{fitting, rule, ununifiable, limited, ste
 use Rattle.stepper.specs.Answers.{Given, matching-yes, fitting-none}
 use Rattle.stepper.specs.Listed.{Rule}
 use Rattle.stepper.specs.ListedLaws.{rule-follows, forward-iff}
-use Rattle.stepper.specs.Sources.{Own, Source}
-use Rattle.stepper.specs.SourceLaws.{source-candidate, candidate-own}
+use Rattle.stepper.specs.Sources.{Source}
+use Rattle.stepper.specs.SourceLaws.{source-candidate, candidate-iff, candidate-own}
 use Rattle.stepper.specs.Limits.{clash-limit, put-always}
 
 module _ (M : Machine) (ignores : IgnoresPort M) where
@@ -39,7 +39,7 @@ module _ (M : Machine) (ignores : IgnoresPort M) where
     where
       go : (a : Answer) → candidate M e ≡ a → checked M e (candidate M e) ≡ limited M false (candidate M e)
       go (refused q) k = ap (checked M e) k ∙ sym (ap (limited M false) k)
-      go (gives c) k = back-put c e l (subst (Given (λ c. Rule M c e)) k r, subst (Given (Own M)) k (candidate-own M e)) ∙ sym (ap (limited M false) k)
+      go (gives c) k = back-put c e l (subst (Given (λ c. Rule M c e)) k r, candidate-own M c e (candidate-iff M e c .0 k)) ∙ sym (ap (limited M false) k)
 
   -- a refusal by a question before 10
   pub forward-refuses : (e : Event) → {q : _} → rule M e ≡ refused q → step-forward M e ≡ refused q

@@ -9,9 +9,10 @@ use Rattle.records.specs.Syntax.{Term, Terms, Goal, equal, atom, Ancestor, call
 use Rattle.records.specs.Question.{Question, possible, matches, values, locals}
 use Rattle.terms.specs.Outcome.{too-large}
 use Rattle.terms.specs.Body.{too-many}
-use Rattle.stepper.specs.Machine.{Machine, gives}
-use Rattle.stepper.specs.Rules.{ununifiable, step-forward, candidate}
+use Rattle.stepper.specs.Machine.{Machine}
+use Rattle.stepper.specs.Rules.{ununifiable}
 use Rattle.stepper.specs.Listed.{Rule}
+use Rattle.stepper.specs.Sources.{Candidate}
 
 -- exit or fail with no ancestors: no walk forward is possible
 abbrev pub Ends : Event → Type 0
@@ -62,7 +63,8 @@ module _ (M : Machine) where
         → M .body p ts u s ≡ too-many → BackRefusal (event fail (atom p ts) u s) locals
     -- 10: does the candidate fit 32,768 bytes? Not put for two terms that can't be unified.
     candidate-too-large : {e c : Event} {q : Question}
-        → candidate M e ≡ gives c → ununifiable M c ≡ false → M .limit c ≡ some q → BackRefusal e q
+        → Candidate M c e → ununifiable M c ≡ false → M .limit c ≡ some q → BackRefusal e q
     -- 7 once more: does the candidate step forward to the given event?
     leads-elsewhere : {e c : Event}
-        → candidate M e ≡ gives c → (ununifiable M c ≡ false → M .limit c ≡ none) → (step-forward M c ≡ gives e → ⊥) → BackRefusal e matches
+        → Candidate M c e → (ununifiable M c ≡ false → M .limit c ≡ none)
+        → (Rule M c e × (ununifiable M c ≡ false → M .limit e ≡ none) → ⊥) → BackRefusal e matches

@@ -1,10 +1,12 @@
 -- The rules read from right to left (document 01, "Step back"): `Source M c e` says that c is the source of e.
 -- Two right sides have two sources; the source is then the one whose unifier or body is the one that its call has.
+-- `Candidate M c e` says that c is the candidate of a step back from e: the source, as far as the first question 7 looks.
 use mathlib.Core.Path.{_≡_}
 use mathlib.Core.List.{List, [], _∷_}
-use Rattle.records.specs.Syntax.{Goal, truth, failure, equal, conj, disj, atom, Ancestor, called, in-conj, in-disj, Bet, unifier, or, by, call, exit, fail, redo, Event, event}
-use Rattle.terms.specs.Outcome.{unified}
-use Rattle.terms.specs.Body.{defined}
+use Prim.Native.Nat.{ℕ}
+use Rattle.records.specs.Syntax.{Term, Terms, Goal, truth, failure, equal, conj, disj, atom, Ancestor, called, in-conj, in-disj, Binding, Bet, unifier, or, by, call, exit, fail, redo, Event, event}
+use Rattle.terms.specs.Outcome.{too-large, unified}
+use Rattle.terms.specs.Body.{too-many, defined}
 use Rattle.stepper.specs.Machine.{Machine}
 use Rattle.stepper.specs.Listed.{Rule}
 
@@ -38,3 +40,15 @@ module _ (M : Machine) where
   -- if P has no definition, else from fail of P's body
   abbrev pub Source : Event → Event → Type 0
   Source c e = Rule M c e × Own c
+
+  -- Questions 8 and 9 say yes, and c is the candidate for e. Unifiers and bodies are compared by the last question 7; until then call T1=T2 and
+  -- call P stand for the one source of exit T1=T2 and of call B under P.
+  pub data Candidate : Event → Event → Type 0 where
+    -- the rule read from right to left
+    source : {c e : Event} → Source c e → Candidate c e
+    -- exit T1=T2 with a unifier on S, whichever it is, comes from call
+    any-unifier : {l r : Term} {u : List Ancestor} {s : List Bet} {m : List Binding}
+        → (M .unify s l r ≡ too-large → ⊥) → Candidate (event call (equal l r) u s) (event exit (equal l r) u (unifier m ∷ s))
+    -- call B under P, whatever B is, comes from call P
+    any-body : {p : ℕ} {ts : Terms} {g : Goal} {u : List Ancestor} {s : List Bet}
+        → (M .body p ts u s ≡ too-many → ⊥) → Candidate (event call (atom p ts) u s) (event call g (called p ts ∷ u) s)

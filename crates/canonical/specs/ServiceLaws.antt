@@ -3,8 +3,8 @@
 use mathlib.Core.Path.{_≡_, refl, sym, ap, _∙_}
 use mathlib.Core.Logic.{_↔_}
 use mathlib.Core.Bool.{Bool, true, false}
-use mathlib.Core.List.{List, [], _∷_, _++_}
-use Prim.Native.Nat.{ℕ, suc, _+_, _≤_, _<_}
+use mathlib.Core.List.{List, _++_}
+use Prim.Native.Nat.{ℕ, _≤_, _<_}
 use native.Mathlib.Omega.{arith}
 use lib.Dec.{leb}
 use lib.ListN.{length, drop, length-append, length-drop}
@@ -13,11 +13,11 @@ use Rattle.records.specs.Syntax.{Definition, Clause}
 use Rattle.records.specs.Encode.{counted, definition-bytes, record-of, program-record}
 use Rattle.records.specs.RecordRules.{every}
 use Rattle.records.specs.HeadLaws.{Bytes}
-use Rattle.records.specs.Question.{Asked, framing, version, grammar, rules, Question, of-program, of-event, output, possible, matches, values, locals, fits, number as question-number}
+use Rattle.records.specs.Question.{framing, version, grammar, rules, Question, of-program, of-event, output, possible, matches, values, locals, fits, number as question-number}
 use Rattle.records.specs.Gate.{Reading, tree, read-clauses, read-program}
 use Rattle.records.specs.GateLaws.{front, front-record, clauses-tree, program-read}
 use Rattle.canonical.specs.Canonical.{canonical}
-use Rattle.canonical.specs.Service.{Answer, refused, gives, ask, locals-fit, record-fits, made, answered, Reply, reply, canonical-record}
+use Rattle.canonical.specs.Service.{Answer, refused, gives, ask, locals-fit, record-fits, made, answered, reply, canonical-record}
 use Rattle.canonical.specs.FormedLaws.{canonical-formed, canonical-rules}
 
 -- a canonical form whose locals and whose record fit passes questions 1 to 4 of a program

@@ -9,9 +9,9 @@ use lib.ListN.{length, replicate, length-replicate}
 use borrow.Author.Tests.{le-ltb}
 use Rattle.records.specs.Syntax.{var, app, nil, equal}
 use Rattle.records.specs.Encode.{record-of}
-use Rattle.records.specs.RecordRules.{event-rules, program-rules}
+use Rattle.records.specs.RecordRules.{unifier-rules, event-rules, program-rules}
 use Rattle.records.specs.Reader.{read}
-use Rattle.records.specs.Items.{many, read-counted, read-goal, read-definition, read-stacks, read-frame, read-event-bytes}
+use Rattle.records.specs.Items.{many, read-counted, read-goal, read-binding, read-bet, read-definition, read-stacks, read-frame, read-event-bytes}
 use Rattle.records.specs.Gate.{framed, of-version, read-record}
 use Rattle.terms.specs.Substitution.{apply}
 use Rattle.terms.specs.Unify.{unify}
@@ -22,15 +22,15 @@ use Rattle.stepper.specs.Services.{record-limit, first-record, step-reco
 use Rattle.stepper.specs.Desk.{layers}
 
 -- the program of no definitions, 00 03 01 00 00
-pub example-program : Program layers
+pub program-example : Program layers
 unfolding read-record framed of-version many read-definition read-counted program-rules
-example-program = record { program = 0x00 ∷ 0x03 ∷ 0x01 ∷ 0x00 ∷ 0x00 ∷ []; bytes = omega arith; definitions = []; reads = refl }
+program-example = record { program = 0x00 ∷ 0x03 ∷ 0x01 ∷ 0x00 ∷ 0x00 ∷ []; bytes = omega arith; definitions = []; reads = refl }
 
 module _ (out : List ℕ) (room : 32768 ≤ length out) where
   -- the query V0=c, 00 09 01 12 01 00 00 02 00 02 00
-  pub example-start : Start layers
+  pub start-example : Start layers
   unfolding first-record first-event record-limit record-of read-record framed of-version read read-goal
-  example-start = record {
+  start-example = record {
     query = 0x00 ∷ 0x09 ∷ 0x01 ∷ 0x12 ∷ 0x01 ∷ 0x00 ∷ 0x00 ∷ 0x02 ∷ 0x00 ∷ 0x02 ∷ 0x00 ∷ [];
     bytes = omega arith;
     buffer = out;
@@ -39,21 +39,21 @@ module _ (out : List ℕ) (room : 32768 ≤ length out) where
     done = rw (le-ltb (length out) 32768 room);
   }
 
-  -- a step forward is accepted, and leads to the record of its exit with one bet
-  pub example-served : (a : List ℕ) → 32768 ≤ length a
-      → served example-program example-start (forward-into a ∷ [])
+  -- of two steps forward the first is accepted, and leads to the record of exit V0=c with one bet; the second is refused, since the walk ends there
+  pub served-example : (a : List ℕ) → 32768 ≤ length a
+      → served program-example start-example (forward-into a ∷ forward-into a ∷ [])
       ≡ record {
         event = 0x00 ∷ 0x17 ∷ 0x01 ∷ 0x02 ∷ 0x12 ∷ 0x01 ∷ 0x00 ∷ 0x00 ∷ 0x02 ∷ 0x00 ∷ 0x02 ∷ 0x00 ∷ 0x00 ∷ 0x00 ∷ 0x00 ∷ 0x01
             ∷ 0x20 ∷ 0x00 ∷ 0x01 ∷ 0x00 ∷ 0x00 ∷ 0x02 ∷ 0x00 ∷ 0x02 ∷ 0x00 ∷ [];
         forwards = 1;
         backs = 0;
       }
-  unfolding example-program example-start walk serve step-record read-frame read-stacks read-event-bytes event-rules unified-under value-under apply unify ℕ-discrete
-  example-served a k = rw (le-ltb (length out) 32768 room, le-ltb (length a) 32768 k)
+  unfolding program-example start-example walk serve step-record read-frame read-stacks read-event-bytes read-bet read-binding event-rules unifier-rules unified-under value-under apply unify ℕ-discrete
+  served-example a k = rw (le-ltb (length out) 32768 room, le-ltb (length a) 32768 k)
 
 -- a buffer that passes question 5
 zeros : (n : ℕ) → n ≤ length (replicate {A = ℕ} n 0)
 zeros n = omega (arith, length-replicate {A = ℕ} n 0)
 
-pub example-closed : Start layers
-example-closed = example-start (replicate 32768 0) (zeros 32768)
+pub start-closed : Start layers
+start-closed = start-example (replicate 32768 0) (zeros 32768)

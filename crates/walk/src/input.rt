@@ -1,27 +1,37 @@
 // Records from standard input, each read to its end and no further.
-ghost use Prim.Native.Nat.{_≤_, _<_};
+use records::gate::program_number;
+use records::gate::program_verdict;
+use walk_text::input::named;
+ghost use Prim.Native.Nat.{_+_, _≤_};
 ghost use lib.ListN.{length};
+ghost use Rattle.walk.specs.Reading.{PartRead, RecordRead, QueryRead};
 
-fn wide(b: u8) -> usize
-    ensures { λ r. ⌜ r < 256 ⌝ }
+// Reads n bytes to a place of the buffer, or as many as the input still has.
+fn read_part(buf: &mut [u8], from: usize, n: usize) -> usize
+    requires { ⌜ from + n ≤ length (now buf) ⌝ }
+    ensures { λ r. ⌜ PartRead from n (now (buf .entry)) r (now (buf .exit)) ⌝ }
 {
-    b as usize
+    let to = from + n;
+    io::read_full(0, &mut buf[from..to])
 }
 
-// Reads a record to the start of the buffer and gives how many bytes there are of it. Where the input ends before the record does, or the
-// length field is over 32,766, what was read is no record: question 1 says no to it.
+// Reads a record to the start of the buffer and gives how many bytes were read of it.
 pub fn read_record(buf: &mut [u8]) -> usize
     requires { ⌜ 32768 ≤ length (now buf) ⌝ }
-    ensures { λ r. ⌜ r ≤ length (now (buf .exit)) ⌝ }
+    ensures { λ r. ⌜ RecordRead (now (buf .exit)) r ⌝ }
 {
-    let got = io::read_full(0, &mut buf[0..2]);
-    if got < 2 {
-        return got;
+    let field = read_part(buf, 0, 2);
+    let n = named(&buf[..field]);
+    field + read_part(buf, 2, n)
+}
+
+// Reads the query's record. Where the program is refused nothing more is read.
+pub fn read_query(program: &[u8], buf: &mut [u8]) -> usize
+    requires { ⌜ 32768 ≤ length (now buf) ⌝ }
+    ensures { λ r. ⌜ QueryRead (now (program .entry)) (now (buf .entry)) r (now (buf .exit)) ⌝ }
+{
+    if program_number(program_verdict(program)) != 0 {
+        return 0;
     }
-    let n = wide(buf[0]) * 256 + wide(buf[1]);
-    if 32766 < n {
-        return 2;
-    }
-    let end = n + 2;
-    2 + io::read_full(0, &mut buf[2..end])
+    read_record(buf)
 }

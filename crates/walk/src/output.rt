@@ -1,32 +1,33 @@
-// Lines to standard output: the stop line alone, or the pages of a walk, each by one call.
-use crate::line::put_stop;
-use crate::page::fill_page;
-ghost use Prim.Native.Nat.{_≤_};
-ghost use lib.ListN.{length};
-ghost use Rattle.walk.specs.Page.{Ready};
+// A text to standard output, page after page, each by one call.
+use walk_text::text::is_done;
+use walk_text::text::next_page;
+use walk_text::text::whole;
+ghost use Rattle.walk_text.specs.Text.{text};
+ghost use Rattle.walk.specs.Writing.{Handed, Output};
 
-// The stop line of a record or a first event that is refused.
-pub fn print_stop(number: u8) {
-    let mut line = [0u8; 26];
-    let n = put_stop(&mut line, 0, number);
-    io::write_all(1, &line[0..n]);
+// Whether all bytes were written.
+fn write_bytes(bytes: &[u8]) -> bool
+    ensures { λ r. ⌜ Handed (now (bytes .entry)) r ⌝ }
+{
+    io::write_all(1, bytes)
 }
 
-// The text of a walk from its first event, whose record has the first `start` bytes of `here`. A page that can't be written is the last.
-pub fn print_walk(program: &[u8], here: &mut [u8], start: usize, there: &mut [u8], page: &mut [u8])
-    requires { ⌜ Ready (now program) (now here) start (now there) ⌝ }
-    requires { ⌜ 94 ≤ length (now page) ⌝ }
+// Prints the text of two records, and answers whether it was written whole. A page that can't be written is the last.
+pub fn print_text(program: &[u8], query: &[u8]) -> bool
+    ensures { λ r. ⌜ Output (text (now (program .entry)) (now (query .entry))) r ⌝ }
 {
-    let mut len = start;
-    let mut step = 0;
+    let mut page: [u8; 65536] = [0; 65536];
+    let mut rest = whole();
     loop {
-        let p = fill_page(program, here, len, there, step, page);
+        let p = next_page(program, query, rest, &mut page);
         let used = p.used;
-        let written = io::write_all(1, &page[0..used]);
-        if p.done || !written {
-            return;
+        if !write_bytes(&page[..used]) {
+            return false;
         }
-        len = p.length;
-        step = p.step;
+        rest = p.rest;
+        let stage = rest.stage;
+        if is_done(stage) {
+            return true;
+        }
     }
 }

@@ -1,0 +1,48 @@
+-- A record is read by two calls, of which the second leaves the length field as it is; and how long it is at most.
+use mathlib.Core.Path.{_≡_, refl, sym, ap, _∙_}
+use mathlib.Core.Bool.{true≢false}
+use mathlib.Core.List.{List}
+use Prim.Native.Nat.{ℕ, _+_, _≤_}
+use native.Mathlib.Omega.{arith}
+use lib.ListN.{take}
+use lib.Seq.{take-take}
+use Rattle.records.specs.Syntax.{Definition}
+use Rattle.records.specs.Question.{Asked}
+use Rattle.records.specs.Gate.{Reading, refused, tree, read-program, verdict, program-number}
+use Rattle.terms.specs.AcceptedLaws.{program-refused, program-passed}
+use Rattle.walk_text.specs.Input.{named}
+use Rattle.walk_text.specs.InputLaws.{named-most}
+use Rattle.walk.specs.Reading.{delivered-most, PartRead, RecordRead, QueryRead}
+
+pub record-read : {before between after : List ℕ} {field n rest : ℕ} → PartRead 0 2 before field between → n ≡ named (take field between)
+    → PartRead 2 n between rest after → RecordRead after (field + rest)
+record-read {between = between} {after} {field} {n} {rest} a is b =
+    let h = delivered-most (a .count) in
+    let same : take field after ≡ take field between = sym (take-take field 2 after h) ∙ ap (take field) (b .kept) ∙ take-take field 2 between h in
+    record { field = field; rest = rest; field-read = a .count; rest-read = rw (same, ← is) (b .count); length-is = refl }
+
+-- a record that was read has at most 32,768 bytes
+pub record-within : {buffer : List ℕ} {r : ℕ} → RecordRead buffer r → r ≤ 32768
+record-within {buffer} w = omega (arith, w .length-is, delivered-most (w .field-read), delivered-most (w .rest-read), named-most (take (w .field) buffer))
+
+pub query-within : {program before after : List ℕ} {r : ℕ} → QueryRead program before r after → r ≤ 32768
+query-within {program} {r = r} w = go (read-program program) refl
+  where
+    go : (o : Reading (List Definition)) → read-program program ≡ o → r ≤ 32768
+    go (refused q) h = omega (arith, w .unread q h .0)
+    go (tree P) h = record-within (w .record-read (rw h tt))
+
+-- the query of a refused program, and of an accepted one
+module _ {program before : List ℕ} {n : ℕ} (is : n ≡ program-number (verdict (read-program program))) where
+  pub query-unread : (n ≡ 0 → ⊥) → QueryRead program before 0 before
+  query-unread z =
+      let r = program-refused (read-program program) is z in
+      record { unread = λ q h. (refl, refl); record-read = λ a. absurd (rw (r .reading) at a) }
+
+  pub query-told : {after : List ℕ} {r : ℕ} → n ≡ 0 → RecordRead after r → QueryRead program before r after
+  query-told z w =
+      let p = program-passed (read-program program) is z in
+      record { unread = λ q h. absurd (differ (p .0) q (sym (p .1) ∙ h)); record-read = λ a. w }
+    where
+      differ : {A : Type 0} (x : A) (q : Asked) → tree x ≡ refused q → ⊥
+      differ x q e = true≢false cc

@@ -1,0 +1,24 @@
+-- What was printed: the bytes that calls of the C library took, one call after the other. Which bytes a call takes the C library says; which ones it
+-- is handed, and when there are no more, is said here.
+use mathlib.Core.Path.{_≡_}
+use mathlib.Core.Bool.{Bool, true, false}
+use mathlib.Core.List.{List, [], _++_}
+use Prim.Native.Nat.{ℕ}
+
+-- a call was handed these bytes, and answered whether it took all. The definition is shut, so that outside this file it holds of nothing but a call
+pub Handed : List ℕ → (all : Bool) → Type 0
+Handed bytes all = Unit {0}
+
+-- for the one function that makes the call
+pub handed : (bytes : List ℕ) (all : Bool) → Handed bytes all
+unfolding Handed
+handed bytes all = tt
+
+pub data Printed : List ℕ → Type 0 where
+  nothing : Printed []
+  and-then : {bytes : List ℕ} (more : List ℕ) → Printed bytes → Handed more true → Printed (bytes ++ more)
+
+-- a text was printed whole, or up to the first bytes that a call did not take
+pub data Output (text : List ℕ) : (whole : Bool) → Type 0 where
+  all-of : Printed text → Output text true
+  up-to : {bytes : List ℕ} (part later : List ℕ) → Printed bytes → Handed part false → text ≡ bytes ++ (part ++ later) → Output text false

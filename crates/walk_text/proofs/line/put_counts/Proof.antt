@@ -1,0 +1,29 @@
+use native.Mathlib.Omega.{arith}
+use Rattle.records.specs.Patched.{put-then}
+use borrow.Author.Needs.{needs}
+use Rattle.walk_text.proofs.line.put_counts.Statement.{statement}
+use Rattle.walk_text.proofs.line.put_counts.Tie as tie
+
+put-count-requires : tie.Need-put-count-requires
+put-count-requires c κs = search needs
+
+put-count-requires-2 : tie.Need-put-count-requires-2
+put-count-requires-2 c κs = search needs
+
+put-byte-requires : tie.Need-put-byte-requires
+put-byte-requires c κs = search needs
+
+same-length : tie.Need-same-length
+same-length c = search needs
+
+returns : tie.Need-returns
+returns c =
+    let feed = c .before .before in
+    let bets = feed .before .before .before .before in
+    let ancestors = bets .before .before .before .before in
+    (put-then (ancestors .put-count .ensures .0) (put-then (bets .put-count2 .ensures .0) (feed .put-byte .ensures)), omega arith)
+
+pub put-counts-spec : {M : Type 1} → statement M
+put-counts-spec =
+    tie.close
+    (tie.spec put-count-requires put-count-requires-2 put-byte-requires same-length returns)

@@ -1,0 +1,40 @@
+use native.Mathlib.Omega.{arith}
+use Rattle.records.specs.Patched.{put-then}
+use Rattle.walk_text.specs.Line.{stop-bytes}
+use borrow.Author.Needs.{needs}
+use Rattle.walk_text.proofs.line.put_stop.Statement.{statement}
+use Rattle.walk_text.proofs.line.put_stop.Tie as tie
+
+slice-aggregate-put-part : tie.Need-slice-aggregate-put-part
+slice-aggregate-put-part c = search needs
+
+put-part-requires : tie.Need-put-part-requires
+put-part-requires c κs = search needs
+
+put-count-requires : tie.Need-put-count-requires
+put-count-requires c κs = search needs
+
+put-byte-requires : tie.Need-put-byte-requires
+put-byte-requires c κs = search needs
+
+same-length : tie.Need-same-length
+same-length c = search needs
+
+returns : tie.Need-returns
+unfolding stop-bytes
+returns c =
+    let feed = c .before .before in
+    let count = feed .before .before .before .before in
+    let word = count .before .before .before .before in
+    (put-then (word .put-part .ensures) (put-then (count .put-count .ensures .0) (feed .put-byte .ensures)), omega (arith, word .put-part .ensures .place, count .put-count .ensures .1, feed .put-byte .ensures .place))
+
+pub put-stop-spec : {M : Type 1} → statement M
+put-stop-spec =
+    tie.close
+    (tie.spec
+    slice-aggregate-put-part
+    put-part-requires
+    put-count-requires
+    put-byte-requires
+    same-length
+    returns)

@@ -1,0 +1,41 @@
+use borrow.Author.Needs.{needs}
+use Rattle.walk_text.specs.RestLaws.{paged-start, paged-walking, paged-done}
+use Rattle.walk_text.proofs.text.next_page.Statement.{statement}
+use Rattle.walk_text.proofs.text.next_page.Tie as tie
+
+enum-told : tie.Need-enum-told
+enum-told c = search needs
+
+first-page-requires : tie.Need-first-page-requires
+first-page-requires c κs = search needs
+
+enum-told-2 : tie.Need-enum-told-2
+enum-told-2 c = search needs
+
+later-page-requires : tie.Need-later-page-requires
+later-page-requires c κs = search needs
+
+enum-told-3 : tie.Need-enum-told-3
+enum-told-3 c = search needs
+
+returns : tie.Need-returns
+returns c = paged-start (c .before .before .before .before .before .before .args .rest) (c .before .before .enum-told .given .1) (c .first-page .ensures)
+
+returns-2 : tie.Need-returns-2
+returns-2 c = paged-walking (c .before .before .before .before .before .before .args .rest) (c .before .before .enum-told2 .given .1) (c .later-page .ensures _)
+
+returns-3 : tie.Need-returns-3
+returns-3 c = paged-done (c .before .before .before .before .args .rest) (c .enum-told3 .given .1)
+
+pub next-page-spec : {M : Type 1} → statement M
+next-page-spec =
+    tie.close
+    (tie.spec
+    enum-told
+    first-page-requires
+    enum-told-2
+    later-page-requires
+    enum-told-3
+    returns
+    returns-2
+    returns-3)

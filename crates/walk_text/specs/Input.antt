@@ -1,0 +1,18 @@
+-- The records of the walk program's input, each found by its length field (document 01, "The gate at each call"). What is taken of an input that
+-- ends early, or whose length field is over 32,766, is a no to question 1.
+use mathlib.Core.Bool.{cond}
+use mathlib.Core.List.{List, [], _∷_}
+use Prim.Native.Nat.{ℕ, _+_}
+use lib.Dec.{ltb}
+use lib.ListN.{take}
+use Rattle.records.specs.Heads.{joined}
+
+-- how many bytes follow the length field at an input's front: none where the input ends within it, or where it names more than a record has
+unfoldable pub named : List ℕ → ℕ
+named [] = 0
+named (x ∷ []) = 0
+named (x ∷ y ∷ l) = cond (ltb 32766 (joined x y)) 0 (joined x y)
+
+-- what is taken of an input for the record at its front: the length field and the bytes that it names, as far as there are any
+unfoldable pub taken : List ℕ → List ℕ
+taken input = take (2 + named input) input

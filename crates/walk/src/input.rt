@@ -22,7 +22,8 @@ pub fn read_record(buf: &mut [u8]) -> usize
 {
     let field = read_part(buf, 0, 2);
     let n = named(&buf[..field]);
-    field + read_part(buf, 2, n)
+    let rest = read_part(buf, 2, n);
+    field + rest
 }
 
 // Reads the query's record. Where the program is refused nothing more is read.

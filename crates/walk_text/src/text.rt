@@ -141,9 +141,9 @@ fn later_page(program: &[u8], rest: Rest, page: &mut [u8; 65536]) -> Page
 {
     let event = rest.event;
     let len = least(rest.length, 32768);
-    let number = gate(program, &event[..len], 32768);
-    if number != 0 {
-        return stop_page(event, number, page);
+    let refused = gate(program, &event[..len], 32768);
+    if refused != 0 {
+        return stop_page(event, refused, page);
     }
     walk_page(program, event, len, least(rest.step, 100000), page)
 }

@@ -10,7 +10,7 @@ use borrow.Author.Tests.{lt-ltb, le-ltb, ltb-true, ltb-false}
 use lib.Dec.{ltb}
 use lib.ListN.{length, take, drop, length-append}
 use lib.Seq.{take-append-seam}
-use Rattle.records.specs.Encode.{word, record-of}
+use Rattle.records.specs.Encode.{record-of, record-head}
 use Rattle.records.specs.Question.{number}
 use Rattle.records.specs.Question.Question.{output, fits}
 use Rattle.records.specs.Patched.{Put, put-then, put-front}
@@ -104,11 +104,12 @@ pub length-record-of : (body : List ℕ) → length (record-of body) ≡ 3 + len
 unfolding record-of
 length-record-of body = simp length-append (omega arith)
 
--- a record is written by its length field, its version and its body, one after the other
-pub put-record : {before between inner body after : List ℕ} {n place next end : ℕ} → n ≡ length (record-of body)
-    → Put before 0 (word (n - 2)) between place → Put between place (1 ∷ []) inner next → Put inner next body after end
-    → Put before 0 (record-of body) after end
+-- a record is its head and its body
+pub record-head-body : {n : ℕ} (body : List ℕ) → n ≡ 3 + length body → record-head n ++ body ≡ record-of body
 unfolding record-of
-put-record {body = body} {n = n} e p q r =
-    let k : n - 2 ≡ 1 + length body = omega (arith, e ∙ length-record-of body) in
-    put-then (rw k at p) (put-then q r)
+record-head-body {n} body e = let k : n - 2 ≡ 1 + length body = omega arith in rw k refl
+
+-- and is written by them, one after the other
+pub put-record : {before between body after : List ℕ} {n next end : ℕ} → n ≡ length (record-of body)
+    → Put before 0 (record-head n) between next → Put between next body after end → Put before 0 (record-of body) after end
+put-record {body = body} e p q = rw (record-head-body body (e ∙ length-record-of body)) at (put-then p q)

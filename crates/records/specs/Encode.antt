@@ -1,6 +1,6 @@
 -- The layout: the bytes of each record kind, exactly as document 01 lists them ("Records"). A reader of the format reads this page.
 use mathlib.Core.List.{List, [], _∷_, _++_}
-use Prim.Native.Nat.{ℕ, _+_, _/_, _%_}
+use Prim.Native.Nat.{ℕ, _+_, _-_, _/_, _%_}
 use lib.ListN.{length}
 use Rattle.records.specs.Syntax.{Term, Terms, Goal, Half, Ancestor, Binding, Bet, Port, Event, Definition, Clause, arity}
 use Rattle.records.specs.Syntax.Term.{var, app}
@@ -84,6 +84,10 @@ clause-bytes (clause p v ts g) = word p ++ (arity ts ∷ (v ∷ (terms-bytes ts 
 -- a record: the length of what follows it, the version 1, the body
 unfoldable pub record-of : List ℕ → List ℕ
 record-of body = word (1 + length body) ++ (1 ∷ body)
+
+-- what a record of n bytes starts with: that length and the version
+abbrev pub record-head : ℕ → List ℕ
+record-head n = word (n - 2) ++ (1 ∷ [])
 
 -- the four record kinds
 abbrev pub query-record : Goal → List ℕ

@@ -2,12 +2,12 @@
 -- Choices: what would stand past the end is lost, so that the length never changes and nearly every law holds with no side condition;
 -- a writer's contract is one record, so that the contract of two writes, one after the other, is one word (`put-then`).
 use mathlib.Core.Path.{_≡_, refl, sym, ap, _∙_}
-use mathlib.Core.List.{List, [], _∷_, _++_, append-nil}
+use mathlib.Core.List.{List, [], _∷_, _++_, append-nil, append-assoc}
 use Prim.Native.Nat.{ℕ, zero, suc, _+_, _-_, _≤_, _<_}
 use native.Mathlib.Nat.{add-zero, add-suc, zero-add, suc-add, le-of-suc-le-suc, not-suc-le-zero, le-refl, add-assoc}
 use native.Mathlib.Numerals.{add-one}
 use native.Mathlib.Omega.{arith}
-use lib.ListN.{length, take, drop, set, getD, length-append, length-drop, drop-of-length-le}
+use lib.ListN.{length, take, drop, set, getD, length-append, length-drop, drop-of-length-le, take-append-drop}
 use lib.Seq.{take-suc, take-all}
 
 -- the list `before` with `bytes` written from index `at` on
@@ -65,6 +65,16 @@ patched-tail [] zero s = refl
 patched-tail [] (suc a) s = refl
 patched-tail (x ∷ d) zero s = refl
 patched-tail (x ∷ d) (suc a) s = ap (λ (l : List ℕ). x ∷ l) (patched-tail d a s)
+
+-- a write into a front that is long enough is a write into the list
+patched-short : (before : List ℕ) (k : ℕ) (bytes : List ℕ) → length bytes ≤ k → patched (take k before) 0 bytes ++ drop k before ≡ patched before 0 bytes
+unfolding patched
+patched-short [] zero s h = refl
+patched-short [] (suc k) s h = refl
+patched-short (x ∷ d) zero [] h = refl
+patched-short (x ∷ d) zero (y ∷ s) h = absurd (not-suc-le-zero h)
+patched-short (x ∷ d) (suc k) [] h = ap (λ (l : List ℕ). x ∷ l) (take-append-drop k d)
+patched-short (x ∷ d) (suc k) (y ∷ s) h = ap (λ (l : List ℕ). y ∷ l) (patched-short d k s (le-of-suc-le-suc h))
 
 -- a write from the start, where there is room: what was written, and then what was there past it
 pub patched-front : (before bytes : List ℕ) → length bytes ≤ length before → patched before 0 bytes ≡ bytes ++ drop (length bytes) before
@@ -129,6 +139,29 @@ put-tail {before} {at} {bytes} p = record {
       let e : length (drop at before) ≤ length before - at = rw length-drop (le-refl _) in
       rw (p .output, take-all (length before - at) (drop at before), drop-of-length-le (drop at before) e, append-nil) (patched-tail before at bytes);
 }
+
+-- a part of k elements that was lent, with room for what was written into it, and handed back
+pub put-part : {before : List ℕ} {at k : ℕ} {bytes part : List ℕ} {n : ℕ} → length bytes ≤ k → Put (take k (drop at before)) 0 bytes part n
+    → Put before at bytes (take at before ++ (part ++ drop k (drop at before))) (at + n)
+put-part {before} {at} {k} {bytes} h p = record {
+  place = ap (λ (j : ℕ). at + j) (p .place ∙ zero-add (length bytes));
+  output = rw (p .output, patched-short (drop at before) k bytes h) (patched-tail before at bytes);
+}
+
+-- two writes with n bytes between them, the first one from the start
+pub record Around (before front : List ℕ) (n : ℕ) (back after : List ℕ) (end : ℕ) : Type 0 where
+  pub between : List ℕ
+  pub place : ℕ
+  pub ahead : Put before 0 front between place
+  pub behind : Put between (place + n) back after end
+
+-- around what was put in their midst before
+pub put-around : {before : List ℕ} {at : ℕ} {front middle within : List ℕ} {next : ℕ} {back after : List ℕ} {n end : ℕ} → at ≡ length front → n ≡ length middle
+    → Put before at middle within next → Around within front n back after end → Put before 0 (front ++ (middle ++ back)) after end
+put-around {at = at} {front} {middle} {next = next} {back} {n = n} e l p a =
+    let f : at ≡ a .place = omega (arith, a .ahead .place) in
+    let g : a .place + n ≡ next = omega (arith, p .place) in
+    rw (← append-assoc front middle back) (put-then (put-ahead (rw f at p) (a .ahead)) (rw g at (a .behind)))
 
 -- one turn of a loop that copies: its store takes the copy of j bytes to the copy of j + 1
 pub put-turn : {before after : List ℕ} {at : ℕ} (bytes : List ℕ) (j : ℕ) → j < length bytes

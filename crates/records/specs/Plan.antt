@@ -1,4 +1,4 @@
--- Plans: an event as bytes to put and ranges to copy, and the record that this gives. The record is laid out as Encode says.
+-- Plans: an event as bytes to put and ranges of a source to copy, and the record that this gives. The record is laid out as Encode says.
 use mathlib.Core.List.{List, [], _∷_, _++_}
 use Prim.Native.Nat.{ℕ, _+_, min}
 use lib.ListN.{length}
@@ -25,26 +25,25 @@ piece-bytes piece source = lead-bytes (piece .lead) ++ cut source (piece .range)
 abbrev pub nothing : Piece
 nothing = record { lead = Bare; range = record { from = 0; to = 0 } }
 
--- a count, the new top from its source, and the rest from the event
-unfoldable pub stack-bytes : Stack → List ℕ → List ℕ → List ℕ
-stack-bytes stack tops event = word (stack .count) ++ (piece-bytes (stack .top) tops ++ cut event (stack .rest))
+-- a count, the new top and the rest
+unfoldable pub stack-bytes : Stack → List ℕ → List ℕ
+stack-bytes stack source = word (stack .count) ++ (piece-bytes (stack .top) source ++ cut source (stack .rest))
 
--- an event's body, from the given event, the source of the goal and the source of the new bet
-unfoldable pub planned-body : Plan → List ℕ → List ℕ → List ℕ → List ℕ
-planned-body p event goals bets =
-    p .port ∷ (piece-bytes (p .goal) goals ++ (stack-bytes (p .ancestors) event event ++ stack-bytes (p .bets) bets event))
+-- an event's body
+unfoldable pub planned-body : Plan → List ℕ → List ℕ
+planned-body p source = p .port ∷ (piece-bytes (p .goal) source ++ (stack-bytes (p .ancestors) source ++ stack-bytes (p .bets) source))
 
 -- its record
-unfoldable pub planned : Plan → List ℕ → List ℕ → List ℕ → List ℕ
-planned p event goals bets = record-of (planned-body p event goals bets)
+unfoldable pub planned : Plan → List ℕ → List ℕ
+planned p source = record-of (planned-body p source)
 
--- a plan's ranges lie in their sources
-pub record Within (p : Plan) (event goals bets : List ℕ) : Type 0 where
-  pub goal-inside : Inside (p .goal .range) goals
-  pub ancestor-inside : Inside (p .ancestors .top .range) event
-  pub ancestors-inside : Inside (p .ancestors .rest) event
-  pub bet-inside : Inside (p .bets .top .range) bets
-  pub bets-inside : Inside (p .bets .rest) event
+-- a plan's ranges lie in the source
+pub record Within (p : Plan) (source : List ℕ) : Type 0 where
+  pub goal-inside : Inside (p .goal .range) source
+  pub ancestor-inside : Inside (p .ancestors .top .range) source
+  pub ancestors-inside : Inside (p .ancestors .rest) source
+  pub bet-inside : Inside (p .bets .top .range) source
+  pub bets-inside : Inside (p .bets .rest) source
 
 -- how long a piece is, by its numbers alone
 abbrev pub piece-length : Piece → ℕ

@@ -22,13 +22,13 @@ pub length-piece : (piece : Piece) {source : List ℕ} → Inside (piece .range)
 unfolding piece-bytes
 length-piece piece h = simp (length-append, length-cut h)
 
-pub length-stack : (stack : Stack) {tops source : List ℕ} → Inside (stack .top .range) tops → Inside (stack .rest) source
-    → length (stack-bytes stack tops source) ≡ stack-length stack
+pub length-stack : (stack : Stack) {source : List ℕ} → Inside (stack .top .range) source → Inside (stack .rest) source
+    → length (stack-bytes stack source) ≡ stack-length stack
 unfolding stack-bytes
 length-stack stack h k = simp (length-append, length-piece (stack .top) h, length-cut k) (omega arith)
 
-pub length-planned-body : {p : Plan} {event goals bets : List ℕ} → Within p event goals bets
-    → length (planned-body p event goals bets) ≡ body-length p
+pub length-planned-body : {p : Plan} {source : List ℕ} → Within p source
+    → length (planned-body p source) ≡ body-length p
 unfolding planned-body
 length-planned-body {p} h =
     simp (
@@ -38,22 +38,22 @@ length-planned-body {p} h =
       length-stack (p .bets) (h .bet-inside) (h .bets-inside),
     ) (omega arith)
 
-pub length-planned : {p : Plan} {event goals bets : List ℕ} → Within p event goals bets
-    → length (planned p event goals bets) ≡ plan-length p
+pub length-planned : {p : Plan} {source : List ℕ} → Within p source
+    → length (planned p source) ≡ plan-length p
 unfolding planned
 length-planned h = simp (length-record-of, length-planned-body h) refl
 
 -- a limited length over the limit: so is the record
-pub limited-long : {p : Plan} {event goals bets : List ℕ} {n : ℕ} → Within p event goals bets → n ≡ limited (plan-length p) → 32768 < n
-    → 32768 < length (planned p event goals bets)
+pub limited-long : {p : Plan} {source : List ℕ} {n : ℕ} → Within p source → n ≡ limited (plan-length p) → 32768 < n
+    → 32768 < length (planned p source)
 limited-long {p} h e k = rw (length-planned h) (over (plan-length p) (rw e at k))
   where
     over : (m : ℕ) → 32768 < limited m → 32768 < m
     over m l = omega arith
 
 -- a limited length within the limit is the record's
-pub limited-whole : {p : Plan} {event goals bets : List ℕ} {n : ℕ} → Within p event goals bets → n ≡ limited (plan-length p) → n ≤ 32768
-    → n ≡ length (planned p event goals bets)
+pub limited-whole : {p : Plan} {source : List ℕ} {n : ℕ} → Within p source → n ≡ limited (plan-length p) → n ≤ 32768
+    → n ≡ length (planned p source)
 limited-whole {p} h e k = rw (length-planned h) (within (plan-length p) e k)
   where
     within : {n : ℕ} (m : ℕ) → n ≡ limited m → n ≤ 32768 → n ≡ m
@@ -73,26 +73,26 @@ pub nothing-bytes : (source : List ℕ) → piece-bytes nothing source ≡ []
 nothing-bytes source = piece-at nothing [] [] source refl refl refl
 
 -- a stack with x put on l
-pub stack-pushed : {A : Type 0} (f : A → List ℕ) (x : A) (l : List A) (stack : Stack) (tops source : List ℕ)
-    → stack .count ≡ length (x ∷ l) → piece-bytes (stack .top) tops ≡ f x → cut source (stack .rest) ≡ each f l
-    → stack-bytes stack tops source ≡ counted f (x ∷ l)
+pub stack-pushed : {A : Type 0} (f : A → List ℕ) (x : A) (l : List A) (stack : Stack) (source : List ℕ)
+    → stack .count ≡ length (x ∷ l) → piece-bytes (stack .top) source ≡ f x → cut source (stack .rest) ≡ each f l
+    → stack-bytes stack source ≡ counted f (x ∷ l)
 unfolding stack-bytes
-stack-pushed f x l stack tops source c t r = rw (c, t, r) refl
+stack-pushed f x l stack source c t r = rw (c, t, r) refl
 
 -- a stack on which nothing is put
-pub stack-kept : {A : Type 0} (f : A → List ℕ) (l : List A) (stack : Stack) (tops source : List ℕ)
-    → stack .count ≡ length l → piece-bytes (stack .top) tops ≡ [] → cut source (stack .rest) ≡ each f l
-    → stack-bytes stack tops source ≡ counted f l
+pub stack-kept : {A : Type 0} (f : A → List ℕ) (l : List A) (stack : Stack) (source : List ℕ)
+    → stack .count ≡ length l → piece-bytes (stack .top) source ≡ [] → cut source (stack .rest) ≡ each f l
+    → stack-bytes stack source ≡ counted f l
 unfolding stack-bytes
-stack-kept f l stack tops source c t r = rw (c, t, r) refl
+stack-kept f l stack source c t r = rw (c, t, r) refl
 
 -- a plan whose parts are those of an event gives the event's record
-pub planned-event : (p : Plan) (port : Port) (g : Goal) (u : List Ancestor) (s : List Bet) (source goals bets : List ℕ)
-    → p .port ≡ port-byte port → piece-bytes (p .goal) goals ≡ goal-bytes g
-    → stack-bytes (p .ancestors) source source ≡ counted ancestor-bytes u → stack-bytes (p .bets) bets source ≡ counted bet-bytes s
-    → planned p source goals bets ≡ event-record (event port g u s)
+pub planned-event : (p : Plan) (port : Port) (g : Goal) (u : List Ancestor) (s : List Bet) (source : List ℕ)
+    → p .port ≡ port-byte port → piece-bytes (p .goal) source ≡ goal-bytes g
+    → stack-bytes (p .ancestors) source ≡ counted ancestor-bytes u → stack-bytes (p .bets) source ≡ counted bet-bytes s
+    → planned p source ≡ event-record (event port g u s)
 unfolding planned planned-body
-planned-event p port g u s source goals bets e h k l = rw (e, h, k, l) refl
+planned-event p port g u s source e h k l = rw (e, h, k, l) refl
 
 -- its ends, from limited lengths
 pub ends-measured : (p : Plan) {piece stack goal ancestors : ℕ} → piece ≡ limited (piece-length (p .goal)) → goal ≡ limited (4 + piece)
@@ -103,11 +103,11 @@ ends-measured p {goal = goal} {ancestors} a b c d =
     rw (x, y) refl
 
 -- and its ends are the event's, where the record is not too long
-pub planned-ends : (p : Plan) (port : Port) (g : Goal) (u : List Ancestor) (s : List Bet) {source goals bets : List ℕ} → Within p source goals bets
-    → piece-bytes (p .goal) goals ≡ goal-bytes g → stack-bytes (p .ancestors) source source ≡ counted ancestor-bytes u
+pub planned-ends : (p : Plan) (port : Port) (g : Goal) (u : List Ancestor) (s : List Bet) {source : List ℕ} → Within p source
+    → piece-bytes (p .goal) source ≡ goal-bytes g → stack-bytes (p .ancestors) source ≡ counted ancestor-bytes u
     → length (event-record (event port g u s)) ≤ 32768 → plan-ends p ≡ part-ends (event port g u s)
 unfolding part-ends record-of
-planned-ends p port g u s {source} {goals} h e k l =
+planned-ends p port g u s h e k l =
     let a : piece-length (p .goal) ≡ length (goal-bytes g) = sym (length-piece (p .goal) (h .goal-inside)) ∙ ap length e in
     let b : stack-length (p .ancestors) ≡ length (counted ancestor-bytes u) = sym (length-stack (p .ancestors) (h .ancestor-inside) (h .ancestors-inside)) ∙ ap length k in
     let n : 4 + length (goal-bytes g) + length (counted ancestor-bytes u) ≤ 32768 = omega (arith, parts-together) in

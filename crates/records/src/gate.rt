@@ -5,6 +5,7 @@ use crate::ends::goals_end;
 use crate::ends::items_end;
 use crate::heads::Word;
 use crate::heads::word_at;
+use crate::kinds::*;
 use crate::rules::items_kept;
 use crate::rules::keys_rise;
 ghost use mathlib.Core.Path.{_≡_};
@@ -36,7 +37,7 @@ fn frames(s: &[u8]) -> bool
     if n < 3 {
         return false;
     }
-    if 32768 < n {
+    if RECORD_LIMIT < n {
         return false;
     }
     match word_at(s, 0) {
@@ -50,7 +51,7 @@ fn is_version_1(s: &[u8]) -> bool
     requires { ⌜ 3 ≤ length (now s) ⌝ }
     ensures { λ r. ⌜ r ≡ of-version (now (s .entry)) ⌝ }
 {
-    s[2] == 1
+    s[2] == VERSION
 }
 
 // A count and so many items.
@@ -92,10 +93,10 @@ fn port_end(s: &[u8], at: usize) -> Found
         return Found::Nothing;
     }
     let b = s[at];
-    if b < 1 {
+    if b < CALL {
         return Found::Nothing;
     }
-    if 4 < b {
+    if REDO < b {
         return Found::Nothing;
     }
     Found::At(at + 1)
@@ -127,6 +128,7 @@ fn judged(s: &[u8], e: usize, kept: bool) -> Verdict
     Verdict::Rules
 }
 
+// Questions 1 to 3 of a query; it has no rules to keep.
 pub fn query_verdict(s: &[u8]) -> Verdict
     ensures { λ r. ⌜ r ≡ verdict (read-query (now (s .entry))) ⌝ }
 {
@@ -152,6 +154,7 @@ fn bets_verdict(s: &[u8], b: usize) -> Verdict
     }
 }
 
+// Questions 1 to 4 of an event.
 pub fn event_verdict(s: &[u8]) -> Verdict
     ensures { λ r. ⌜ r ≡ verdict (read-event (now (s .entry))) ⌝ }
 {
@@ -178,6 +181,7 @@ fn program_kept(s: &[u8]) -> bool
     counted_kept(s, 3, Item::Definition)
 }
 
+// Questions 1 to 4 of a program.
 pub fn program_verdict(s: &[u8]) -> Verdict
     ensures { λ r. ⌜ r ≡ verdict (read-program (now (s .entry))) ⌝ }
 {
@@ -193,6 +197,7 @@ pub fn program_verdict(s: &[u8]) -> Verdict
     }
 }
 
+// Questions 1 to 4 of a clause record.
 pub fn clauses_verdict(s: &[u8]) -> Verdict
     ensures { λ r. ⌜ r ≡ verdict (read-clauses (now (s .entry))) ⌝ }
 {

@@ -1,4 +1,5 @@
-// The first bytes of what stands at a position: its kind and numbers. Nothing else of the crate reads a byte of a body.
+// The first bytes of what stands at a position: its kind and numbers.
+use crate::kinds::*;
 ghost use mathlib.Core.Path.{_≡_};
 ghost use Prim.Native.Nat.{_+_, _-_, _≤_, _<_};
 ghost use lib.ListN.{length, getD};
@@ -79,12 +80,12 @@ pub fn term_head(s: &[u8], at: usize) -> TermHead
     if left < 3 {
         return TermHead::NoTerm;
     }
-    let b = wide(s[at]);
+    let b = s[at];
     let n = two_bytes(s, at + 1);
-    if b == 0x01 {
+    if b == VARIABLE {
         return TermHead::Variable(n);
     }
-    if b != 0x02 {
+    if b != SYMBOL {
         return TermHead::NoTerm;
     }
     if left < 4 {
@@ -118,14 +119,14 @@ pub fn goal_head(s: &[u8], at: usize) -> GoalHead
     if s.len() <= at {
         return GoalHead::NoGoal;
     }
-    let b = wide(s[at]);
+    let b = s[at];
     match b {
-        0x10 => GoalHead::Truth,
-        0x11 => GoalHead::Failure,
-        0x12 => GoalHead::Equal,
-        0x13 => GoalHead::Conj,
-        0x14 => GoalHead::Disj,
-        0x15 => atom_head(s, at + 1),
+        TRUTH => GoalHead::Truth,
+        FAILURE => GoalHead::Failure,
+        EQUAL => GoalHead::Equal,
+        CONJ => GoalHead::Conj,
+        DISJ => GoalHead::Disj,
+        ATOM => atom_head(s, at + 1),
         _ => GoalHead::NoGoal,
     }
 }
@@ -137,15 +138,15 @@ fn half_head(s: &[u8], at: usize) -> AncestorHead
     if room(s, at) < 2 {
         return AncestorHead::NoAncestor;
     }
-    let b = wide(s[at]);
+    let b = s[at];
     let k = wide(s[at + 1]);
     if !is_tag(k) {
         return AncestorHead::NoAncestor;
     }
-    if b == 0x30 {
+    if b == IN_CONJ {
         return AncestorHead::InConj(k);
     }
-    if b == 0x31 {
+    if b == IN_DISJ {
         return AncestorHead::InDisj(k);
     }
     AncestorHead::NoAncestor
@@ -208,11 +209,11 @@ pub fn bet_head(s: &[u8], at: usize) -> BetHead
     if s.len() <= at {
         return BetHead::NoBet;
     }
-    let b = wide(s[at]);
+    let b = s[at];
     match b {
-        0x20 => unifier_head(word_at(s, at + 1)),
-        0x21 => or_head(s, at + 1),
-        0x22 => BetHead::By,
+        UNIFIER => unifier_head(word_at(s, at + 1)),
+        OR => or_head(s, at + 1),
+        BY => BetHead::By,
         _ => BetHead::NoBet,
     }
 }

@@ -1,9 +1,14 @@
-// The record of an event, written from a plan: which bytes to put, and which ranges of other records to copy.
+// The record of an event, written from a plan: which bytes to put, and which ranges of another record to copy.
+use crate::kinds::RECORD_LIMIT;
 use crate::places::PartEnds;
 use crate::put::Range;
 use crate::put::put_byte;
 use crate::put::put_range;
+use crate::put::put_record_head;
 use crate::put::put_word;
+use crate::questions::DONE;
+use crate::questions::FITS;
+use crate::questions::OUTPUT;
 ghost use mathlib.Core.Path.{_≡_};
 ghost use Prim.Native.Nat.{ℕ, _+_, _-_, _<_, _≤_};
 ghost use lib.ListN.{length};
@@ -20,7 +25,7 @@ pub enum Lead {
     Two(u8, u8),
 }
 
-// A lead, and then a range of a source.
+// A lead, and then a range of the source.
 pub struct Piece {
     pub lead: Lead,
     pub range: Range,
@@ -73,28 +78,28 @@ fn put_piece(out: &mut [u8], at: usize, piece: Piece, source: &[u8]) -> usize
     put_range(out, next, source, piece.range)
 }
 
-// A stack whose new top comes from `tops`, and the rest from the event.
-fn put_stack(out: &mut [u8], at: usize, stack: Stack, tops: &[u8], event: &[u8]) -> usize
-    requires { ⌜ Inside (stack .top .range) (now tops) ⌝ }
-    requires { ⌜ Inside (stack .rest) (now event) ⌝ }
+// A stack's count, its new top and the rest.
+fn put_stack(out: &mut [u8], at: usize, stack: Stack, source: &[u8]) -> usize
+    requires { ⌜ Inside (stack .top .range) (now source) ⌝ }
+    requires { ⌜ Inside (stack .rest) (now source) ⌝ }
     requires { ⌜ at + stack-length stack ≤ length (now out) ⌝ }
-    ensures { λ r. ⌜ Put (now (out .entry)) at (stack-bytes stack (now (tops .entry)) (now (event .entry))) (now (out .exit)) r ⌝ }
+    ensures { λ r. ⌜ Put (now (out .entry)) at (stack-bytes stack (now (source .entry))) (now (out .exit)) r ⌝ }
 {
     let top_at = put_word(out, at, stack.count);
-    let rest_at = put_piece(out, top_at, stack.top, tops);
-    put_range(out, rest_at, event, stack.rest)
+    let rest_at = put_piece(out, top_at, stack.top, source);
+    put_range(out, rest_at, source, stack.rest)
 }
 
 // An event's body.
-fn put_body(out: &mut [u8], at: usize, p: Plan, event: &[u8], goals: &[u8], bets: &[u8]) -> usize
-    requires { ⌜ Within p (now event) (now goals) (now bets) ⌝ }
+fn put_body(out: &mut [u8], at: usize, p: Plan, source: &[u8]) -> usize
+    requires { ⌜ Within p (now source) ⌝ }
     requires { ⌜ at + body-length p ≤ length (now out) ⌝ }
-    ensures { λ r. ⌜ Put (now (out .entry)) at (planned-body p (now (event .entry)) (now (goals .entry)) (now (bets .entry))) (now (out .exit)) r ⌝ }
+    ensures { λ r. ⌜ Put (now (out .entry)) at (planned-body p (now (source .entry))) (now (out .exit)) r ⌝ }
 {
     let goal_at = put_byte(out, at, p.port);
-    let ancestors_at = put_piece(out, goal_at, p.goal, goals);
-    let bets_at = put_stack(out, ancestors_at, p.ancestors, event, event);
-    put_stack(out, bets_at, p.bets, bets, event)
+    let ancestors_at = put_piece(out, goal_at, p.goal, source);
+    let bets_at = put_stack(out, ancestors_at, p.ancestors, source);
+    put_stack(out, bets_at, p.bets, source)
 }
 
 // A length, or 32,769 where it is more: no record is that long. Each part's length is limited, so that no sum wraps.
@@ -159,30 +164,29 @@ pub fn plan_ends(p: Plan) -> PartEnds
     }
 }
 
-// The record that a plan makes of an event, a source of the goal and a source of the new bet, written from the output's start.
+// The record that a plan makes of a source, written from the output's start.
 // The number is 5 for an output that is too short, 10 for a record that is too long; then nothing is written.
-pub fn emit_plan(out: &mut [u8], p: Plan, event: &[u8], goals: &[u8], bets: &[u8]) -> Emit
-    requires { ⌜ Within p (now event) (now goals) (now bets) ⌝ }
-    ensures { λ r. ⌜ Emitted (now (out .entry)) (planned p (now (event .entry)) (now (goals .entry)) (now (bets .entry))) r (now (out .exit)) ⌝ }
+pub fn emit_plan(out: &mut [u8], p: Plan, source: &[u8]) -> Emit
+    requires { ⌜ Within p (now source) ⌝ }
+    ensures { λ r. ⌜ Emitted (now (out .entry)) (planned p (now (source .entry))) r (now (out .exit)) ⌝ }
 {
-    if out.len() < 32768 {
+    if out.len() < RECORD_LIMIT {
         return Emit {
-            number: 5,
+            number: OUTPUT,
             length: 0,
         };
     }
     let n = measure_plan(p);
-    if 32768 < n {
+    if RECORD_LIMIT < n {
         return Emit {
-            number: 10,
+            number: FITS,
             length: 0,
         };
     }
-    let version_at = put_word(out, 0, n - 2);
-    let body_at = put_byte(out, version_at, 1);
-    let end = put_body(out, body_at, p, event, goals, bets);
+    let body_at = put_record_head(out, n);
+    let end = put_body(out, body_at, p, source);
     Emit {
-        number: 0,
+        number: DONE,
         length: end,
     }
 }

@@ -1,8 +1,9 @@
 // Writers of bytes, two-byte numbers and parts: each writes at a place of an output and gives the place after what it wrote.
+use crate::kinds::VERSION;
 ghost use mathlib.Core.List.{[], _∷_};
 ghost use Prim.Native.Nat.{ℕ, _+_, _-_, _<_, _≤_};
 ghost use lib.ListN.{length};
-ghost use Rattle.records.specs.Encode.{word};
+ghost use Rattle.records.specs.Encode.{word, record-head};
 ghost use Rattle.records.specs.Patched.{Put};
 ghost use Rattle.records.specs.Range.{cut, Inside};
 
@@ -28,6 +29,15 @@ pub fn put_word(out: &mut [u8], at: usize, n: usize) -> usize
 {
     let next = put_byte(out, at, (n / 256 % 256) as u8);
     put_byte(out, next, (n % 256) as u8)
+}
+
+// The length field and the version of a record of n bytes, from the start of the output on.
+pub fn put_record_head(out: &mut [u8], n: usize) -> usize
+    requires { ⌜ (2 ≤ n) × (3 ≤ length (now out)) ⌝ }
+    ensures { λ r. ⌜ Put (now (out .entry)) 0 (record-head n) (now (out .exit)) r ⌝ }
+{
+    let version_at = put_word(out, 0, n - 2);
+    put_byte(out, version_at, VERSION)
 }
 
 // All bytes of a slice.

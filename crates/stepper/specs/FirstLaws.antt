@@ -44,7 +44,7 @@ emitted-replied e out after emit m = go (ltb (length out) 32768) refl (ltb 32768
 -- a stack with nothing on it
 empty : {A : Type 0} (bytes : A → List ℕ) (s : List ℕ) → Stacks bytes s no-items []
 empty bytes s = record {
-  is = stack-kept bytes [] no-items s s refl (nothing-bytes s) (cut-at [] [] s refl refl refl);
+  is = stack-kept bytes [] no-items s refl (nothing-bytes s) (cut-at [] [] s refl refl refl);
   top-inside = nothing-inside s;
   rest-inside = nothing-inside s;
 }
@@ -73,7 +73,7 @@ module _ (s : List ℕ) (known : Known s) where
         go (refused a) e = absurd (no a (sym (is ∙ rw (judged, e)) ∙ z))
         go (tree g) e = (g, e)
 
-    pub first-within : n ≡ 0 → Within (first-plan (length s)) s s s
+    pub first-within : n ≡ 0 → Within (first-plan (length s)) s
     first-within z = let q = query-goal z in first-plans (q .0) (q .1) .within
 
     -- a refused query
@@ -92,7 +92,7 @@ module _ (s : List ℕ) (known : Known s) where
         go (tree g) e = absurd (z (is ∙ rw (judged, e)))
 
     -- an accepted one
-    pub first-emitted : (out after : List ℕ) (emit : Emit) → n ≡ 0 → Emitted out (planned (first-plan (length s)) s s s) emit after
+    pub first-emitted : (out after : List ℕ) (emit : Emit) → n ≡ 0 → Emitted out (planned (first-plan (length s)) s) emit after
         → Replied (first-record layers s out) (emit .number) after
     unfolding first-record first-answer reading
     first-emitted out after emit z m =

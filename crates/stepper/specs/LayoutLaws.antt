@@ -7,6 +7,7 @@ use lib.ListN.{length}
 use Rattle.records.specs.Syntax.{Goal, Half, Ancestor, Bet, or, by, Port, Event, event}
 use Rattle.records.specs.Encode.{word, each, counted, tag, goal-bytes, ancestor-bytes, bet-bytes, port-byte, event-record}
 use Rattle.records.specs.Range.{cut, Inside}
+use Rattle.records.specs.Patched.{Put, put-length}
 use Rattle.records.specs.Plan.{lead-bytes, piece-bytes, stack-bytes, planned, Within, plan-ends}
 use Rattle.records.specs.PlanLaws.{nothing-inside, nothing-bytes, stack-pushed, stack-kept, planned-event, planned-ends}
 use Rattle.records.specs.Stands.{Stands, stands-first, stands-second, stands-cut, stands-inside}
@@ -16,6 +17,7 @@ use Rattle.records.specs.declared.plan.Lead.{Lead}
 use Rattle.records.specs.declared.plan.Piece.{Piece}
 use Rattle.records.specs.declared.plan.Stack.{Stack}
 use Rattle.records.specs.declared.plan.Plan.{Plan}
+use Rattle.terms.specs.Applied.{put-stands}
 use Rattle.stepper.specs.View.{stack-places}
 use Rattle.stepper.specs.ViewLaws.{rest-stands}
 use Rattle.stepper.specs.Layouts.{or-tag, same, dropped, pushed, replaced, plan-of}
@@ -31,34 +33,27 @@ pub record Pieces (s : List ℕ) (piece : Piece) (x : List ℕ) : Type 0 where
   pub is : piece-bytes piece s ≡ x
   pub inside : Inside (piece .range) s
 
--- a stack made from s, its new top from `tops`, is the stack l
-pub record StacksFrom {A : Type 0} (bytes : A → List ℕ) (tops s : List ℕ) (stack : Stack) (l : List A) : Type 0 where
-  pub is : stack-bytes stack tops s ≡ counted bytes l
-  pub top-inside : Inside (stack .top .range) tops
+-- a stack made from s is the stack l
+pub record Stacks {A : Type 0} (bytes : A → List ℕ) (s : List ℕ) (stack : Stack) (l : List A) : Type 0 where
+  pub is : stack-bytes stack s ≡ counted bytes l
+  pub top-inside : Inside (stack .top .range) s
   pub rest-inside : Inside (stack .rest) s
 
-abbrev pub Stacks : {A : Type 0} → (A → List ℕ) → List ℕ → Stack → List A → Type 0
-Stacks bytes s = StacksFrom bytes s s
-
--- a plan over three sources gives the record of the event e, its ranges lie in them, and it tells where the event's parts end
-pub record PlansFrom (s goals bets : List ℕ) (p : Plan) (e : Event) : Type 0 where
-  pub is : planned p s goals bets ≡ event-record e
-  pub within : Within p s goals bets
+-- a plan over s gives the record of the event e, its ranges lie in s, and it tells where the event's parts end
+pub record Plans (s : List ℕ) (p : Plan) (e : Event) : Type 0 where
+  pub is : planned p s ≡ event-record e
+  pub within : Within p s
   pub ends : length (event-record e) ≤ 32768 → plan-ends p ≡ part-ends e
 
--- over s alone
-abbrev pub Plans : List ℕ → Plan → Event → Type 0
-Plans s = PlansFrom s s s
-
-pub plan-is : {s goals tops : List ℕ} (port : Port) {g : Goal} {u : List Ancestor} {b : List Bet} {piece : Piece} {ancestors bets : Stack}
-    → Pieces goals piece (goal-bytes g) → Stacks ancestor-bytes s ancestors u → StacksFrom bet-bytes tops s bets b
-    → PlansFrom s goals tops (plan-of (port-byte port) piece ancestors bets) (event port g u b)
+pub plan-is : {s : List ℕ} (port : Port) {g : Goal} {u : List Ancestor} {b : List Bet} {piece : Piece} {ancestors bets : Stack}
+    → Pieces s piece (goal-bytes g) → Stacks ancestor-bytes s ancestors u → Stacks bet-bytes s bets b
+    → Plans s (plan-of (port-byte port) piece ancestors bets) (event port g u b)
 unfolding plan-of
-plan-is {s} {goals} {tops} port {g} {u} {b} {piece} {ancestors} {bets} x y z =
+plan-is {s} port {g} {u} {b} {piece} {ancestors} {bets} x y z =
     let p : Plan = record { port = port-byte port; goal = piece; ancestors = ancestors; bets = bets } in
-    let inside : Within p s goals tops =
+    let inside : Within p s =
     record { goal-inside = x .inside; ancestor-inside = y .top-inside; ancestors-inside = y .rest-inside; bet-inside = z .top-inside; bets-inside = z .rest-inside } in record {
-      is = planned-event p port g u b s goals tops refl (x .is) (y .is) (z .is);
+      is = planned-event p port g u b s refl (x .is) (y .is) (z .is);
       within = inside;
       ends = planned-ends p port g u b inside (x .is) (y .is);
     }
@@ -66,6 +61,10 @@ plan-is {s} {goals} {tops} port {g} {u} {b} {piece} {ancestors} {bets} x y z =
 -- what stands in s is cut out by its places
 pub cuts : {s : List ℕ} {at : ℕ} {x : List ℕ} {e : ℕ} → Stands s at x e → e ≤ length s → Cuts s (record { from = at; to = e }) x
 cuts w h = record { is = stands-cut w; inside = stands-inside w h }
+
+-- what was put at the start of a buffer
+pub put-cuts : {before x after : List ℕ} {n : ℕ} → Put before 0 x after n → length x ≤ length before → Cuts after (record { from = 0; to = n }) x
+put-cuts p h = cuts (put-stands p (omega arith)) (omega (arith, put-length p, p .place))
 
 pub piece : {s : List ℕ} {r : Range} {x : List ℕ} (lead : Lead) → Cuts s r x → Pieces s (record { lead = lead; range = r }) (lead-bytes lead ++ x)
 unfolding piece-bytes
@@ -94,15 +93,15 @@ module _ {A : Type 0} {s : List ℕ} {at e : ℕ} (bytes : A → List ℕ) (part
 
   pub stack-same : Stacks bytes s (same (stack-places bytes part at l)) l
   stack-same = record {
-    is = stack-kept bytes l (same (stack-places bytes part at l)) s s refl (nothing-bytes s) (items .is);
+    is = stack-kept bytes l (same (stack-places bytes part at l)) s refl (nothing-bytes s) (items .is);
     top-inside = nothing-inside s;
     rest-inside = items .inside;
   }
 
-  pub stack-more : {tops : List ℕ} {top : Piece} (x : A) → Pieces tops top (bytes x) → StacksFrom bytes tops s (pushed (stack-places bytes part at l) top) (x ∷ l)
+  pub stack-more : {top : Piece} (x : A) → Pieces s top (bytes x) → Stacks bytes s (pushed (stack-places bytes part at l) top) (x ∷ l)
   unfolding pushed
-  stack-more {tops} {top} x q = record {
-    is = stack-pushed bytes x l (record { count = length l + 1; top = top; rest = record { from = at + 2; to = at + length (counted bytes l) } }) tops s (omega arith) (q .is) (items .is);
+  stack-more {top} x q = record {
+    is = stack-pushed bytes x l (record { count = length l + 1; top = top; rest = record { from = at + 2; to = at + length (counted bytes l) } }) s (omega arith) (q .is) (items .is);
     top-inside = q .inside;
     rest-inside = items .inside;
   }
@@ -115,7 +114,7 @@ module _ {A : Type 0} {s : List ℕ} {at e : ℕ} (bytes : A → List ℕ) (part
 
   pub stack-less : Stacks bytes s (dropped (stack-places bytes part at (x ∷ l))) l
   stack-less = record {
-    is = stack-kept bytes l (dropped (stack-places bytes part at (x ∷ l))) s s (omega arith) (nothing-bytes s) (under .is);
+    is = stack-kept bytes l (dropped (stack-places bytes part at (x ∷ l))) s (omega arith) (nothing-bytes s) (under .is);
     top-inside = nothing-inside s;
     rest-inside = under .inside;
   }
@@ -123,7 +122,7 @@ module _ {A : Type 0} {s : List ℕ} {at e : ℕ} (bytes : A → List ℕ) (part
   pub stack-changed : {top : Piece} (y : A) → Pieces s top (bytes y) → Stacks bytes s (replaced (stack-places bytes part at (x ∷ l)) top) (y ∷ l)
   unfolding replaced
   stack-changed {top} y q = record {
-    is = stack-pushed bytes y l (record { count = length (x ∷ l); top = top; rest = record { from = part (at + 2) x .to; to = at + length (counted bytes (x ∷ l)) } }) s s refl (q .is) (under .is);
+    is = stack-pushed bytes y l (record { count = length (x ∷ l); top = top; rest = record { from = part (at + 2) x .to; to = at + length (counted bytes (x ∷ l)) } }) s refl (q .is) (under .is);
     top-inside = q .inside;
     rest-inside = under .inside;
   }

@@ -60,6 +60,8 @@ pub mod FoundLaws
 pub mod Stepped
 pub mod SteppedLaws
 pub mod PutLaws
+pub mod Completed
+pub mod CompletedLaws
 pub mod Settled
 pub mod SettledLaws
 pub mod SettledEquality

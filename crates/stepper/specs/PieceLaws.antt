@@ -13,7 +13,7 @@ use Rattle.records.specs.declared.plan.Piece.{Piece}
 use Rattle.stepper.specs.View.{goal-part, ancestor-end, ancestor-part, bet-end, bet-part, stack-places, ancestors-at, bets-at}
 use Rattle.stepper.specs.ViewLaws.{top-stands, rest-stands}
 use Rattle.stepper.specs.Layouts.{whole, by-goal, content-of, same, dropped, pushed, replaced}
-use Rattle.stepper.specs.LayoutLaws.{Pieces, StacksFrom, Stacks, cuts, piece, Halves, halves, stack-same, stack-more, stack-less, stack-changed}
+use Rattle.stepper.specs.LayoutLaws.{Pieces, Stacks, cuts, piece, Halves, halves, stack-same, stack-more, stack-less, stack-changed}
 
 -- a part ends where its bytes do
 pub goal-ends : (at : ℕ) (g : Goal) → goal-part at g .to ≡ goal-end at g
@@ -66,8 +66,8 @@ module _ {s : List ℕ} {p : Port} {g : Goal} {u : List Ancestor} {b : List Bet}
   pub bets-same : Stacks bet-bytes s (same (stack-places bet-bytes bet-part (bets-at g u) b)) b
   bets-same = stack-same bet-bytes bet-part b (w .bets-stand) (omega arith)
 
-  pub bets-more : {tops : List ℕ} {top : Piece} (x : Bet) → Pieces tops top (bet-bytes x)
-      → StacksFrom bet-bytes tops s (pushed (stack-places bet-bytes bet-part (bets-at g u) b) top) (x ∷ b)
+  pub bets-more : {top : Piece} (x : Bet) → Pieces s top (bet-bytes x)
+      → Stacks bet-bytes s (pushed (stack-places bet-bytes bet-part (bets-at g u) b) top) (x ∷ b)
   bets-more x q = stack-more bet-bytes bet-part b (w .bets-stand) (omega arith) x q
 
 -- those with a bet on top, or an ancestor

@@ -33,7 +33,7 @@ use Rattle.terms.specs.Told.{UnifierHere, UnifierLong, BodyHere, BodyLong}
 use Rattle.stepper.specs.Machine.{unified?, body?}
 use Rattle.stepper.specs.View.{event-view}
 use Rattle.stepper.specs.ViewLaws.{top-stands, rest-stands}
-use Rattle.stepper.specs.LayoutLaws.{Cuts, cuts}
+use Rattle.stepper.specs.LayoutLaws.{Cuts, cuts, put-cuts}
 use Rattle.stepper.specs.PieceLaws.{goal-starts, goal-ends, goal-stops}
 use Rattle.stepper.specs.Settled.{compared-number, unifier-number, body-number, ProgramRead, UnifierViewed, BodyViewed, ancestor-frame}
 use Rattle.stepper.specs.declared.view.View.{View}
@@ -106,12 +106,12 @@ module _ {s : List ℕ} {v : View} (known : Known s) (w : UnifierViewed s v) whe
   unfolding unifier-number
   unifier-clash h = rw h (sym (compared-no (unified? clash (unified (w .bindings))) (λ e. let z : _≡_ {A = ℕ} 0 1 = cc in omega arith)))
 
-  pub unifier-same : {x : List ℕ} {n : ℕ} {r : ℕ} → UnifierHere its-unifier x n
+  pub unifier-same : {before x : List ℕ} {n : ℕ} {r : ℕ} → UnifierHere its-unifier before x n
       → r ≡ pick (same-bytes (cut x (record { from = 0; to = n })) (cut s (record { from = v .bet .content; to = v .bet .to }))) 0 7
       → r ≡ unifier-number its-unifier (w .bindings)
   unfolding unifier-number
-  unifier-same {x} {n} h e =
-      e ∙ rw (h .is, cuts (h .stands) (h .inside) .is, top-unifier .is) (compared-by (unified? (unified σ) (unified (w .bindings))) _ (λ b. there (same-true _ _ b)) again)
+  unifier-same h e =
+      e ∙ rw (h .is, put-cuts (h .put) (h .room) .is, top-unifier .is) (compared-by (unified? (unified σ) (unified (w .bindings))) _ (λ b. there (same-true _ _ b)) again)
     where
       σ : List Binding
       σ = h .bindings
@@ -169,12 +169,12 @@ module _ {program s : List ℕ} {v : View} (byte : Known program) (known : Known
   unfolding body-number
   body-missing h = rw h (sym (compared-no (body? undefined (defined (w .goal))) (λ e. let z : _≡_ {A = ℕ} 0 1 = cc in omega arith)))
 
-  pub body-same : {x : List ℕ} {n : ℕ} {r : ℕ} → BodyHere its-body x n
+  pub body-same : {before x : List ℕ} {n : ℕ} {r : ℕ} → BodyHere its-body before x n
       → r ≡ pick (same-bytes (cut x (record { from = 0; to = n })) (cut s (record { from = v .goal .from; to = v .goal .to }))) 0 7
       → r ≡ body-number its-body (w .goal)
   unfolding body-number
-  body-same {x} {n} h e =
-      e ∙ rw (h .is, cuts (h .stands) (h .inside) .is, whole-goal .is) (compared-by (body? (defined b) (defined (w .goal))) _ (λ z. there (same-true _ _ z)) again)
+  body-same h e =
+      e ∙ rw (h .is, put-cuts (h .put) (h .room) .is, whole-goal .is) (compared-by (body? (defined b) (defined (w .goal))) _ (λ z. there (same-true _ _ z)) again)
     where
       b : Goal
       b = h .goal

@@ -7,9 +7,6 @@ use Prim.Native.Nat.{ℕ}
 use Rattle.records.specs.Syntax.{Term, Terms, Goal, equal, atom, Ancestor, called, Binding, Bet, unifier, Port, event, Definition}
 use Rattle.records.specs.Question.{matches, values, locals, number}
 use Rattle.records.specs.Gate.{tree, read-program, read-event}
-use Rattle.records.specs.declared.plan.Lead.the-variants.{Bare, One}
-use Rattle.records.specs.declared.plan.Piece.{Piece}
-use Rattle.records.specs.declared.plan.Plan.{Plan}
 use Rattle.terms.specs.Outcome.{Unified, too-large, clash, unified, unified-under}
 use Rattle.terms.specs.Body.{Body, too-many, undefined, defined, body}
 use Rattle.terms.specs.declared.variables.Frame.{Frame}
@@ -17,7 +14,6 @@ use Rattle.stepper.specs.Machine.{unified?, body?, Answer, refused, give
 use Rattle.stepper.specs.Rules.{by-unifier, by-body, fitting}
 use Rattle.stepper.specs.Services.{record-limit}
 use Rattle.stepper.specs.View.{event-view}
-use Rattle.stepper.specs.Layouts.{whole, same, pushed, plan-of}
 use Rattle.stepper.specs.declared.view.View.{View}
 
 -- question 10 for an answer
@@ -100,22 +96,6 @@ pub record BodyViewed (s : List ℕ) (v : View) : Type 0 where
   pub bets : List Bet
   pub reads : read-event s ≡ tree (event port goal (called predicate terms ∷ ancestors) bets)
   pub same : v ≡ event-view (event port goal (called predicate terms ∷ ancestors) bets)
-
--- a unifier of n bytes at the start of its source, and a body
-abbrev pub unifier-piece : ℕ → Piece
-unifier-piece n = record { lead = One 0x20; range = record { from = 0; to = n } }
-
-abbrev pub body-piece : ℕ → Piece
-body-piece n = record { lead = Bare; range = record { from = 0; to = n } }
-
--- the equality with a unifier put on the bets, and a body under its atom
-unfoldable pub with-unifier : View → (port n : ℕ) → Plan
-unfolding plan-of
-with-unifier v port n = plan-of port (whole (v .goal)) (same (v .ancestors)) (pushed (v .bets) (unifier-piece n))
-
-unfoldable pub with-body : View → (port n : ℕ) → Plan
-unfolding plan-of
-with-body v port n = plan-of port (body-piece n) (pushed (v .ancestors) (whole (v .goal))) (same (v .bets))
 
 -- the frame of the atom that is the goal, and of the one that the goal stands under
 abbrev pub goal-frame : View → Frame

@@ -1,15 +1,18 @@
 -- An atom in bytes: where it stands with its stacks, and what each answer for its body makes of the step.
-use mathlib.Core.Path.{_≡_, refl, ap}
+use mathlib.Core.Path.{_≡_, refl, ap, _∙_}
 use mathlib.Core.List.{List, _∷_}
-use Prim.Native.Nat.{ℕ, _≤_}
+use Prim.Native.Nat.{ℕ, _+_, _≤_, _<_}
+use native.Mathlib.Nat.{zero-add}
 use native.Mathlib.Omega.{arith}
 use lib.ListN.{length}
 use Rattle.records.specs.Syntax.{atom, called, Port, call, event, Definition}
-use Rattle.records.specs.Encode.{port-byte}
+use Rattle.records.specs.Encode.{goal-bytes, port-byte}
 use Rattle.records.specs.Question.{locals, number}
 use Rattle.records.specs.HeadLaws.{Known}
+use Rattle.records.specs.EndLaws.{goal-long}
 use Rattle.records.specs.Plan.{Within}
 use Rattle.records.specs.Places.{Parts, event-parts}
+use Rattle.records.specs.declared.put.Range.{Range}
 use Rattle.stepper.specs.declared.emit.Moved.{Moved}
 use Rattle.terms.specs.Body.{Body, too-many, undefined, body}
 use Rattle.terms.specs.BodyBytes.{AtomAt}
@@ -19,12 +22,14 @@ use Rattle.stepper.specs.Machine.{Answer}
 use Rattle.stepper.specs.Rules.{by-body}
 use Rattle.stepper.specs.View.{event-view}
 use Rattle.stepper.specs.Layouts.{kept, plan-of}
-use Rattle.stepper.specs.LayoutLaws.{PlansFrom}
+use Rattle.stepper.specs.LayoutLaws.{Plans}
 use Rattle.stepper.specs.PlanLaws.{kept-plans}
 use Rattle.stepper.specs.Stepped.{Stepped, refusal-of, EmittedEvent}
 use Rattle.stepper.specs.SteppedLaws.{stepped-refused, stepped-planned}
-use Rattle.stepper.specs.Settled.{within-record, settled-atom, AtomViewed, with-body, goal-frame}
-use Rattle.stepper.specs.SettledLaws.{within-port, long-refused, body-plans, goal-shorter}
+use Rattle.stepper.specs.Completed.{Gap, lent-part, handed-back, InOrder, body-front, body-back, body-ends, Completed}
+use Rattle.stepper.specs.CompletedLaws.{lent-room, lent-fits, lent-put, stepped-completed, in-order, body-place, body-record, body-record-length, body-ends-are}
+use Rattle.stepper.specs.Settled.{within-record, settled-atom, AtomViewed, goal-frame}
+use Rattle.stepper.specs.SettledLaws.{within-port, long-refused, event-short}
 use Rattle.stepper.specs.declared.view.View.{View}
 
 module _ {s : List ℕ} {v : View} (known : Known s) (w : AtomViewed s v) where
@@ -39,13 +44,9 @@ module _ {s : List ℕ} {v : View} (known : Known s) (w : AtomViewed s v) (p q :
   atom-parts : Parts s (w .port) (atom (w .predicate) (w .terms)) (w .ancestors) (w .bets)
   atom-parts = event-parts s known (w .port) (atom (w .predicate) (w .terms)) (w .ancestors) (w .bets) (w .reads)
 
-  -- the plans of both ways
-  pub undefined-plans : PlansFrom s s s (kept v undefined-port) (event p (atom (w .predicate) (w .terms)) (w .ancestors) (w .bets))
+  -- the plan of the way without a body
+  pub undefined-plans : Plans s (kept v undefined-port) (event p (atom (w .predicate) (w .terms)) (w .ancestors) (w .bets))
   undefined-plans = rw (w .same, ← up) (kept-plans p atom-parts)
-
-  pub defined-plans : {b : Body} {x : List ℕ} {n : ℕ} (h : BodyHere b x n)
-      → PlansFrom s x s (with-body v defined-port n) (event q (h .goal) (called (w .predicate) (w .terms) ∷ w .ancestors) (w .bets))
-  defined-plans h = rw (w .same, ← dp) (body-plans q (h .goal) atom-parts (h .stands) (h .inside))
 
   -- each answer
   module _ (P : List Definition) where
@@ -55,31 +56,47 @@ module _ {s : List ℕ} {v : View} (known : Known s) (w : AtomViewed s v) (p q :
     abbrev its-answer : Answer
     its-answer = settled-atom P p q (w .predicate) (w .terms) (w .ancestors) (w .bets)
 
-    module _ {before : List ℕ} where
-      pub atom-beyond : its-body ≡ too-many → Stepped its-answer before (refusal-of 9) before
+    module _ {before after : List ℕ} where
+      pub atom-beyond : its-body ≡ too-many → after ≡ before → Stepped its-answer before (refusal-of 9) after
       unfolding settled-atom within-record by-body number
-      atom-beyond h = rw h (stepped-refused locals refl)
+      atom-beyond h k = rw (h, k) (stepped-refused locals refl)
 
-      pub atom-undefined : {after : List ℕ} {moved : Moved} → 32768 ≤ length before → its-body ≡ undefined
-          → EmittedEvent before (kept v undefined-port) s s s moved after → Stepped its-answer before moved after
+      pub atom-undefined : {within : List ℕ} {moved : Moved} → 32768 ≤ length before → its-body ≡ undefined → within ≡ before
+          → EmittedEvent within (kept v undefined-port) s moved after → Stepped its-answer before moved after
       unfolding settled-atom within-record by-body
-      atom-undefined l h m = rw h (stepped-planned l undefined-plans m)
+      atom-undefined l h k m = rw h (stepped-planned l undefined-plans (rw k at m))
 
-      pub atom-defined : {x after : List ℕ} {n : ℕ} {moved : Moved} → 32768 ≤ length before → BodyHere its-body x n
-          → EmittedEvent before (with-body v defined-port n) s x s moved after → Stepped its-answer before moved after
+    -- the body is written into the part that was lent, and the record is completed around it
+    module _ {r : Range} (gap : Gap (v .goal .from) (length s) r) (before : List ℕ) (l : 32768 ≤ length before) where
+      pub atom-defined : {part after : List ℕ} {n : ℕ} {moved : Moved} → BodyHere its-body (lent-part before r) part n
+          → Completed (handed-back before r part) (body-front s defined-port n) n (body-back s v) (body-ends v n) moved after → Stepped its-answer before moved after
       unfolding settled-atom within-record by-body
-      atom-defined l h m = rw (h .is) (stepped-planned l (defined-plans h) m)
+      atom-defined {n = n} h c =
+          let g = h .goal in
+          let z : 0 < length (goal-bytes g) = omega (arith, goal-long g) in
+          let m : n ≡ length (goal-bytes g) = h .put .place ∙ zero-add _ in
+          let e = atom-parts in
+          rw (h .is)
+          (stepped-completed (event q g (called (w .predicate) (w .terms) ∷ w .ancestors) (w .bets)) l
+          (rw (body-record-length e q g) (lent-fits gap before l (goal-bytes g) z (h .room)))
+          (rw (w .same, ← dp) (body-place e q g m)) m (rw (w .same, ← dp) (body-record e q g m)) (rw (w .same) (body-ends-are e q g m))
+          (lent-put gap before l (goal-bytes g) z (h .room) (h .put)) c)
 
-      pub atom-long : {room : ℕ} → 32768 ≤ room → BodyLong its-body room → Stepped its-answer before (refusal-of 10) before
+      pub atom-long : {after : List ℕ} → BodyLong its-body (length (lent-part before r)) → after ≡ before → Stepped its-answer before (refusal-of 10) after
       unfolding settled-atom within-record by-body
-      atom-long i h = let k = goal-shorter q (h .goal) (called (w .predicate) (w .terms) ∷ w .ancestors) (w .bets) in rw (h .is) (long-refused _ (omega (arith, h .long)))
+      atom-long h k =
+          let e = body-record-length atom-parts q (h .goal) in rw (h .is, k) (long-refused _ (omega (arith, h .long, lent-room gap before l, goal-long (h .goal))))
 
--- the ranges of both plans lie in their sources, whatever the port
-module _ {s : List ℕ} {v : View} (known : Known s) (w : AtomViewed s v) (port : ℕ) where
-  pub undefined-within : Within (kept v port) s s s
+-- a body that was written into the part has room in the record
+pub body-room : {at others : ℕ} {r : Range} (gap : Gap at others r) (before : List ℕ) → 32768 ≤ length before → {b : Body} {part : List ℕ} {n : ℕ}
+    → BodyHere b (lent-part before r) part n → others + n ≤ 32768
+body-room gap before l h = omega (arith, lent-fits gap before l (goal-bytes (h .goal)) (omega (arith, goal-long (h .goal))) (h .room), h .put .place)
+
+-- what the code of an atom relies on, whatever the port
+module _ {s : List ℕ} {v : View} (known : Known s) (w : AtomViewed s v) where
+  pub undefined-within : (port : ℕ) → Within (kept v port) s
   unfolding plan-of
-  undefined-within = within-port (undefined-plans known w call call refl refl .within)
+  undefined-within port = within-port (undefined-plans known w call call refl refl .within)
 
-  pub defined-within : {b : Body} {x : List ℕ} {n : ℕ} → BodyHere b x n → Within (with-body v port n) s x s
-  unfolding plan-of with-body
-  defined-within h = within-port (defined-plans known w call call refl refl h .within)
+  pub atom-order : InOrder s v
+  atom-order = rw (w .same) (in-order (atom-parts known w call call refl refl) (event-short s known (w .reads)))

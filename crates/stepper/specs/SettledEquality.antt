@@ -1,8 +1,9 @@
 -- An equality in bytes: where its terms and the bets stand, and what each answer for its unifier makes of the step.
-use mathlib.Core.Path.{_≡_, refl, ap}
+use mathlib.Core.Path.{_≡_, refl, ap, _∙_}
 use mathlib.Core.List.{List, _∷_}
 use mathlib.Core.Logic.{⊎-elim}
 use Prim.Native.Nat.{ℕ, _+_, _≤_}
+use native.Mathlib.Nat.{zero-add}
 use native.Mathlib.Omega.{arith}
 use lib.ListN.{length}
 use Rattle.records.specs.Syntax.{Term, equal, unifier, Port, call, event}
@@ -11,22 +12,26 @@ use Rattle.records.specs.Question.{values, number}
 use Rattle.records.specs.HeadLaws.{Known}
 use Rattle.records.specs.Plan.{Within}
 use Rattle.records.specs.Places.{goal-end, Parts, event-parts}
+use Rattle.records.specs.declared.put.Range.{Range}
 use Rattle.stepper.specs.declared.emit.Moved.{Moved}
 use Rattle.terms.specs.Outcome.{Unified, too-large, clash, unified-under}
 use Rattle.terms.specs.BetRow.{Bets}
 use Rattle.terms.specs.Applied.{TermAt}
 use Rattle.terms.specs.Accepted.{bets-at, bets-moved, term-moved, accepted-bets, left-side, right-side}
+use Rattle.terms.specs.Equality.{unifier-bytes}
 use Rattle.terms.specs.Told.{UnifierHere, UnifierLong}
 use Rattle.stepper.specs.Machine.{Answer}
 use Rattle.stepper.specs.Rules.{by-unifier}
 use Rattle.stepper.specs.View.{event-view}
 use Rattle.stepper.specs.Layouts.{kept, plan-of}
-use Rattle.stepper.specs.LayoutLaws.{PlansFrom}
+use Rattle.stepper.specs.LayoutLaws.{Plans}
 use Rattle.stepper.specs.PlanLaws.{kept-plans}
 use Rattle.stepper.specs.Stepped.{Stepped, refusal-of, EmittedEvent}
 use Rattle.stepper.specs.SteppedLaws.{stepped-refused, stepped-planned}
-use Rattle.stepper.specs.Settled.{within-record, settled-equality, EqualityViewed, with-unifier}
-use Rattle.stepper.specs.SettledLaws.{within-port, long-refused, unifier-plans, unifier-shorter}
+use Rattle.stepper.specs.Completed.{Gap, lent-part, handed-back, InOrder, unifier-front, unifier-back, unifier-ends, Completed}
+use Rattle.stepper.specs.CompletedLaws.{lent-room, lent-fits, lent-put, stepped-completed, in-order, unifier-place, unifier-record, unifier-record-length, unifier-ends-are}
+use Rattle.stepper.specs.Settled.{within-record, settled-equality, EqualityViewed}
+use Rattle.stepper.specs.SettledLaws.{within-port, long-refused, event-short}
 use Rattle.stepper.specs.declared.view.View.{View}
 
 -- where the view says the parts are
@@ -61,13 +66,9 @@ module _ {s : List ℕ} {v : View} (known : Known s) (w : EqualityViewed s v) (p
   equality-parts : Parts s (w .port) (equal (w .left) (w .right)) (w .ancestors) (w .bets)
   equality-parts = event-parts s known (w .port) (equal (w .left) (w .right)) (w .ancestors) (w .bets) (w .reads)
 
-  -- the plans of both ways
-  pub clash-plans : PlansFrom s s s (kept v clash-port) (event p (equal (w .left) (w .right)) (w .ancestors) (w .bets))
+  -- the plan of the way without a unifier
+  pub clash-plans : Plans s (kept v clash-port) (event p (equal (w .left) (w .right)) (w .ancestors) (w .bets))
   clash-plans = rw (w .same, ← cp) (kept-plans p equality-parts)
-
-  pub found-plans : {x : List ℕ} {n : ℕ} (h : UnifierHere (unified-under (w .bets) (w .left) (w .right)) x n)
-      → PlansFrom s s x (with-unifier v found-port n) (event q (equal (w .left) (w .right)) (w .ancestors) (unifier (h .bindings) ∷ w .bets))
-  found-plans h = rw (w .same, ← fp) (unifier-plans q (h .bindings) equality-parts (h .stands) (h .inside))
 
   -- each answer
   abbrev its-unifier : Unified
@@ -76,33 +77,47 @@ module _ {s : List ℕ} {v : View} (known : Known s) (w : EqualityViewed s v) (p
   abbrev its-answer : Answer
   its-answer = settled-equality p q (w .left) (w .right) (w .ancestors) (w .bets)
 
-  module _ {before : List ℕ} where
-    pub equality-large : its-unifier ≡ too-large → Stepped its-answer before (refusal-of 8) before
+  module _ {before after : List ℕ} where
+    pub equality-large : its-unifier ≡ too-large → after ≡ before → Stepped its-answer before (refusal-of 8) after
     unfolding settled-equality within-record by-unifier number
-    equality-large h = rw h (stepped-refused values refl)
+    equality-large h k = rw (h, k) (stepped-refused values refl)
 
-    pub equality-clash : {after : List ℕ} {moved : Moved} → 32768 ≤ length before → its-unifier ≡ clash
-        → EmittedEvent before (kept v clash-port) s s s moved after → Stepped its-answer before moved after
+    pub equality-clash : {within : List ℕ} {moved : Moved} → 32768 ≤ length before → its-unifier ≡ clash → within ≡ before
+        → EmittedEvent within (kept v clash-port) s moved after → Stepped its-answer before moved after
     unfolding settled-equality within-record by-unifier
-    equality-clash l h m = rw h (stepped-planned l clash-plans m)
+    equality-clash l h k m = rw h (stepped-planned l clash-plans (rw k at m))
 
-    pub equality-found : {x after : List ℕ} {n : ℕ} {moved : Moved} → 32768 ≤ length before → UnifierHere its-unifier x n
-        → EmittedEvent before (with-unifier v found-port n) s s x moved after → Stepped its-answer before moved after
+  -- the unifier is written into the part that was lent, and the record is completed around it
+  module _ {r : Range} (gap : Gap (v .bets .from + 1) (length s + 1) r) (before : List ℕ) (l : 32768 ≤ length before) where
+    pub equality-found : {part after : List ℕ} {n : ℕ} {moved : Moved} → UnifierHere its-unifier (lent-part before r) part n
+        → Completed (handed-back before r part) (unifier-front s v found-port n) n (unifier-back s v) (unifier-ends v) moved after → Stepped its-answer before moved after
     unfolding settled-equality within-record by-unifier
-    equality-found l h m = rw (h .is) (stepped-planned l (found-plans h) m)
+    equality-found {n = n} h c =
+        let σ = h .bindings in
+        let m : n ≡ length (unifier-bytes σ) = h .put .place ∙ zero-add _ in
+        let e = equality-parts in
+        rw (h .is)
+        (stepped-completed (event q (equal (w .left) (w .right)) (w .ancestors) (unifier σ ∷ w .bets)) l
+        (rw (unifier-record-length e q σ m) (lent-fits gap before l (unifier-bytes σ) (omega arith) (h .room)))
+        (rw (w .same, ← fp) (unifier-place e q σ m)) m (rw (w .same, ← fp) (unifier-record e q σ m)) (rw (w .same) (unifier-ends-are e q σ))
+        (lent-put gap before l (unifier-bytes σ) (omega arith) (h .room) (h .put)) c)
 
-    pub equality-long : {room : ℕ} → 32768 ≤ room → UnifierLong its-unifier room → Stepped its-answer before (refusal-of 10) before
+    pub equality-long : {after : List ℕ} → UnifierLong its-unifier (length (lent-part before r)) → after ≡ before → Stepped its-answer before (refusal-of 10) after
     unfolding settled-equality within-record by-unifier
-    equality-long i h =
-        let k = unifier-shorter q (equal (w .left) (w .right)) (w .ancestors) (h .bindings) (w .bets) in
-        rw (h .is) (long-refused _ (⊎-elim (λ l. omega arith) (λ l. omega arith) (h .long)))
+    equality-long h k =
+        let e = unifier-record-length equality-parts q (h .bindings) refl in
+        rw (h .is, k) (long-refused _ (⊎-elim (λ i. omega arith) (λ i. omega (arith, lent-room gap before l)) (h .long)))
 
--- the ranges of both plans lie in their sources, whatever the port
-module _ {s : List ℕ} {v : View} (known : Known s) (w : EqualityViewed s v) (port : ℕ) where
-  pub clash-within : Within (kept v port) s s s
+-- a unifier that was written into the part has room in the record
+pub unifier-room : {at others : ℕ} {r : Range} (gap : Gap at others r) (before : List ℕ) → 32768 ≤ length before → {u : Unified} {part : List ℕ} {n : ℕ}
+    → UnifierHere u (lent-part before r) part n → others + n ≤ 32768
+unifier-room gap before l h = omega (arith, lent-fits gap before l (unifier-bytes (h .bindings)) (omega arith) (h .room), h .put .place)
+
+-- what the code of an equality relies on, whatever the port
+module _ {s : List ℕ} {v : View} (known : Known s) (w : EqualityViewed s v) where
+  pub clash-within : (port : ℕ) → Within (kept v port) s
   unfolding plan-of
-  clash-within = within-port (clash-plans known w call call refl refl .within)
+  clash-within port = within-port (clash-plans known w call call refl refl .within)
 
-  pub found-within : {x : List ℕ} {n : ℕ} → UnifierHere (unified-under (w .bets) (w .left) (w .right)) x n → Within (with-unifier v port n) s s x
-  unfolding plan-of with-unifier
-  found-within h = within-port (found-plans known w call call refl refl h .within)
+  pub equality-order : InOrder s v
+  equality-order = rw (w .same) (in-order (equality-parts known w call call refl refl) (event-short s known (w .reads)))

@@ -84,10 +84,10 @@ module _ {program s : List ℕ} (known : Known s) (w : Passed program s) {v : Vi
       plans : (r : LeadsOn M (w .event)) → Plans s (forward-plan v n) (r .next)
       plans r = rw (same, is-rule ∙ forward-numbered M (r .rule)) (forward-plans M (r .rule) (r .made) parts)
 
-      pub forward-within : k ≡ 0 → Within (forward-plan v n) s s s
+      pub forward-within : k ≡ 0 → Within (forward-plan v n) s
       forward-within z = go judged
         where
-          go : Half? k (Leaves (w .event) → Like s (w .event)) (rule M (w .event) ≡ refused matches) → Within (forward-plan v n) s s s
+          go : Half? k (Leaves (w .event) → Like s (w .event)) (rule M (w .event) ≡ refused matches) → Within (forward-plan v n) s
           go (right i l) = plans (leads l) .within
           go (wrong i r) = absurd (omega arith)
 
@@ -125,10 +125,10 @@ module _ {program s : List ℕ} (known : Known s) (w : Passed program s) {v : Vi
       plans-back : (r : ComesFrom M (w .event)) → Plans s (back-plan v n) (r .source)
       plans-back r = rw (same, is-source ∙ back-numbered M (r .rule)) (back-plans M (r .rule) (r .made) parts)
 
-      pub back-within : k ≡ 0 → Within (back-plan v n) s s s
+      pub back-within : k ≡ 0 → Within (back-plan v n) s
       back-within z = go judged-back
         where
-          go : Half? k (LeavesBack (w .event) → Like s (w .event)) (candidate M (w .event) ≡ refused matches) → Within (back-plan v n) s s s
+          go : Half? k (LeavesBack (w .event) → Like s (w .event)) (candidate M (w .event) ≡ refused matches) → Within (back-plan v n) s
           go (right i l) = plans-back (comes l) .within
           go (wrong i r) = absurd (omega arith)
 

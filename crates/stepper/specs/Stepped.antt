@@ -36,8 +36,8 @@ abbrev pub refusal-of : ℕ → Moved
 refusal-of n = record { number = n; length = 0; ends = record { goal = 0; ancestors = 0 } }
 
 -- the event of a plan is emitted, and where its parts end is told by the plan
-pub record EmittedEvent (before : List ℕ) (p : Plan) (s goals bets : List ℕ) (moved : Moved) (after : List ℕ) : Type 0 where
-  pub emitted : Emitted before (planned p s goals bets) (record { number = moved .number; length = moved .length }) after
+pub record EmittedEvent (before : List ℕ) (p : Plan) (s : List ℕ) (moved : Moved) (after : List ℕ) : Type 0 where
+  pub emitted : Emitted before (planned p s) (record { number = moved .number; length = moved .length }) after
   pub ends-are : moved .ends ≡ plan-ends p
 
 -- an accepted event, and its view
@@ -62,5 +62,5 @@ gate-number program s room =
 
 -- the event of a plan over s is emitted unless a question said no by a number other than 0
 pub record EmittedUnless (number : ℕ) (before : List ℕ) (p : Plan) (s : List ℕ) (moved : Moved) (after : List ℕ) : Type 0 where
-  pub passed : number ≡ 0 → EmittedEvent before p s s s moved after
+  pub passed : number ≡ 0 → EmittedEvent before p s moved after
   pub stopped : (number ≡ 0 → ⊥) → (moved ≡ refusal-of number) × (after ≡ before)

@@ -21,7 +21,7 @@ use Rattle.stepper.specs.Rules.{fitting, on-room, attempt, step}
 use Rattle.stepper.specs.Services.{too-long, record-limit, machine, reply, reading, step-answer, step-record}
 use Rattle.stepper.specs.ServiceLaws.{number-positive}
 use Rattle.stepper.specs.Desk.{layers}
-use Rattle.stepper.specs.LayoutLaws.{PlansFrom}
+use Rattle.stepper.specs.LayoutLaws.{Plans}
 use Rattle.stepper.specs.Replied.{Replied}
 use Rattle.stepper.specs.Stepped.{answer-length, Stepped, refusal-of, EmittedEvent, Passed, gate-number}
 
@@ -34,8 +34,8 @@ unfolding answer-length reply number
 stepped-refused q e = record { number-is = e; length-is = refl; ends-are = λ c k. absurd (not-given q c k); output-is = refl }
 
 -- what is emitted of an event's plan, where the output passes question 5, is the answer under question 10
-pub stepped-planned : {s goals bets : List ℕ} {p : Plan} {e : Event} {before after : List ℕ} {moved : Moved} → 32768 ≤ length before → PlansFrom s goals bets p e
-    → EmittedEvent before p s goals bets moved after → Stepped (fitting false (record-limit e) (gives e)) before moved after
+pub stepped-planned : {s : List ℕ} {p : Plan} {e : Event} {before after : List ℕ} {moved : Moved} → 32768 ≤ length before → Plans s p e
+    → EmittedEvent before p s moved after → Stepped (fitting false (record-limit e) (gives e)) before moved after
 unfolding outcome reply fitting record-limit too-long number answer-length
 stepped-planned {e = e} {before} {after} {moved} h w m = go (rw (w .is) at (m .emitted)) (ltb 32768 (length (event-record e))) refl
   where

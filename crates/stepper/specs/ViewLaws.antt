@@ -11,6 +11,7 @@ use Rattle.records.specs.Syntax.{Term, Goal, truth, failure, equal, conj, disj,
 use Rattle.records.specs.Encode.{word, each, counted, tag, term-bytes, goal-bytes, ancestor-bytes, bet-bytes}
 use Rattle.records.specs.Formed.{TermFormed, GoalFormed, AncestorFormed, BetFormed, Counted}
 use Rattle.records.specs.HeadLaws.{Known}
+use Rattle.records.specs.EndLaws.{goal-long}
 use Rattle.records.specs.Exact.{ancestor-exact, bet-exact}
 use Rattle.records.specs.Walk.{end-at, walk-end}
 use Rattle.records.specs.Gate.{Reading, Accepted, read-event}
@@ -95,15 +96,7 @@ unfolding bet-top-at
 bet-top-is [] f w = refl
 bet-top-is (x ∷ b) f w = rw (ne-eqb (length (x ∷ b)) 0 (omega arith)) (bet-part-is x (f .1 .0) (top-stands bet-bytes x b w))
 
--- goals have a byte or more, ancestors and bets two or more
-goal-long : (g : Goal) → 0 < length (goal-bytes g)
-goal-long truth = omega arith
-goal-long failure = omega arith
-goal-long (equal t u) = omega arith
-goal-long (conj a b) = omega arith
-goal-long (disj a b) = omega arith
-goal-long (atom p ts) = omega arith
-
+-- ancestors and bets have two bytes or more
 ancestor-long : (a : Ancestor) → 1 < length (ancestor-bytes a)
 ancestor-long (called p ts) = omega arith
 ancestor-long (in-conj h a b) = omega arith

@@ -13,7 +13,9 @@ use crate::layouts::left_with_or;
 use crate::layouts::second_entered;
 use crate::layouts::second_reached;
 use crate::numbers::pick_number;
+use crate::rules::*;
 use crate::view::View;
+use records::kinds::*;
 use records::plan::Plan;
 ghost use mathlib.Core.Path.{_≡_};
 ghost use Rattle.stepper.specs.Numbers.{call-source, exit-source, fail-source, redo-source, back-rule};
@@ -24,10 +26,10 @@ fn call_source(kind: u8, tag: u8) -> u8
     ensures { λ r. ⌜ r ≡ call-source kind tag ⌝ }
 {
     match kind {
-        0x30 => pick_number(tag, 1, 1, 2),
-        0x31 => pick_number(tag, 1, 7, 8),
-        0x15 => 18,
-        _ => 0,
+        IN_CONJ => pick_number(tag, FIRST, CONJ_CALL, CONJ_EXIT_FIRST),
+        IN_DISJ => pick_number(tag, FIRST, DISJ_CALL, DISJ_FAIL_FIRST),
+        ATOM => ATOM_CALL,
+        _ => NO_RULE,
     }
 }
 
@@ -36,12 +38,17 @@ fn exit_source(kind: u8, bet: u8, tag: u8) -> u8
     ensures { λ r. ⌜ r ≡ exit-source kind bet tag ⌝ }
 {
     match kind {
-        0x10 => 13,
-        0x12 => pick_number(bet, 0x20, 16, 0),
-        0x13 => 4,
-        0x14 => pick_number(bet, 0x21, pick_number(tag, 1, 10, 11), 0),
-        0x15 => pick_number(bet, 0x22, 19, 0),
-        _ => 0,
+        TRUTH => TRUE_CALL,
+        EQUAL => pick_number(bet, UNIFIER, EQUAL_CALL, NO_RULE),
+        CONJ => CONJ_EXIT_SECOND,
+        DISJ => pick_number(
+            bet,
+            OR,
+            pick_number(tag, FIRST, DISJ_EXIT_FIRST, DISJ_EXIT_SECOND),
+            NO_RULE,
+        ),
+        ATOM => pick_number(bet, BY, ATOM_EXIT, NO_RULE),
+        _ => NO_RULE,
     }
 }
 
@@ -50,13 +57,13 @@ fn fail_source(kind: u8) -> u8
     ensures { λ r. ⌜ r ≡ fail-source kind ⌝ }
 {
     match kind {
-        0x10 => 14,
-        0x11 => 15,
-        0x12 => 17,
-        0x13 => 3,
-        0x14 => 9,
-        0x15 => 20,
-        _ => 0,
+        TRUTH => TRUE_REDO,
+        FAILURE => FAIL_CALL,
+        EQUAL => EQUAL_REDO,
+        CONJ => CONJ_FAIL_FIRST,
+        DISJ => DISJ_FAIL_SECOND,
+        ATOM => ATOM_FAIL,
+        _ => NO_RULE,
     }
 }
 
@@ -65,10 +72,10 @@ fn redo_source(kind: u8, tag: u8) -> u8
     ensures { λ r. ⌜ r ≡ redo-source kind tag ⌝ }
 {
     match kind {
-        0x30 => pick_number(tag, 1, 5, 6),
-        0x31 => 12,
-        0x15 => 21,
-        _ => 0,
+        IN_CONJ => pick_number(tag, FIRST, CONJ_FAIL_SECOND, CONJ_REDO),
+        IN_DISJ => DISJ_REDO,
+        ATOM => ATOM_REDO,
+        _ => NO_RULE,
     }
 }
 
@@ -78,11 +85,11 @@ pub fn back_rule(v: View) -> u8
 {
     let port = v.port;
     match port {
-        1 => call_source(v.ancestor.kind, v.ancestor.tag),
-        2 => exit_source(v.goal.kind, v.bet.kind, v.bet.tag),
-        3 => fail_source(v.goal.kind),
-        4 => redo_source(v.ancestor.kind, v.ancestor.tag),
-        _ => 0,
+        CALL => call_source(v.ancestor.kind, v.ancestor.tag),
+        EXIT => exit_source(v.goal.kind, v.bet.kind, v.bet.tag),
+        FAIL => fail_source(v.goal.kind),
+        REDO => redo_source(v.ancestor.kind, v.ancestor.tag),
+        _ => NO_RULE,
     }
 }
 
@@ -91,23 +98,23 @@ pub fn back_plan(v: View, n: u8) -> Plan
     ensures { λ r. ⌜ r ≡ back-plan v n ⌝ }
 {
     match n {
-        1 => left(v, 1, 0x13),
-        2 => first_reached(v, 2, 0x30),
-        3 => first_entered(v, 3, 0x30),
-        4 => second_entered(v, 2, 0x30),
-        5 => second_reached(v, 3, 0x30),
-        6 => left(v, 4, 0x13),
-        7 => left(v, 1, 0x14),
-        8 => first_reached(v, 3, 0x31),
-        9 => second_entered(v, 3, 0x31),
-        10 => chosen(v, 2),
-        11 => chosen(v, 2),
-        12 => left_with_or(v, 4),
-        14 => kept(v, 4),
-        16 => bet_dropped(v, 1),
-        18 => atom_left(v, 1),
-        19 => body_entered(v, 2),
-        21 => atom_left_by(v, 4),
-        _ => kept(v, 1),
+        CONJ_CALL => left(v, CALL, CONJ),
+        CONJ_EXIT_FIRST => first_reached(v, EXIT, IN_CONJ),
+        CONJ_FAIL_FIRST => first_entered(v, FAIL, IN_CONJ),
+        CONJ_EXIT_SECOND => second_entered(v, EXIT, IN_CONJ),
+        CONJ_FAIL_SECOND => second_reached(v, FAIL, IN_CONJ),
+        CONJ_REDO => left(v, REDO, CONJ),
+        DISJ_CALL => left(v, CALL, DISJ),
+        DISJ_FAIL_FIRST => first_reached(v, FAIL, IN_DISJ),
+        DISJ_FAIL_SECOND => second_entered(v, FAIL, IN_DISJ),
+        DISJ_EXIT_FIRST => chosen(v, EXIT),
+        DISJ_EXIT_SECOND => chosen(v, EXIT),
+        DISJ_REDO => left_with_or(v, REDO),
+        TRUE_REDO => kept(v, REDO),
+        EQUAL_CALL => bet_dropped(v, CALL),
+        ATOM_CALL => atom_left(v, CALL),
+        ATOM_EXIT => body_entered(v, EXIT),
+        ATOM_REDO => atom_left_by(v, REDO),
+        _ => kept(v, CALL),
     }
 }

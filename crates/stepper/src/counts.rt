@@ -1,7 +1,11 @@
 // The port counts of a walk: an accepted event's port is added, and a refused event changes none.
 use records::gate::event_number;
 use records::gate::event_verdict;
+use records::kinds::CALL;
+use records::kinds::EXIT;
+use records::kinds::FAIL;
 use records::places::event_places;
+use records::questions::DONE;
 ghost use mathlib.Core.Path.{_≡_};
 ghost use Rattle.stepper.specs.Counts.{one-more, count-record};
 ghost use Rattle.stepper.specs.PortCounts.{counts-of, reply-of, with-port};
@@ -33,19 +37,19 @@ fn with_port(counts: Counts, port: u8) -> Counts
     ensures { λ r. ⌜ r ≡ with-port counts port ⌝ }
 {
     match port {
-        1 => Counts {
+        CALL => Counts {
             calls: one_more(counts.calls),
             exits: counts.exits,
             fails: counts.fails,
             redos: counts.redos,
         },
-        2 => Counts {
+        EXIT => Counts {
             calls: counts.calls,
             exits: one_more(counts.exits),
             fails: counts.fails,
             redos: counts.redos,
         },
-        3 => Counts {
+        FAIL => Counts {
             calls: counts.calls,
             exits: counts.exits,
             fails: one_more(counts.fails),
@@ -65,13 +69,13 @@ pub fn count(counts: Counts, event: &[u8]) -> Counted
     ensures { λ r. ⌜ reply-of r ≡ count-record (now (event .entry)) (counts-of counts) ⌝ }
 {
     let number = event_number(event_verdict(event));
-    if number != 0 {
+    if number != DONE {
         return Counted { number, counts };
     }
     let places = event_places(event);
     let next = with_port(counts, places.port);
     Counted {
-        number: 0,
+        number: DONE,
         counts: next,
     }
 }

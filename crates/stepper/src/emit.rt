@@ -28,12 +28,12 @@ pub fn refusal(number: u8) -> Moved
     }
 }
 
-// The event that a plan makes, within questions 5 and 10.
-pub fn emit_event(out: &mut [u8], p: Plan, event: &[u8], goals: &[u8], bets: &[u8]) -> Moved
-    requires { ⌜ Within p (now event) (now goals) (now bets) ⌝ }
-    ensures { λ r. ⌜ EmittedEvent (now (out .entry)) p (now (event .entry)) (now (goals .entry)) (now (bets .entry)) r (now (out .exit)) ⌝ }
+// The event that a plan makes of another, within questions 5 and 10.
+pub fn emit_event(out: &mut [u8], p: Plan, event: &[u8]) -> Moved
+    requires { ⌜ Within p (now event) ⌝ }
+    ensures { λ r. ⌜ EmittedEvent (now (out .entry)) p (now (event .entry)) r (now (out .exit)) ⌝ }
 {
-    let emit = emit_plan(out, p, event, goals, bets);
+    let emit = emit_plan(out, p, event);
     let ends = plan_ends(p);
     Moved {
         number: emit.number,

@@ -1,6 +1,7 @@
 // Query to first event.
 use records::gate::event_number;
 use records::gate::query_verdict;
+use records::kinds::CALL;
 use records::plan::Emit;
 use records::plan::Lead;
 use records::plan::Piece;
@@ -8,6 +9,7 @@ use records::plan::Plan;
 use records::plan::Stack;
 use records::plan::emit_plan;
 use records::put::Range;
+use records::questions::DONE;
 ghost use mathlib.Core.Path.{_≡_};
 ghost use Rattle.stepper.specs.Services.{first-record};
 ghost use Rattle.stepper.specs.Desk.{layers};
@@ -32,7 +34,7 @@ fn first_plan(end: usize) -> Plan
     ensures { λ r. ⌜ r ≡ first-plan end ⌝ }
 {
     Plan {
-        port: 1,
+        port: CALL,
         goal: Piece {
             lead: Lead::Bare,
             range: Range { from: 3, to: end },
@@ -47,10 +49,10 @@ pub fn first_event(query: &[u8], out: &mut [u8]) -> u8
     ensures { λ r. ⌜ Replied (first-record layers (now (query .entry)) (now (out .entry))) r (now (out .exit)) ⌝ }
 {
     let n = event_number(query_verdict(query));
-    if n != 0 {
+    if n != DONE {
         return n;
     }
     let p = first_plan(query.len());
-    let emit = emit_plan(out, p, query, query, query);
+    let emit = emit_plan(out, p, query);
     emit.number
 }

@@ -13,7 +13,9 @@ use crate::layouts::left_with_or;
 use crate::layouts::second_entered;
 use crate::layouts::second_reached;
 use crate::numbers::pick_number;
+use crate::rules::*;
 use crate::view::View;
+use records::kinds::*;
 use records::plan::Plan;
 ghost use mathlib.Core.Path.{_≡_};
 ghost use Rattle.stepper.specs.Numbers.{call-rule, exit-rule, fail-rule, redo-rule, forward-rule};
@@ -24,13 +26,13 @@ fn call_rule(kind: u8) -> u8
     ensures { λ r. ⌜ r ≡ call-rule kind ⌝ }
 {
     match kind {
-        0x10 => 13,
-        0x11 => 15,
-        0x12 => 16,
-        0x13 => 1,
-        0x14 => 7,
-        0x15 => 18,
-        _ => 0,
+        TRUTH => TRUE_CALL,
+        FAILURE => FAIL_CALL,
+        EQUAL => EQUAL_CALL,
+        CONJ => CONJ_CALL,
+        DISJ => DISJ_CALL,
+        ATOM => ATOM_CALL,
+        _ => NO_RULE,
     }
 }
 
@@ -39,10 +41,10 @@ fn exit_rule(kind: u8, tag: u8) -> u8
     ensures { λ r. ⌜ r ≡ exit-rule kind tag ⌝ }
 {
     match kind {
-        0x30 => pick_number(tag, 1, 2, 4),
-        0x31 => pick_number(tag, 1, 10, 11),
-        0x15 => 19,
-        _ => 0,
+        IN_CONJ => pick_number(tag, FIRST, CONJ_EXIT_FIRST, CONJ_EXIT_SECOND),
+        IN_DISJ => pick_number(tag, FIRST, DISJ_EXIT_FIRST, DISJ_EXIT_SECOND),
+        ATOM => ATOM_EXIT,
+        _ => NO_RULE,
     }
 }
 
@@ -51,10 +53,10 @@ fn fail_rule(kind: u8, tag: u8) -> u8
     ensures { λ r. ⌜ r ≡ fail-rule kind tag ⌝ }
 {
     match kind {
-        0x30 => pick_number(tag, 1, 3, 5),
-        0x31 => pick_number(tag, 1, 8, 9),
-        0x15 => 20,
-        _ => 0,
+        IN_CONJ => pick_number(tag, FIRST, CONJ_FAIL_FIRST, CONJ_FAIL_SECOND),
+        IN_DISJ => pick_number(tag, FIRST, DISJ_FAIL_FIRST, DISJ_FAIL_SECOND),
+        ATOM => ATOM_FAIL,
+        _ => NO_RULE,
     }
 }
 
@@ -63,12 +65,12 @@ fn redo_rule(kind: u8, bet: u8) -> u8
     ensures { λ r. ⌜ r ≡ redo-rule kind bet ⌝ }
 {
     match kind {
-        0x10 => 14,
-        0x12 => pick_number(bet, 0x20, 17, 0),
-        0x13 => 6,
-        0x14 => pick_number(bet, 0x21, 12, 0),
-        0x15 => pick_number(bet, 0x22, 21, 0),
-        _ => 0,
+        TRUTH => TRUE_REDO,
+        EQUAL => pick_number(bet, UNIFIER, EQUAL_REDO, NO_RULE),
+        CONJ => CONJ_REDO,
+        DISJ => pick_number(bet, OR, DISJ_REDO, NO_RULE),
+        ATOM => pick_number(bet, BY, ATOM_REDO, NO_RULE),
+        _ => NO_RULE,
     }
 }
 
@@ -78,11 +80,11 @@ pub fn forward_rule(v: View) -> u8
 {
     let port = v.port;
     match port {
-        1 => call_rule(v.goal.kind),
-        2 => exit_rule(v.ancestor.kind, v.ancestor.tag),
-        3 => fail_rule(v.ancestor.kind, v.ancestor.tag),
-        4 => redo_rule(v.goal.kind, v.bet.kind),
-        _ => 0,
+        CALL => call_rule(v.goal.kind),
+        EXIT => exit_rule(v.ancestor.kind, v.ancestor.tag),
+        FAIL => fail_rule(v.ancestor.kind, v.ancestor.tag),
+        REDO => redo_rule(v.goal.kind, v.bet.kind),
+        _ => NO_RULE,
     }
 }
 
@@ -91,23 +93,23 @@ pub fn forward_plan(v: View, n: u8) -> Plan
     ensures { λ r. ⌜ r ≡ forward-plan v n ⌝ }
 {
     match n {
-        1 => first_entered(v, 1, 0x30),
-        2 => second_reached(v, 1, 0x30),
-        3 => left(v, 3, 0x13),
-        4 => left(v, 2, 0x13),
-        5 => first_reached(v, 4, 0x30),
-        6 => second_entered(v, 4, 0x30),
-        7 => first_entered(v, 1, 0x31),
-        8 => second_reached(v, 1, 0x31),
-        9 => left(v, 3, 0x14),
-        10 => left_with_or(v, 2),
-        11 => left_with_or(v, 2),
-        12 => chosen(v, 4),
-        13 => kept(v, 2),
-        17 => bet_dropped(v, 3),
-        19 => atom_left_by(v, 2),
-        20 => atom_left(v, 3),
-        21 => body_entered(v, 4),
-        _ => kept(v, 3),
+        CONJ_CALL => first_entered(v, CALL, IN_CONJ),
+        CONJ_EXIT_FIRST => second_reached(v, CALL, IN_CONJ),
+        CONJ_FAIL_FIRST => left(v, FAIL, CONJ),
+        CONJ_EXIT_SECOND => left(v, EXIT, CONJ),
+        CONJ_FAIL_SECOND => first_reached(v, REDO, IN_CONJ),
+        CONJ_REDO => second_entered(v, REDO, IN_CONJ),
+        DISJ_CALL => first_entered(v, CALL, IN_DISJ),
+        DISJ_FAIL_FIRST => second_reached(v, CALL, IN_DISJ),
+        DISJ_FAIL_SECOND => left(v, FAIL, DISJ),
+        DISJ_EXIT_FIRST => left_with_or(v, EXIT),
+        DISJ_EXIT_SECOND => left_with_or(v, EXIT),
+        DISJ_REDO => chosen(v, REDO),
+        TRUE_CALL => kept(v, EXIT),
+        EQUAL_REDO => bet_dropped(v, FAIL),
+        ATOM_EXIT => atom_left_by(v, EXIT),
+        ATOM_FAIL => atom_left(v, FAIL),
+        ATOM_REDO => body_entered(v, REDO),
+        _ => kept(v, FAIL),
     }
 }

@@ -1,7 +1,12 @@
 // Question 7 for a goal under a conjunction or a disjunction.
 use crate::view::View;
 use records::compare::same_range;
+use records::kinds::FIRST;
+use records::kinds::IN_CONJ;
+use records::kinds::IN_DISJ;
 use records::put::Range;
+use records::questions::DONE;
+use records::questions::MATCHES;
 ghost use mathlib.Core.Path.{_≡_};
 ghost use Rattle.stepper.specs.Halves.{HalvesInside, is-half, either, HalvesWhere, unlike-number};
 
@@ -14,7 +19,7 @@ pub fn is_half(event: &[u8], v: View) -> bool
         from: v.goal.from,
         to: v.goal.to,
     };
-    if v.ancestor.tag == 1 {
+    if v.ancestor.tag == FIRST {
         let first = Range {
             from: v.ancestor.content,
             to: v.ancestor.middle,
@@ -42,10 +47,10 @@ pub fn unlike(event: &[u8], v: View, one: u8, other: u8) -> u8
     ensures { λ r. ⌜ r ≡ unlike-number (now (event .entry)) v one other ⌝ }
 {
     if !is_either(v.port, one, other) {
-        return 0;
+        return DONE;
     }
-    if !is_either(v.ancestor.kind, 0x30, 0x31) {
-        return 0;
+    if !is_either(v.ancestor.kind, IN_CONJ, IN_DISJ) {
+        return DONE;
     }
-    if is_half(event, v) { 0 } else { 7 }
+    if is_half(event, v) { DONE } else { MATCHES }
 }

@@ -3,6 +3,7 @@
 use crate::view::Part;
 use crate::view::StackPlaces;
 use crate::view::View;
+use records::kinds::*;
 use records::plan::Lead;
 use records::plan::Piece;
 use records::plan::Plan;
@@ -15,7 +16,7 @@ ghost use Rattle.stepper.specs.Layouts.{kept, bet-dropped, first-entered
 ghost use Rattle.stepper.specs.Layouts.{left, left-with-or, atom-left, atom-left-by, body-entered};
 
 // A part as it stands.
-pub fn whole(part: Part) -> Piece
+fn whole(part: Part) -> Piece
     ensures { λ r. ⌜ r ≡ whole part ⌝ }
 {
     Piece {
@@ -97,7 +98,7 @@ fn by_goal(part: Part) -> Piece
     ensures { λ r. ⌜ r ≡ by-goal part ⌝ }
 {
     Piece {
-        lead: Lead::One(0x22),
+        lead: Lead::One(BY),
         range: Range {
             from: part.from,
             to: part.to,
@@ -110,12 +111,13 @@ fn or_tag(tag: u8) -> Piece
     ensures { λ r. ⌜ r ≡ or-tag tag ⌝ }
 {
     Piece {
-        lead: Lead::Two(0x21, tag),
+        lead: Lead::Two(OR, tag),
         range: Range { from: 0, to: 0 },
     }
 }
 
-pub fn same(stack: StackPlaces) -> Stack
+// A stack as it is.
+fn same(stack: StackPlaces) -> Stack
     ensures { λ r. ⌜ r ≡ same stack ⌝ }
 {
     Stack {
@@ -149,7 +151,7 @@ fn dropped(stack: StackPlaces) -> Stack
 }
 
 // A stack with a piece put on it.
-pub fn pushed(stack: StackPlaces, top: Piece) -> Stack
+fn pushed(stack: StackPlaces, top: Piece) -> Stack
     ensures { λ r. ⌜ r ≡ pushed stack top ⌝ }
 {
     Stack {
@@ -176,7 +178,8 @@ fn replaced(stack: StackPlaces, top: Piece) -> Stack
     }
 }
 
-pub fn plan_of(port: u8, goal: Piece, ancestors: Stack, bets: Stack) -> Plan
+// Port, goal and stacks.
+fn plan_of(port: u8, goal: Piece, ancestors: Stack, bets: Stack) -> Plan
     ensures { λ r. ⌜ r ≡ plan-of port goal ancestors bets ⌝ }
 {
     Plan {
@@ -208,7 +211,7 @@ pub fn first_entered(v: View, port: u8, kind: u8) -> Plan
     plan_of(
         port,
         first_of(v.goal),
-        pushed(v.ancestors, tagged(kind, 1, v.goal)),
+        pushed(v.ancestors, tagged(kind, FIRST, v.goal)),
         same(v.bets),
     )
 }
@@ -220,7 +223,7 @@ pub fn second_entered(v: View, port: u8, kind: u8) -> Plan
     plan_of(
         port,
         second_of(v.goal),
-        pushed(v.ancestors, tagged(kind, 2, v.goal)),
+        pushed(v.ancestors, tagged(kind, SECOND, v.goal)),
         same(v.bets),
     )
 }
@@ -232,7 +235,7 @@ fn first_chosen(v: View, port: u8) -> Plan
     plan_of(
         port,
         first_of(v.goal),
-        pushed(v.ancestors, tagged(0x31, 1, v.goal)),
+        pushed(v.ancestors, tagged(IN_DISJ, FIRST, v.goal)),
         dropped(v.bets),
     )
 }
@@ -244,7 +247,7 @@ fn second_chosen(v: View, port: u8) -> Plan
     plan_of(
         port,
         second_of(v.goal),
-        pushed(v.ancestors, tagged(0x31, 2, v.goal)),
+        pushed(v.ancestors, tagged(IN_DISJ, SECOND, v.goal)),
         dropped(v.bets),
     )
 }
@@ -256,7 +259,7 @@ pub fn first_reached(v: View, port: u8, kind: u8) -> Plan
     plan_of(
         port,
         first_of(v.ancestor),
-        replaced(v.ancestors, tagged(kind, 1, v.ancestor)),
+        replaced(v.ancestors, tagged(kind, FIRST, v.ancestor)),
         same(v.bets),
     )
 }
@@ -268,7 +271,7 @@ pub fn second_reached(v: View, port: u8, kind: u8) -> Plan
     plan_of(
         port,
         second_of(v.ancestor),
-        replaced(v.ancestors, tagged(kind, 2, v.ancestor)),
+        replaced(v.ancestors, tagged(kind, SECOND, v.ancestor)),
         same(v.bets),
     )
 }
@@ -291,7 +294,7 @@ pub fn left_with_or(v: View, port: u8) -> Plan
 {
     plan_of(
         port,
-        led(0x14, v.ancestor),
+        led(DISJ, v.ancestor),
         dropped(v.ancestors),
         pushed(v.bets, or_tag(v.ancestor.tag)),
     )
@@ -332,7 +335,7 @@ pub fn body_entered(v: View, port: u8) -> Plan
 pub fn chosen(v: View, port: u8) -> Plan
     ensures { λ r. ⌜ r ≡ chosen v port ⌝ }
 {
-    if v.bet.tag == 1 {
+    if v.bet.tag == FIRST {
         first_chosen(v, port)
     } else {
         second_chosen(v, port)

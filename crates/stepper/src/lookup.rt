@@ -11,6 +11,7 @@ use records::heads::GoalHead;
 use records::heads::goal_head;
 use records::places::event_places;
 use records::put::Range;
+use records::questions::DONE;
 use terms::definitions::Lookup;
 use terms::definitions::find_definition;
 ghost use mathlib.Core.Path.{_≡_};
@@ -68,10 +69,10 @@ fn named_range(program: &[u8], event: &[u8]) -> Range
 pub fn lookup_range(program: &[u8], event: &[u8]) -> Range
     ensures { λ r. ⌜ r ≡ range-of (lookup (now (program .entry)) (now (event .entry))) ⌝ }
 {
-    if program_number(program_verdict(program)) != 0 {
+    if program_number(program_verdict(program)) != DONE {
         return nowhere();
     }
-    if event_number(event_verdict(event)) != 0 {
+    if event_number(event_verdict(event)) != DONE {
         return nowhere();
     }
     named_range(program, event)

@@ -7,6 +7,7 @@ use records::places::PartEnds;
 use records::places::part_ends;
 use records::put::Range;
 use records::put::put_range;
+use records::questions::DONE;
 ghost use Prim.Native.Nat.{_≤_};
 ghost use lib.ListN.{length, take};
 ghost use Rattle.stepper.specs.Rules.{step};
@@ -62,7 +63,7 @@ pub fn turn(
     ensures { λ r. ⌜ ((w : Passed (now (program .entry)) (take len (now (here .entry)))) → Turned (step (machine layers (w .definitions)) (direction back) (w .event)) (now (here .entry)) r (now (here .exit))) ⌝ }
 {
     let moved = step_on(program, &here[..len], ends, back, there);
-    if moved.number != 0 {
+    if moved.number != DONE {
         return moved;
     }
     let record = Range {
@@ -95,7 +96,7 @@ fn run_on(
     let mut taken = 0;
     while taken < steps {
         let moved = turn(program, here, len, ends, there, back);
-        if moved.number != 0 {
+        if moved.number != DONE {
             return Reached {
                 number: moved.number,
                 taken,
@@ -107,7 +108,7 @@ fn run_on(
         taken += 1;
     }
     Reached {
-        number: 0,
+        number: DONE,
         taken,
         length: len,
     }
@@ -118,7 +119,7 @@ pub fn run(program: &[u8], event: &[u8], steps: u32, back: bool, out: &mut [u8])
     ensures { λ r. ⌜ RunReplied (run-record layers (direction back) steps (now (program .entry)) (now (event .entry)) (now (out .entry))) r (now (out .exit)) ⌝ }
 {
     let number = gate(program, event, out.len());
-    if number != 0 {
+    if number != DONE {
         return RunAnswer { number, taken: 0 };
     }
     let mut here: [u8; 32768] = [0; 32768];

@@ -2,9 +2,13 @@
 use crate::view::View;
 use records::compare::same_range;
 use records::put::Range;
+use records::questions::DONE;
+use records::questions::MATCHES;
 use terms::body::BodyAnswer;
 use terms::body::atom_body;
+use terms::body::body_refusal;
 use terms::equality::UnifierAnswer;
+use terms::equality::unifier_refusal;
 use terms::equality::unifier_under;
 use terms::variables::Frame;
 ghost use mathlib.Core.Path.{_≡_};
@@ -24,9 +28,9 @@ fn same_front(other: &[u8], n: usize, event: &[u8], range: Range) -> u8
 {
     let front = Range { from: 0, to: n };
     if same_range(other, front, event, range) {
-        0
+        DONE
     } else {
-        7
+        MATCHES
     }
 }
 
@@ -48,11 +52,12 @@ pub fn same_unifier(event: &[u8], v: View) -> u8
         from: v.bet.content,
         to: v.bet.to,
     };
-    match unifier_under(event, v.bets.rest, v.bets.fewer, left, right, &mut unifier) {
-        UnifierAnswer::TooLarge => 8,
-        UnifierAnswer::Clash => 7,
+    let answer = unifier_under(event, v.bets.rest, v.bets.fewer, left, right, &mut unifier);
+    match answer {
+        UnifierAnswer::TooLarge => unifier_refusal(answer),
+        UnifierAnswer::Clash => MATCHES,
         UnifierAnswer::Unifier(n) => same_front(&unifier, n, event, bet),
-        UnifierAnswer::TooLong => 7,
+        UnifierAnswer::TooLong => MATCHES,
     }
 }
 
@@ -80,10 +85,11 @@ pub fn same_body(program: &[u8], event: &[u8], v: View) -> u8
         from: v.goal.from,
         to: v.goal.to,
     };
-    match atom_body(program, event, ancestor_frame(v), &mut buffer) {
-        BodyAnswer::TooMany => 9,
-        BodyAnswer::Undefined => 7,
+    let answer = atom_body(program, event, ancestor_frame(v), &mut buffer);
+    match answer {
+        BodyAnswer::TooMany => body_refusal(answer),
+        BodyAnswer::Undefined => MATCHES,
         BodyAnswer::Defined(n) => same_front(&buffer, n, event, goal),
-        BodyAnswer::TooLong => 7,
+        BodyAnswer::TooLong => MATCHES,
     }
 }

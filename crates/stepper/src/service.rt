@@ -5,7 +5,10 @@ use records::gate::event_number;
 use records::gate::event_verdict;
 use records::gate::program_number;
 use records::gate::program_verdict;
+use records::kinds::RECORD_LIMIT;
 use records::places::part_ends;
+use records::questions::DONE;
+use records::questions::OUTPUT;
 ghost use mathlib.Core.Path.{_≡_};
 ghost use Rattle.stepper.specs.Walk.{forward, back};
 ghost use Rattle.stepper.specs.Services.{step-record};
@@ -18,14 +21,14 @@ pub fn gate(program: &[u8], event: &[u8], room: usize) -> u8
     ensures { λ r. ⌜ r ≡ gate-number (now (program .entry)) (now (event .entry)) room ⌝ }
 {
     let p = program_number(program_verdict(program));
-    if p != 0 {
+    if p != DONE {
         return p;
     }
     let e = event_number(event_verdict(event));
-    if e != 0 {
+    if e != DONE {
         return e;
     }
-    if room < 32768 { 5 } else { 0 }
+    if room < RECORD_LIMIT { OUTPUT } else { DONE }
 }
 
 // The number, and the next event's record where it is 0.
@@ -33,7 +36,7 @@ pub fn step_forward(program: &[u8], event: &[u8], out: &mut [u8]) -> u8
     ensures { λ r. ⌜ Replied (step-record layers forward (now (program .entry)) (now (event .entry)) (now (out .entry))) r (now (out .exit)) ⌝ }
 {
     let n = gate(program, event, out.len());
-    if n != 0 {
+    if n != DONE {
         return n;
     }
     let moved = next_event(program, event, part_ends(event), out);
@@ -45,7 +48,7 @@ pub fn step_back(program: &[u8], event: &[u8], out: &mut [u8]) -> u8
     ensures { λ r. ⌜ Replied (step-record layers back (now (program .entry)) (now (event .entry)) (now (out .entry))) r (now (out .exit)) ⌝ }
 {
     let n = gate(program, event, out.len());
-    if n != 0 {
+    if n != DONE {
         return n;
     }
     let moved = source_event(program, event, part_ends(event), out);

@@ -1,20 +1,19 @@
 // The rules that look beyond an event's parts: the call of an equality and of an atom, and fail of either read back. Each goes one of two ways.
+// What such a rule adds to the event is written straight into its place of the output, and the record is completed around it.
+use crate::around::gap;
+use crate::around::with_body;
+use crate::around::with_unifier;
 use crate::emit::Moved;
 use crate::emit::emit_event;
 use crate::emit::refusal;
 use crate::layouts::kept;
-use crate::layouts::plan_of;
-use crate::layouts::pushed;
-use crate::layouts::same;
-use crate::layouts::whole;
 use crate::view::View;
-use records::plan::Lead;
-use records::plan::Piece;
-use records::plan::Plan;
 use records::put::Range;
 use terms::body::BodyAnswer;
 use terms::body::atom_body;
+use terms::body::body_refusal;
 use terms::equality::UnifierAnswer;
+use terms::equality::unifier_refusal;
 use terms::equality::unifier_under;
 use terms::variables::Frame;
 ghost use mathlib.Core.Path.{_≡_};
@@ -23,41 +22,7 @@ ghost use lib.ListN.{length};
 ghost use Rattle.records.specs.Syntax.{Port};
 ghost use Rattle.records.specs.Encode.{port-byte};
 ghost use Rattle.stepper.specs.Stepped.{Stepped};
-ghost use Rattle.stepper.specs.Settled.{settled-equality, settled-atom, ProgramRead, EqualityViewed, AtomViewed, with-unifier, with-body, goal-frame};
-
-// The first n bytes of a source, after a lead.
-fn front(lead: Lead, n: usize) -> Piece
-    ensures { λ r. ⌜ r ≡ record { lead = lead; range = record { from = 0; to = n } } ⌝ }
-{
-    Piece {
-        lead,
-        range: Range { from: 0, to: n },
-    }
-}
-
-// The equality with a unifier, whose count and pairs have n bytes, put on the bets.
-fn with_unifier(v: View, port: u8, n: usize) -> Plan
-    ensures { λ r. ⌜ r ≡ with-unifier v port n ⌝ }
-{
-    plan_of(
-        port,
-        whole(v.goal),
-        same(v.ancestors),
-        pushed(v.bets, front(Lead::One(0x20), n)),
-    )
-}
-
-// A body of n bytes under its atom.
-fn with_body(v: View, port: u8, n: usize) -> Plan
-    ensures { λ r. ⌜ r ≡ with-body v port n ⌝ }
-{
-    plan_of(
-        port,
-        front(Lead::Bare, n),
-        pushed(v.ancestors, whole(v.goal)),
-        same(v.bets),
-    )
-}
+ghost use Rattle.stepper.specs.Settled.{settled-equality, settled-atom, ProgramRead, EqualityViewed, AtomViewed, goal-frame};
 
 // An equality goes to one port if its terms have no unifier, else to the other with the unifier put on the bets.
 pub fn settle_equality(event: &[u8], v: View, clash: u8, found: u8, out: &mut [u8]) -> Moved
@@ -65,7 +30,6 @@ pub fn settle_equality(event: &[u8], v: View, clash: u8, found: u8, out: &mut [u
     requires { ⌜ 32768 ≤ length (now out) ⌝ }
     ensures { λ r. ⌜ ((w : EqualityViewed (now (event .entry)) v) (p q : Port) → port-byte p ≡ clash → port-byte q ≡ found → Stepped (settled-equality p q (w .left) (w .right) (w .ancestors) (w .bets)) (now (out .entry)) r (now (out .exit))) ⌝ }
 {
-    let mut unifier: [u8; 32768] = [0; 32768];
     let left = Range {
         from: v.goal.content,
         to: v.goal.middle,
@@ -74,13 +38,22 @@ pub fn settle_equality(event: &[u8], v: View, clash: u8, found: u8, out: &mut [u
         from: v.goal.middle,
         to: v.goal.to,
     };
-    match unifier_under(event, v.bets.from, v.bets.count, left, right, &mut unifier) {
-        UnifierAnswer::TooLarge => refusal(8),
-        UnifierAnswer::Clash => emit_event(out, kept(v, clash), event, event, event),
-        UnifierAnswer::Unifier(n) => {
-            emit_event(out, with_unifier(v, found, n), event, event, &unifier)
-        }
-        UnifierAnswer::TooLong => refusal(10),
+    let part = gap(v.bets.from + 1, event.len() + 1);
+    let from = part.from;
+    let to = part.to;
+    let answer = unifier_under(
+        event,
+        v.bets.from,
+        v.bets.count,
+        left,
+        right,
+        &mut out[from..to],
+    );
+    match answer {
+        UnifierAnswer::TooLarge => refusal(unifier_refusal(answer)),
+        UnifierAnswer::Clash => emit_event(out, kept(v, clash), event),
+        UnifierAnswer::Unifier(n) => with_unifier(event, v, found, n, out),
+        UnifierAnswer::TooLong => refusal(unifier_refusal(answer)),
     }
 }
 
@@ -111,11 +84,14 @@ pub fn settle_atom(
     requires { ⌜ 32768 ≤ length (now out) ⌝ }
     ensures { λ r. ⌜ ((d : ProgramRead (now (program .entry))) (w : AtomViewed (now (event .entry)) v) (p q : Port) → port-byte p ≡ undefined → port-byte q ≡ defined → Stepped (settled-atom (d .definitions) p q (w .predicate) (w .terms) (w .ancestors) (w .bets)) (now (out .entry)) r (now (out .exit))) ⌝ }
 {
-    let mut body: [u8; 32768] = [0; 32768];
-    match atom_body(program, event, goal_frame(v), &mut body) {
-        BodyAnswer::TooMany => refusal(9),
-        BodyAnswer::Undefined => emit_event(out, kept(v, undefined), event, event, event),
-        BodyAnswer::Defined(n) => emit_event(out, with_body(v, defined, n), event, &body, event),
-        BodyAnswer::TooLong => refusal(10),
+    let part = gap(v.goal.from, event.len());
+    let from = part.from;
+    let to = part.to;
+    let answer = atom_body(program, event, goal_frame(v), &mut out[from..to]);
+    match answer {
+        BodyAnswer::TooMany => refusal(body_refusal(answer)),
+        BodyAnswer::Undefined => emit_event(out, kept(v, undefined), event),
+        BodyAnswer::Defined(n) => with_body(event, v, defined, n, out),
+        BodyAnswer::TooLong => refusal(body_refusal(answer)),
     }
 }

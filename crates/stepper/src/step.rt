@@ -8,14 +8,19 @@ use crate::emit::refusal;
 use crate::forward::forward_plan;
 use crate::forward::forward_rule;
 use crate::half::unlike;
+use crate::rules::*;
 use crate::same::same_body;
 use crate::same::same_unifier;
 use crate::settle::settle_atom;
 use crate::settle::settle_equality;
 use crate::view::View;
 use crate::view::event_view;
+use records::kinds::*;
 use records::places::PartEnds;
 use records::plan::Plan;
+use records::questions::DONE;
+use records::questions::MATCHES;
+use records::questions::POSSIBLE;
 ghost use mathlib.Core.Path.{_≡_};
 ghost use Prim.Native.Nat.{_≤_};
 ghost use lib.ListN.{length};
@@ -33,9 +38,9 @@ fn no_rule(v: View) -> u8
 {
     let port = v.port;
     match port {
-        2 => 6,
-        3 => 6,
-        _ => 7,
+        EXIT => POSSIBLE,
+        FAIL => POSSIBLE,
+        _ => MATCHES,
     }
 }
 
@@ -43,21 +48,21 @@ fn no_rule(v: View) -> u8
 fn no_source(v: View) -> u8
     ensures { λ r. ⌜ r ≡ no-source-number v ⌝ }
 {
-    if v.port != 1 {
-        return 7;
+    if v.port != CALL {
+        return MATCHES;
     }
-    if v.bets.count == 0 { 6 } else { 7 }
+    if v.bets.count == 0 { POSSIBLE } else { MATCHES }
 }
 
 // Emits a plan over the event, unless a question said no by its number.
 fn emit_unless(number: u8, event: &[u8], p: Plan, out: &mut [u8]) -> Moved
-    requires { ⌜ (number ≡ 0 → Within p (now event) (now event) (now event)) ⌝ }
+    requires { ⌜ (number ≡ 0 → Within p (now event)) ⌝ }
     ensures { λ r. ⌜ EmittedUnless number (now (out .entry)) p (now (event .entry)) r (now (out .exit)) ⌝ }
 {
-    if number != 0 {
+    if number != DONE {
         return refusal(number);
     }
-    emit_event(out, p, event, event, event)
+    emit_event(out, p, event)
 }
 
 // One step forward.
@@ -70,10 +75,10 @@ pub fn next_event(program: &[u8], event: &[u8], ends: PartEnds, out: &mut [u8]) 
     let v = event_view(event, ends);
     let n = forward_rule(v);
     match n {
-        0 => refusal(no_rule(v)),
-        16 => settle_equality(event, v, 3, 2, out),
-        18 => settle_atom(program, event, v, 3, 1, out),
-        _ => emit_unless(unlike(event, v, 2, 3), event, forward_plan(v, n), out),
+        NO_RULE => refusal(no_rule(v)),
+        EQUAL_CALL => settle_equality(event, v, FAIL, EXIT, out),
+        ATOM_CALL => settle_atom(program, event, v, FAIL, CALL, out),
+        _ => emit_unless(unlike(event, v, EXIT, FAIL), event, forward_plan(v, n), out),
     }
 }
 
@@ -87,11 +92,16 @@ pub fn source_event(program: &[u8], event: &[u8], ends: PartEnds, out: &mut [u8]
     let v = event_view(event, ends);
     let n = back_rule(v);
     match n {
-        0 => refusal(no_source(v)),
-        16 => emit_unless(same_unifier(event, v), event, back_plan(v, 16), out),
-        17 => settle_equality(event, v, 1, 4, out),
-        18 => emit_unless(same_body(program, event, v), event, back_plan(v, 18), out),
-        20 => settle_atom(program, event, v, 1, 3, out),
-        _ => emit_unless(unlike(event, v, 1, 4), event, back_plan(v, n), out),
+        NO_RULE => refusal(no_source(v)),
+        EQUAL_CALL => emit_unless(same_unifier(event, v), event, back_plan(v, EQUAL_CALL), out),
+        EQUAL_REDO => settle_equality(event, v, CALL, REDO, out),
+        ATOM_CALL => emit_unless(
+            same_body(program, event, v),
+            event,
+            back_plan(v, ATOM_CALL),
+            out,
+        ),
+        ATOM_FAIL => settle_atom(program, event, v, CALL, FAIL, out),
+        _ => emit_unless(unlike(event, v, CALL, REDO), event, back_plan(v, n), out),
     }
 }

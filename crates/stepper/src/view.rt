@@ -4,6 +4,7 @@ use records::ends::ancestor_end;
 use records::ends::bet_end;
 use records::ends::goals_end;
 use records::ends::term_end;
+use records::kinds::*;
 use records::places::PartEnds;
 use records::places::Row;
 use records::places::places_by;
@@ -61,9 +62,9 @@ fn middle(s: &[u8], at: usize, kind: u8, to: usize) -> usize
     ensures { λ r. ⌜ r ≡ middle-at (now (s .entry)) at kind to ⌝ }
 {
     match kind {
-        0x12 => found_end(term_end(s, at)),
-        0x13 => found_end(goals_end(s, at, 1)),
-        0x14 => found_end(goals_end(s, at, 1)),
+        EQUAL => found_end(term_end(s, at)),
+        CONJ => found_end(goals_end(s, at, 1)),
+        DISJ => found_end(goals_end(s, at, 1)),
         _ => to,
     }
 }
@@ -91,7 +92,7 @@ fn ancestor_part(s: &[u8], at: usize) -> Part
 {
     let kind = s[at];
     let to = found_end(ancestor_end(s, at));
-    if kind == 0x15 {
+    if kind == ATOM {
         return Part {
             kind,
             tag: 0,
@@ -117,7 +118,7 @@ fn bet_part(s: &[u8], at: usize) -> Part
 {
     let kind = s[at];
     let to = found_end(bet_end(s, at));
-    if kind == 0x21 {
+    if kind == OR {
         return Part {
             kind,
             tag: s[at + 1],

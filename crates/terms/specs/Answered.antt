@@ -1,7 +1,8 @@
 -- Question 8 in code: the answer of the functions that compute S(T) and S(v) into a buffer.
-use mathlib.Core.Path.{_≡_, refl, ap, _∙_}
+use mathlib.Core.Path.{_≡_, refl, sym, ap, _∙_}
 use mathlib.Core.List.{List, [], _∷_}
-use mathlib.Core.Option.{none, some}
+use mathlib.Core.Option.{Option, none, some}
+use native.Mathlib.Nat.{zero-add}
 use native.Mathlib.Omega.{arith}
 use Prim.Native.Nat.{ℕ, _*_, _/_, _%_, _≤_, _<_}
 use lib.ListN.{length}
@@ -12,7 +13,7 @@ use Rattle.records.specs.Walk.{walk}
 use Rattle.records.specs.Stands.{Stands, walk-term}
 use Rattle.terms.specs.Substitution.{apply}
 use Rattle.terms.specs.Outcome.{value-limit, value-under}
-use Rattle.terms.specs.OutcomeLaws.{value-within, value-beyond}
+use Rattle.terms.specs.OutcomeLaws.{value-within, value-beyond, Valued, within, beyond, valued}
 use Rattle.terms.specs.NodeBytes.{walk-bytes, substituted-bytes}
 use Rattle.terms.specs.Fitted.{Fitted}
 use Rattle.terms.specs.Applied.{TermAt, put-stands}
@@ -21,10 +22,39 @@ use Rattle.terms.specs.EntryLaws.{apply-variables}
 use Rattle.terms.specs.declared.substitute.Sized.{Sized}
 use Rattle.terms.specs.declared.substitute.Sized.the-variants.{Fits, TooLarge}
 
--- the value is within the limit and its bytes stand at the start of the buffer, so many of them, or there is no value within the limit
+-- the answer for a value; there is none where it is beyond the limit
+abbrev pub sized : Option Term → Sized
+sized none = TooLarge
+sized (some t) = Fits (length (term-bytes t))
+
+-- the paper's number for an answer: question 8 says no, else 0
+abbrev pub value-refusal : Sized → ℕ
+value-refusal (Fits n) = 0
+value-refusal TooLarge = 8
+
+-- the answer is that for the value, and the value's bytes stand at the start of the buffer
 pub record Answered (bets : List Bet) (t : Term) (out : List ℕ) (r : Sized) : Type 0 where
-  pub fits : {n : ℕ} → r ≡ Fits n → (value-under bets t ≡ some (apply bets t)) × Stands out 0 (term-bytes (apply bets t)) n × (n ≤ value-limit)
-  pub large : r ≡ TooLarge → value-under bets t ≡ none
+  pub is : r ≡ sized (value-under bets t)
+  pub written : value-under bets t ≡ some (apply bets t) → Stands out 0 (term-bytes (apply bets t)) (length (term-bytes (apply bets t)))
+
+module _ {bets : List Bet} {t : Term} {out : List ℕ} {r : Sized} (w : Answered bets t out r) where
+  -- a value of so many bytes, and one beyond the limit
+  pub answered-fits : {n : ℕ} → r ≡ Fits n → (value-under bets t ≡ some (apply bets t)) × Stands out 0 (term-bytes (apply bets t)) n × (n ≤ value-limit)
+  answered-fits {n} e = go (valued bets t)
+    where
+      go : Valued bets t → (value-under bets t ≡ some (apply bets t)) × Stands out 0 (term-bytes (apply bets t)) n × (n ≤ value-limit)
+      go (within h v) =
+          let i : Fits n ≡ Fits (length (term-bytes (apply bets t))) = sym e ∙ w .is ∙ ap sized v in
+          let m : n ≡ length (term-bytes (apply bets t)) = cc in
+          (v, rw m (w .written v), omega arith)
+      go (beyond h v) = let i : Fits n ≡ TooLarge = sym e ∙ w .is ∙ ap sized v in let z : _≡_ {A = ℕ} 0 1 = cc in absurd (omega arith)
+
+  pub answered-large : r ≡ TooLarge → value-under bets t ≡ none
+  answered-large e = go (valued bets t)
+    where
+      go : Valued bets t → value-under bets t ≡ none
+      go (within h v) = let i : TooLarge ≡ Fits (length (term-bytes (apply bets t))) = sym e ∙ w .is ∙ ap sized v in let z : _≡_ {A = ℕ} 0 1 = cc in absurd (omega arith)
+      go (beyond h v) = v
 
 -- the tables have an entry for every 5 bytes of the event, and the output is as long as the limit
 pub record Buffers (event places firsts out : List ℕ) : Type 0 where
@@ -35,10 +65,7 @@ pub record Buffers (event places firsts out : List ℕ) : Type 0 where
 -- a term under the pairs of the bets, written within the limit
 pub answered : {bets : List Bet} {s places firsts : List ℕ} {i : ℕ} (l : Listed bets s places firsts i) {src : List ℕ} {from to : ℕ} (q : TermAt src from to) {out after : List ℕ} {r : Sized}
     → length out ≡ value-limit → Fitted out (walk-bytes (under (l .table .bets)) (walk src from 1 0)) after r → Answered bets (q .term) after r
-answered {bets} l {src} {from} q {out} {after} {r} e f = record {
-  fits = within;
-  large = λ i. value-beyond bets (q .term) (omega (arith, g .large i));
-}
+answered {bets} l {src} {from} q {out} {after} {r} e f = go r refl
   where
     bytes : walk-bytes (under (l .table .bets)) (walk src from 1 0) ≡ term-bytes (apply bets (q .term))
     bytes =
@@ -48,10 +75,16 @@ answered {bets} l {src} {from} q {out} {after} {r} e f = record {
     g : Fitted out (term-bytes (apply bets (q .term))) after r
     g = rw bytes at f
 
-    within : {n : ℕ} → r ≡ Fits n → (value-under bets (q .term) ≡ some (apply bets (q .term))) × Stands after 0 (term-bytes (apply bets (q .term))) n × (n ≤ value-limit)
-    within i =
-        let w = put-stands (g .fits i .0) (omega (arith, g .fits i .1)) in
-        (value-within bets (q .term) (omega (arith, g .fits i .1)), w, omega (arith, w .end, g .fits i .1))
+    go : (x : Sized) → r ≡ x → Answered bets (q .term) after r
+    go (Fits n) i =
+        let y = g .fits i in
+        let v = value-within bets (q .term) (omega (arith, y .1)) in
+        let w = put-stands (y .0) (omega (arith, y .1)) in
+        let m : n ≡ length (term-bytes (apply bets (q .term))) = w .end ∙ zero-add _ in
+        record { is = i ∙ ap Fits m ∙ sym (ap sized v); written = λ h. rw m at w }
+    go TooLarge i =
+        let v = value-beyond bets (q .term) (omega (arith, g .large i)) in
+        record { is = i ∙ sym (ap sized v); written = λ h. let k : none ≡ some (apply bets (q .term)) = sym v ∙ h in let z : _≡_ {A = ℕ} 0 1 = cc in absurd (omega arith) }
 
 -- a variable in three bytes
 abbrev pub variable-at : (v : ℕ) → v < 65536 → TermAt (1 ∷ v / 256 ∷ v % 256 ∷ []) 0 3

@@ -36,6 +36,13 @@ answer-for room too-many = TooMany
 answer-for room undefined = Undefined
 answer-for room (defined g) = cond (leb (length (goal-bytes g)) room) (Defined (length (goal-bytes g))) TooLong
 
+-- the paper's number for an answer: question 9 or 10 says no, else 0
+abbrev pub body-refusal : BodyAnswer → ℕ
+body-refusal TooMany = 9
+body-refusal Undefined = 0
+body-refusal (Defined n) = 0
+body-refusal TooLong = 10
+
 -- the answer is the body's; where the body fits it stands at the start of the output, with the rest as it was; else nothing changes
 pub record Answered (before after : List ℕ) (b : Body) (r : BodyAnswer) : Type 0 where
   pub number : r ≡ answer-for (length before) b

@@ -29,6 +29,13 @@ answer-for room too-large = TooLarge
 answer-for room clash = Clash
 answer-for room (unified σ) = length-answer room (length (unifier-bytes σ))
 
+-- the paper's number for an answer: question 8 or 10 says no, else 0
+abbrev pub unifier-refusal : UnifierAnswer → ℕ
+unifier-refusal TooLarge = 8
+unifier-refusal Clash = 0
+unifier-refusal (Unifier n) = 0
+unifier-refusal TooLong = 10
+
 -- the answer is the outcome's; a unifier that fits stands at the start of the output, with the rest as it was; else nothing changes
 pub record Answered (before after : List ℕ) (u : Unified) (r : UnifierAnswer) : Type 0 where
   pub number : r ≡ answer-for (length before) u

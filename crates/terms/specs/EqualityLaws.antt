@@ -84,33 +84,33 @@ module _ {kinds numbers nexts rep size : List ℕ} {o : Outcome} {s t : Term} (w
 -- what the value of a term is as bytes: question 8 says yes to it
 module _ {bets : List Bet} (s : Term) {a : List ℕ} {r : Sized} {k : ℕ} (h : applied.Answered bets s a r) (e : r ≡ Fits k) where
   pub value-length : k ≤ length a
-  value-length = stands-within (h .fits e .1) (omega (arith, term-length-least (apply bets s))) .1
+  value-length = stands-within (applied.answered-fits h e .1) (omega (arith, term-length-least (apply bets s))) .1
 
   pub value-bytes : take k a ≡ term-bytes (apply bets s)
   unfolding cut size
-  value-bytes = simp unary-clauses at (stands-cut (h .fits e .1))
+  value-bytes = simp unary-clauses at (stands-cut (applied.answered-fits h e .1))
 
   abbrev pub one-value : All BetFormed bets → TermFormed s → OneValue (take k a)
   one-value f g = record {
     value = record { term = apply bets s; formed = apply-formed bets s f g; same = value-bytes };
-    short = omega (arith, length-take k a, h .fits e .2);
+    short = omega (arith, length-take k a, applied.answered-fits h e .2);
   }
 
 -- the answer for the value of the one term and then of the other
 module _ {bets : List Bet} {before : List ℕ} where
   pub left-large : (s t : Term) {a : List ℕ} {r : Sized} → applied.Answered bets s a r → r ≡ TooLargeValue → Answered before before (unified-under bets s t) TooLarge
   unfolding unified-under
-  left-large s t h e = unwritten (rw (h .large e) refl) not-large
+  left-large s t h e = unwritten (rw (applied.answered-large h e) refl) not-large
 
   pub right-large : (s t : Term) {b : List ℕ} {r : Sized} → applied.Answered bets t b r → r ≡ TooLargeValue
       → Answered before before (outcome-of (some s) (value-under bets t)) TooLarge
-  right-large s t h e = unwritten (rw (h .large e) refl) not-large
+  right-large s t h e = unwritten (rw (applied.answered-large h e) refl) not-large
 
   pub right-within : (s t : Term) {after b : List ℕ} {r : Sized} {m : ℕ} {x : UnifierAnswer} → applied.Answered bets t b r → r ≡ Fits m
       → Answered before after (outcome (unify s (apply bets t))) x → Answered before after (outcome-of (some s) (value-under bets t)) x
-  right-within s t h e w = rw (h .fits e .0) w
+  right-within s t h e w = rw (applied.answered-fits h e .0) w
 
   pub left-within : (s t : Term) {after a : List ℕ} {r : Sized} {k : ℕ} {x : UnifierAnswer} → applied.Answered bets s a r → r ≡ Fits k
       → Answered before after (outcome-of (some (apply bets s)) (value-under bets t)) x → Answered before after (unified-under bets s t) x
   unfolding unified-under
-  left-within s t h e w = rw (h .fits e .0) w
+  left-within s t h e w = rw (applied.answered-fits h e .0) w

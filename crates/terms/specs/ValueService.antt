@@ -24,7 +24,7 @@ use Rattle.records.specs.declared.plan.Emit.{Emit}
 use Rattle.terms.specs.Substitution.{apply}
 use Rattle.terms.specs.SubstitutionLaws.{term-length-least}
 use Rattle.terms.specs.Outcome.{value}
-use Rattle.terms.specs.Answered.{Answered}
+use Rattle.terms.specs.Answered.{Answered, answered-fits, answered-large, value-refusal}
 use Rattle.terms.specs.declared.substitute.Sized.{Sized}
 use Rattle.terms.specs.declared.substitute.Sized.the-variants.{Fits, TooLarge}
 
@@ -74,25 +74,25 @@ replied-short {before} o h = rw (lt-ltb (length before) 32768 h) (record { numbe
 
 module _ {bets : List Bet} {v : ℕ} {a : List ℕ} {r : Sized} (w : Answered bets (var v) a r) where
   -- a value that is too large
-  pub replied-large : {before : List ℕ} → 32768 ≤ length before → r ≡ TooLarge → Replied (reply-into (length before) (value bets v)) before (record { number = 8; length = 0 }) before
+  pub replied-large : {before : List ℕ} → 32768 ≤ length before → r ≡ TooLarge → Replied (reply-into (length before) (value bets v)) before (record { number = value-refusal r; length = 0 }) before
   unfolding number reply-into
-  replied-large {before} h e = rw (le-ltb (length before) 32768 h, w .large e) (record { number = refl; written = refl; output = refl })
+  replied-large {before} h e = rw (e, le-ltb (length before) 32768 h, answered-large w e) (record { number = refl; written = refl; output = refl })
 
   module _ {m : ℕ} (e : r ≡ Fits m) where
     value-within : (0 < m) × (m ≤ length a)
-    value-within = stands-within (w .fits e .1) (omega (arith, term-length-least (apply bets (var v))))
+    value-within = stands-within (answered-fits w e .1) (omega (arith, term-length-least (apply bets (var v))))
 
     pub value-inside : Inside (record { from = 0; to = m }) a
-    value-inside = stands-inside (w .fits e .1) (value-within .1)
+    value-inside = stands-inside (answered-fits w e .1) (value-within .1)
 
     pub value-room : {n : ℕ} → 32768 ≤ n → 0 + (m - 0) ≤ n
-    value-room h = omega (arith, w .fits e .2)
+    value-room h = omega (arith, answered-fits w e .2)
 
     -- a value copied to the output
     pub replied-value : {before after : List ℕ} {k : ℕ} → 32768 ≤ length before → Put before 0 (cut a (record { from = 0; to = m })) after k
         → Replied (reply-into (length before) (value bets v)) before (record { number = 0; length = k }) after
     unfolding reply-into
     replied-value {before} {after} {k} h p =
-        let q : Put before 0 (term-bytes (apply bets (var v))) after k = rw (stands-cut (w .fits e .1)) at p in
-        rw (le-ltb (length before) 32768 h, w .fits e .0)
-        (record { number = refl; written = q .place ∙ zero-add _; output = put-front q (omega (arith, w .fits e .2, w .fits e .1 .end)) })
+        let q : Put before 0 (term-bytes (apply bets (var v))) after k = rw (stands-cut (answered-fits w e .1)) at p in
+        rw (le-ltb (length before) 32768 h, answered-fits w e .0)
+        (record { number = refl; written = q .place ∙ zero-add _; output = put-front q (omega (arith, answered-fits w e .2, answered-fits w e .1 .end)) })

@@ -10,10 +10,14 @@ use crate::variables::Frame;
 use crate::variables::next_variable;
 use records::heads::GoalHead;
 use records::heads::goal_head;
+use records::kinds::VARIABLE;
 use records::put::Range;
 use records::put::put_byte;
 use records::put::put_range;
 use records::put::put_word;
+use records::questions::DONE;
+use records::questions::FITS;
+use records::questions::LOCALS;
 use records::walk::Cursor;
 use records::walk::Step;
 use records::walk::walk_step;
@@ -28,14 +32,26 @@ ghost use Rattle.terms.specs.Arguments.{TermTable, ArgumentTable};
 ghost use Rattle.terms.specs.Body.{numbered, defined, locals-beyond, body, next-variable};
 ghost use Rattle.terms.specs.Frames.{GoalAt};
 ghost use Rattle.terms.specs.Definitions.{ProgramAt};
-ghost use Rattle.terms.specs.BodyBytes.{AtomAt, numbered-goal, body-with, Answered};
+ghost use Rattle.terms.specs.BodyBytes.{AtomAt, body-refusal, numbered-goal, body-with, Answered};
 
-// Question 9 says no, there is no definition, the body has so many bytes, or the output is too short for it.
+// Question 9 says no, there is no definition, the body has so many bytes, or the output is too short for it: question 10.
 pub enum BodyAnswer {
     TooMany,
     Undefined,
     Defined(usize),
     TooLong,
+}
+
+// The paper's number for an answer, 0 where no question says no.
+pub fn body_refusal(answer: BodyAnswer) -> u8
+    ensures { λ r. ⌜ r ≡ body-refusal answer ⌝ }
+{
+    match answer {
+        BodyAnswer::TooMany => LOCALS,
+        BodyAnswer::Undefined => DONE,
+        BodyAnswer::Defined(_) => DONE,
+        BodyAnswer::TooLong => FITS,
+    }
 }
 
 // The length of what the variable v of a definition becomes: an argument, or a new variable.
@@ -91,7 +107,7 @@ fn write_variable(out: &mut [u8], at: usize, v: usize) -> usize
     requires { ⌜ at + 3 ≤ length (now out) ⌝ }
     ensures { λ r. ⌜ Put (now (out .entry)) at (term-bytes (var v)) (now (out .exit)) r ⌝ }
 {
-    let next = put_byte(out, at, 0x01);
+    let next = put_byte(out, at, VARIABLE);
     put_word(out, next, v)
 }
 

@@ -1,5 +1,7 @@
 // Classes of nodes: rep[i] is the representative of node i's class. Node i has a kind (1 variable, 2 + arity symbol), a number, and
 // next[i], the first node behind its subtree; its children are i + 1, next[i + 1], .. below next[i].
+use crate::nodes::SYMBOL_NODE;
+use crate::nodes::VARIABLE_NODE;
 ghost use mathlib.Core.Path.{_≡_};
 ghost use Prim.Native.Nat.{_<_};
 ghost use lib.ListN.{length};
@@ -48,10 +50,10 @@ fn preferred(kind: &[usize], number: &[usize], next: &[usize], a: usize, b: usiz
     requires { ⌜ (a < length (now kind)) × (b < length (now kind)) × (length (now number) ≡ length (now kind)) ⌝ }
     ensures { λ r. ⌜ Preferred (nodes (now (kind .entry)) (now (number .entry)) (now (next .entry))) a b r ⌝ }
 {
-    if kind[a] >= 2 {
+    if kind[a] >= SYMBOL_NODE {
         return true;
     }
-    if kind[b] >= 2 {
+    if kind[b] >= SYMBOL_NODE {
         return false;
     }
     number[a] <= number[b]
@@ -114,7 +116,7 @@ fn visit(
     requires { ⌜ i < length (now next) ⌝ }
     ensures { λ o. ⌜ Turned (nodes (now (kind .entry)) (now (number .entry)) (now (next .entry))) s t i (now (rep .entry)) (now (rep .exit)) o ⌝ }
 {
-    if kind[i] < 2 {
+    if kind[i] < SYMBOL_NODE {
         return Turn::Fine;
     }
     let r = rep[i];
@@ -157,12 +159,12 @@ fn first(kind: &[usize], number: &[usize], next: &[usize], i: usize) -> usize
     requires { ⌜ (i < length (now kind)) × (length (now number) ≡ length (now kind)) ⌝ }
     ensures { λ r. ⌜ First (nodes (now (kind .entry)) (now (number .entry)) (now (next .entry))) i r ⌝ }
 {
-    if kind[i] != 1 {
+    if kind[i] != VARIABLE_NODE {
         return i;
     }
     let mut j = 0;
     while j < i {
-        if kind[j] == 1 {
+        if kind[j] == VARIABLE_NODE {
             if number[j] == number[i] {
                 return j;
             }

@@ -3,7 +3,11 @@ use crate::apply::apply_bets;
 use crate::substitute::Sized;
 use crate::unifier::put_unifier;
 use crate::unifier::unify_values;
+use records::kinds::RECORD_LIMIT;
 use records::put::Range;
+use records::questions::DONE;
+use records::questions::FITS;
+use records::questions::VALUES;
 ghost use mathlib.Core.Path.{_≡_};
 ghost use Prim.Native.Nat.{_+_, _*_, _≤_};
 ghost use lib.ListN.{length};
@@ -12,14 +16,26 @@ ghost use Rattle.terms.specs.BetRow.{Bets};
 ghost use mathlib.Core.Option.{some};
 ghost use Rattle.terms.specs.Outcome.{value-under, outcome-of, unified-under};
 ghost use Rattle.terms.specs.UnifierAnswer.{Unifiable};
-ghost use Rattle.terms.specs.Equality.{OneValue, Answered, Answers};
+ghost use Rattle.terms.specs.Equality.{unifier-refusal, OneValue, Answered, Answers};
 
-// Question 8 says no, there is no unifier, its count and pairs have so many bytes, or they are too long for a record or the output.
+// Question 8 says no, there is no unifier, its count and pairs have so many bytes, or they are too long for a record or the output: question 10.
 pub enum UnifierAnswer {
     TooLarge,
     Clash,
     Unifier(usize),
     TooLong,
+}
+
+// The paper's number for an answer, 0 where no question says no.
+pub fn unifier_refusal(answer: UnifierAnswer) -> u8
+    ensures { λ r. ⌜ r ≡ unifier-refusal answer ⌝ }
+{
+    match answer {
+        UnifierAnswer::TooLarge => VALUES,
+        UnifierAnswer::Clash => DONE,
+        UnifierAnswer::Unifier(_) => DONE,
+        UnifierAnswer::TooLong => FITS,
+    }
 }
 
 // The unifier of two values, by tables that are lent, its count and pairs written from the start of the output on.
@@ -40,7 +56,7 @@ fn unifier_in(
     if !o.found {
         return UnifierAnswer::Clash;
     }
-    if 32768 < o.length {
+    if RECORD_LIMIT < o.length {
         return UnifierAnswer::TooLong;
     }
     if out.len() < o.length {

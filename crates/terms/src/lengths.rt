@@ -1,4 +1,5 @@
 // The lengths of the classes' terms in bytes: size[r] for the representative r, counted up to 40,000, and 0 while it is not known.
+use crate::nodes::SYMBOL_NODE;
 ghost use mathlib.Core.Path.{_≡_};
 ghost use Prim.Native.Nat.{_+_, _≤_, _<_, min};
 ghost use lib.ListN.{length};
@@ -20,7 +21,7 @@ fn weigh(kind: &[usize], next: &[usize], rep: &[usize], size: &[usize], r: usize
     requires { ⌜ r < length (now next) ⌝ }
     ensures { λ w. ⌜ Weighed (now (kind .entry)) (now (next .entry)) (now (rep .entry)) (now (size .entry)) r w ⌝ }
 {
-    if kind[r] < 2 {
+    if kind[r] < SYMBOL_NODE {
         return 3;
     }
     let end = next[r];

@@ -1,4 +1,6 @@
 // Two terms in one table of nodes: their heads in the order of their bytes, and then, from the last node to the first, where each subtree ends.
+use crate::nodes::SYMBOL_NODE;
+use crate::nodes::VARIABLE_NODE;
 use records::heads::TermHead;
 use records::heads::term_head;
 ghost use mathlib.Core.Path.{_≡_};
@@ -20,12 +22,12 @@ fn head_at(b: &[u8], p: usize) -> NodeHead
 {
     match term_head(b, p) {
         TermHead::Variable(v) => NodeHead {
-            kind: 1,
+            kind: VARIABLE_NODE,
             number: v,
             size: 3,
         },
         TermHead::Symbol(f, k) => NodeHead {
-            kind: 2 + k,
+            kind: SYMBOL_NODE + k,
             number: f,
             size: 4,
         },
@@ -63,7 +65,7 @@ fn behind(kind: &[usize], next: &[usize], i: usize) -> usize
 {
     let mut p = i + 1;
     let mut k = kind[i];
-    while k > 2 {
+    while k > SYMBOL_NODE {
         p = next[p];
         k -= 1;
     }

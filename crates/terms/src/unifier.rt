@@ -1,6 +1,7 @@
 // The unifier of two values: found or not, and its length, before anything is written; then its bytes, a count and pairs that rise by variable.
 use crate::lengths::capped;
 use crate::load::lay;
+use crate::nodes::VARIABLE_NODE;
 use crate::solve::solve;
 use crate::write::write_term;
 use records::put::put_word;
@@ -16,11 +17,11 @@ fn is_bound(kind: &[usize], number: &[usize], next: &[usize], rep: &[usize], i: 
     requires { ⌜ i < length (now next) ⌝ }
     ensures { λ r. ⌜ Tested (nodes (now (kind .entry)) (now (number .entry)) (now (next .entry))) (now (rep .entry)) i r ⌝ }
 {
-    if kind[i] != 1 {
+    if kind[i] != VARIABLE_NODE {
         return false;
     }
     let r = rep[i];
-    if kind[r] != 1 {
+    if kind[r] != VARIABLE_NODE {
         return true;
     }
     number[r] != number[i]

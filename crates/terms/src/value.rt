@@ -3,15 +3,21 @@ use crate::apply::apply_bets;
 use crate::substitute::Sized;
 use records::gate::event_number;
 use records::gate::event_verdict;
+use records::kinds::RECORD_LIMIT;
+use records::kinds::VARIABLE;
 use records::places::event_places;
 use records::plan::Emit;
 use records::put::Range;
 use records::put::put_range;
+use records::questions::DONE;
+use records::questions::OUTPUT;
+use records::questions::VALUES;
+ghost use mathlib.Core.Path.{_≡_};
 ghost use Prim.Native.Nat.{_≤_};
 ghost use lib.ListN.{length};
 ghost use Rattle.records.specs.Gate.{read-event};
 ghost use Rattle.records.specs.Syntax.Term.{var};
-ghost use Rattle.terms.specs.Answered.{Answered, Buffers};
+ghost use Rattle.terms.specs.Answered.{value-refusal, Answered, Buffers};
 ghost use Rattle.terms.specs.BetRow.{Bets};
 ghost use Rattle.terms.specs.Outcome.{value};
 ghost use Rattle.terms.specs.ValueService.{Replied, reply-into, value-reply};
@@ -30,8 +36,18 @@ pub fn variable_value(
     requires { ⌜ Buffers (now event) (now places) (now firsts) (now out) ⌝ }
     ensures { λ r. ⌜ ((p : Bets (now (event .entry)) at n) → Answered (p .bets) (var v) (now (out .exit)) r) ⌝ }
 {
-    let term: [u8; 3] = [1, (v / 256) as u8, (v % 256) as u8];
+    let term: [u8; 3] = [VARIABLE, (v / 256) as u8, (v % 256) as u8];
     apply_bets(event, at, n, &term, 0, places, firsts, out)
+}
+
+// The paper's number for a value's answer, 0 where question 8 does not say no.
+fn value_refusal(answer: Sized) -> u8
+    ensures { λ r. ⌜ r ≡ value-refusal answer ⌝ }
+{
+    match answer {
+        Sized::Fits(_) => DONE,
+        Sized::TooLarge => VALUES,
+    }
 }
 
 // Questions 5 and 8, and then S(v) as bare term bytes at the start of the output.
@@ -40,24 +56,27 @@ pub fn put_value(event: &[u8], at: usize, n: usize, v: u16, out: &mut [u8]) -> E
     requires { ⌜ length (now event) ≤ 32768 ⌝ }
     ensures { λ r. ⌜ ((p : Bets (now (event .entry)) at n) → Replied (reply-into (length (now (out .entry))) (value (p .bets) v)) (now (out .entry)) r (now (out .exit))) ⌝ }
 {
-    if out.len() < 32768 {
+    if out.len() < RECORD_LIMIT {
         return Emit {
-            number: 5,
+            number: OUTPUT,
             length: 0,
         };
     }
     let mut places: [usize; 6554] = [0; 6554];
     let mut firsts: [usize; 6554] = [0; 6554];
     let mut value: [u8; 8192] = [0; 8192];
-    let Sized::Fits(m) = variable_value(event, at, n, v, &mut places, &mut firsts, &mut value)
-    else {
+    let answer = variable_value(event, at, n, v, &mut places, &mut firsts, &mut value);
+    let Sized::Fits(m) = answer else {
         return Emit {
-            number: 8,
+            number: value_refusal(answer),
             length: 0,
         };
     };
     let length = put_range(out, 0, &value, Range { from: 0, to: m });
-    Emit { number: 0, length }
+    Emit {
+        number: DONE,
+        length,
+    }
 }
 
 // The value service: S(v) under the bet stack of an event, for every event record, v and output.

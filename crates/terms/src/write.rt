@@ -1,5 +1,8 @@
 // The writer of a class's term: the tail of the output is lent on from the current place. Classes that hold each other's terms are written by
 // functions that call each other; the lengths of the classes fall.
+use crate::nodes::SYMBOL_NODE;
+use records::kinds::SYMBOL;
+use records::kinds::VARIABLE;
 use records::put::put_byte;
 use records::put::put_word;
 ghost use mathlib.Core.Path.{_≡_};
@@ -14,13 +17,13 @@ fn put_head(out: &mut [u8], kind: usize, number: usize) -> usize
     requires { ⌜ (kind ≤ 18) × (length (head-bytes kind number) ≤ length (now out)) ⌝ }
     ensures { λ r. ⌜ Put (now (out .entry)) 0 (head-bytes kind number) (now (out .exit)) r ⌝ }
 {
-    if kind < 2 {
-        let e = put_byte(out, 0, 1);
+    if kind < SYMBOL_NODE {
+        let e = put_byte(out, 0, VARIABLE);
         return put_word(out, e, number);
     }
-    let e = put_byte(out, 0, 2);
+    let e = put_byte(out, 0, SYMBOL);
     let e = put_word(out, e, number);
-    put_byte(out, e, (kind - 2) as u8)
+    put_byte(out, e, (kind - SYMBOL_NODE) as u8)
 }
 
 // The term of the class that r represents.
@@ -40,7 +43,7 @@ pub fn write_term(
     let k = kind[r];
     let v = number[r];
     let e = put_head(out, k, v);
-    if k < 2 {
+    if k < SYMBOL_NODE {
         return;
     }
     let left = size[r] - e;

@@ -5,6 +5,7 @@ use records::gate::event_verdict;
 use records::gate::program_number;
 use records::gate::program_verdict;
 use records::heads::goal_head;
+use records::kinds::ATOM;
 use records::places::event_places;
 use terms::body::BodyAnswer;
 use terms::body::atom_body;
@@ -57,7 +58,7 @@ pub fn body_case(program: &[u8], event: &[u8], out: &mut [u8]) -> BodyCase
     if second != 0 {
         return BodyCase::Refused(second);
     }
-    if goal_kind(goal_head(event, 4)) != 0x15 {
+    if goal_kind(goal_head(event, 4)) != ATOM {
         return BodyCase::NoAtom;
     }
     BodyCase::Answered(atom_goal(program, event, out))

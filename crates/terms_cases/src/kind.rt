@@ -1,5 +1,7 @@
 // The kind of a goal.
 use records::heads::GoalHead;
+use records::kinds::ATOM;
+use records::kinds::EQUAL;
 ghost use mathlib.Core.Path.{_≡_};
 ghost use Rattle.terms_cases.specs.Kinds.{kind-of};
 
@@ -10,10 +12,10 @@ pub fn goal_kind(h: GoalHead) -> u8
     match h {
         GoalHead::Truth => 0,
         GoalHead::Failure => 0,
-        GoalHead::Equal => 0x12,
+        GoalHead::Equal => EQUAL,
         GoalHead::Conj => 0,
         GoalHead::Disj => 0,
-        GoalHead::Atom(_, _) => 0x15,
+        GoalHead::Atom(_, _) => ATOM,
         GoalHead::NoGoal => 0,
     }
 }

@@ -5,6 +5,7 @@ use records::ends::term_end;
 use records::gate::event_number;
 use records::gate::event_verdict;
 use records::heads::goal_head;
+use records::kinds::EQUAL;
 use records::places::event_places;
 use records::put::Range;
 use terms::equality::UnifierAnswer;
@@ -49,7 +50,7 @@ pub fn unify_case(event: &[u8], out: &mut [u8]) -> Unifying
     if number != 0 {
         return Unifying::Refused(number);
     }
-    if goal_kind(goal_head(event, 4)) != 0x12 {
+    if goal_kind(goal_head(event, 4)) != EQUAL {
         return Unifying::NoEquality;
     }
     unify_goal(event, out)

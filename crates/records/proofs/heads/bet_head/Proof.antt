@@ -8,11 +8,8 @@ use Rattle.records.proofs.heads.bet_head.Tie as tie
 returns : tie.Need-returns
 returns c = past-bet _ _ (omega arith)
 
-shared-slice-read-wide : tie.Need-shared-slice-read-wide
-shared-slice-read-wide c = search needs
-
-wide-requires : tie.Need-wide-requires
-wide-requires c κs = search needs
+shared-slice-read-b : tie.Need-shared-slice-read-b
+shared-slice-read-b c = search needs
 
 add-word-at : tie.Need-add-word-at
 add-word-at c = search needs
@@ -46,8 +43,7 @@ bet-head-spec =
     tie.close
     (tie.spec
     returns
-    shared-slice-read-wide
-    wide-requires
+    shared-slice-read-b
     add-word-at
     word-at-requires
     unifier-head-requires

@@ -8,11 +8,8 @@ use Rattle.records.proofs.heads.goal_head.Tie as tie
 returns : tie.Need-returns
 returns c = past-goal _ _ (omega arith)
 
-shared-slice-read-wide : tie.Need-shared-slice-read-wide
-shared-slice-read-wide c = search needs
-
-wide-requires : tie.Need-wide-requires
-wide-requires c κs = search needs
+shared-slice-read-b : tie.Need-shared-slice-read-b
+shared-slice-read-b c = search needs
 
 add-atom-head : tie.Need-add-atom-head
 add-atom-head c = search needs
@@ -46,8 +43,7 @@ goal-head-spec =
     tie.close
     (tie.spec
     returns
-    shared-slice-read-wide
-    wide-requires
+    shared-slice-read-b
     add-atom-head
     atom-head-requires
     returns-2

@@ -12,26 +12,23 @@ room-requires c κs = search needs
 returns : tie.Need-returns
 returns c = short-half _ _ (omega arith)
 
+shared-slice-read-b : tie.Need-shared-slice-read-b
+shared-slice-read-b c = search needs
+
+add-wide : tie.Need-add-wide
+add-wide c = search needs
+
 shared-slice-read-wide : tie.Need-shared-slice-read-wide
 shared-slice-read-wide c = search needs
 
 wide-requires : tie.Need-wide-requires
 wide-requires c κs = search needs
 
-add-wide : tie.Need-add-wide
-add-wide c = search needs
-
-shared-slice-read-wide-2 : tie.Need-shared-slice-read-wide-2
-shared-slice-read-wide-2 c = search needs
-
-wide-requires-2 : tie.Need-wide-requires-2
-wide-requires-2 c κs = search needs
-
 is-tag-requires : tie.Need-is-tag-requires
 is-tag-requires c κs = search needs
 
 returns-2 : tie.Need-returns-2
-returns-2 c = no-tag _ _ (c .before .before .wide2 .result) (omega arith) (omega arith) (sym (c .before .is-tag .ensures) ∙ not-true _ (c .if2 .taken))
+returns-2 c = no-tag _ _ (c .before .before .wide .result) (omega arith) (omega arith) (sym (c .before .is-tag .ensures) ∙ not-true _ (c .if2 .taken))
 
 returns-3 : tie.Need-returns-3
 returns-3 c = conj-half _ _ _ (omega arith) (omega arith) (sym (c .before .before .is-tag .ensures) ∙ not-false _ (c .before .if2 .left)) (omega arith)
@@ -40,7 +37,7 @@ returns-4 : tie.Need-returns-4
 returns-4 c = disj-half _ _ _ (omega arith) (omega arith) (sym (c .before .before .before .is-tag .ensures) ∙ not-false _ (c .before .before .if2 .left)) (omega arith)
 
 returns-5 : tie.Need-returns-5
-returns-5 c = other-half _ _ (c .before .before .before .before .wide2 .result) (omega arith) (omega arith) (sym (c .before .before .before .is-tag .ensures) ∙ not-false _ (c .before .before .if2 .left)) (omega arith) (omega arith)
+returns-5 c = other-half _ _ (c .before .before .before .before .wide .result) (omega arith) (omega arith) (sym (c .before .before .before .is-tag .ensures) ∙ not-false _ (c .before .before .if2 .left)) (omega arith) (omega arith)
 
 pub half-head-spec : {M : Type 1} → statement M
 half-head-spec =
@@ -48,11 +45,10 @@ half-head-spec =
     (tie.spec
     room-requires
     returns
+    shared-slice-read-b
+    add-wide
     shared-slice-read-wide
     wide-requires
-    add-wide
-    shared-slice-read-wide-2
-    wide-requires-2
     is-tag-requires
     returns-2
     returns-3

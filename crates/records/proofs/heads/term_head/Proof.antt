@@ -10,11 +10,8 @@ room-requires c κs = search needs
 returns : tie.Need-returns
 returns c = short-term _ _ (omega arith)
 
-shared-slice-read-wide : tie.Need-shared-slice-read-wide
-shared-slice-read-wide c = search needs
-
-wide-requires : tie.Need-wide-requires
-wide-requires c κs = search needs
+shared-slice-read-b : tie.Need-shared-slice-read-b
+shared-slice-read-b c = search needs
 
 add-two-bytes : tie.Need-add-two-bytes
 add-two-bytes c = search needs
@@ -34,11 +31,11 @@ returns-4 c = short-symbol _ _ (omega arith) (omega arith) (omega arith)
 add-wide : tie.Need-add-wide
 add-wide c = search needs
 
-shared-slice-read-wide-2 : tie.Need-shared-slice-read-wide-2
-shared-slice-read-wide-2 c = search needs
+shared-slice-read-wide : tie.Need-shared-slice-read-wide
+shared-slice-read-wide c = search needs
 
-wide-requires-2 : tie.Need-wide-requires-2
-wide-requires-2 c κs = search needs
+wide-requires : tie.Need-wide-requires
+wide-requires c κs = search needs
 
 returns-5 : tie.Need-returns-5
 returns-5 c = symbol-at _ _ _ _ (omega arith) (omega arith) (omega arith) (omega arith) (omega arith)
@@ -52,15 +49,14 @@ term-head-spec =
     (tie.spec
     room-requires
     returns
-    shared-slice-read-wide
-    wide-requires
+    shared-slice-read-b
     add-two-bytes
     two-bytes-requires
     returns-2
     returns-3
     returns-4
     add-wide
-    shared-slice-read-wide-2
-    wide-requires-2
+    shared-slice-read-wide
+    wide-requires
     returns-5
     returns-6)

@@ -13,17 +13,11 @@ measure-plan-requires c κs = search needs
 
 returns-2 : tie.Need-returns-2
 returns-2 c =
-    let start = c .before .before .before .before .before .before .before in
+    let start = c .before .before .before .before .before in
     emitted-long (c .before .before .if1 .left) (limited-long (start .pre) (c .before .measure-plan .ensures) (c .if2 .taken))
 
-sub-put-word : tie.Need-sub-put-word
-sub-put-word c = search needs
-
-put-word-requires : tie.Need-put-word-requires
-put-word-requires c κs = search needs
-
-put-byte-requires : tie.Need-put-byte-requires
-put-byte-requires c κs = search needs
+put-record-head-requires : tie.Need-put-record-head-requires
+put-record-head-requires c κs = search needs
 
 put-body-requires : tie.Need-put-body-requires
 put-body-requires c κs = search needs
@@ -35,12 +29,11 @@ returns-3 : tie.Need-returns-3
 unfolding planned
 returns-3 c =
     let body = c .before .before in
-    let version = body .before .before .before .before in
-    let field = version .before .before .before .before in
-    let fits = field .before .before in
-    let start = fits .before .before .before .before .before .before .before in
+    let head = body .before .before .before .before in
+    let fits = head .before .before in
+    let start = fits .before .before .before .before .before in
     let e = limited-whole (start .pre) (fits .before .measure-plan .ensures) (fits .if2 .left) in
-    let put = put-record e (field .put-word .ensures) (version .put-byte .ensures) (body .put-body .ensures) in
+    let put = put-record e (head .put-record-head .ensures) (body .put-body .ensures) in
     emitted-whole (fits .before .before .if1 .left) (rw e at (fits .if2 .left)) put
 
 pub emit-plan-spec : {M : Type 1} → statement M
@@ -50,9 +43,7 @@ emit-plan-spec =
     returns
     measure-plan-requires
     returns-2
-    sub-put-word
-    put-word-requires
-    put-byte-requires
+    put-record-head-requires
     put-body-requires
     same-length
     returns-3)

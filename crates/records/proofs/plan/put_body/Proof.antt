@@ -15,7 +15,7 @@ put-piece-requires c κs = search needs
 
 put-stack-requires : tie.Need-put-stack-requires
 put-stack-requires c κs =
-    let start = c .before .before .before .before .before .before .before .before .before .before .before .before .before in
+    let start = c .before .before .before .before .before .before .before .before .before .before .before in
     let w = start .pre .0 in
     (w .ancestor-inside, (w .ancestors-inside, omega (arith, length-piece (start .args .p .goal) (w .goal-inside))))
 
@@ -24,7 +24,7 @@ put-stack-requires-2 c κs =
     let ancestors = c .before .before .before in
     let goal = ancestors .before .before .before .before in
     let port = goal .before .before .before .before in
-    let start = port .before .before .before .before .before .before in
+    let start = port .before .before .before .before in
     let w = start .pre .0 in
     let g = length-piece (start .args .p .goal) (w .goal-inside) in
     let u = length-stack (start .args .p .ancestors) (w .ancestor-inside) (w .ancestors-inside) in
@@ -41,8 +41,8 @@ returns c =
     let ancestors = bets .before .before .before .before in
     let goal = ancestors .before .before .before .before in
     let port = goal .before .before .before .before in
-    let p = port .before .before .before .before .before .before .args .p in
-    let stacks = put-then {a = stack-bytes (p .ancestors) _ _} (ancestors .put-stack .ensures) (bets .put-stack2 .ensures) in
+    let p = port .before .before .before .before .args .p in
+    let stacks = put-then {a = stack-bytes (p .ancestors) _} (ancestors .put-stack .ensures) (bets .put-stack2 .ensures) in
     put-then (port .put-byte .ensures) (put-then (goal .put-piece .ensures) stacks)
 
 pub put-body-spec : {M : Type 1} → statement M

@@ -16,7 +16,7 @@ put-piece-requires c κs = search needs
 put-range-requires : tie.Need-put-range-requires
 unfolding size
 put-range-requires c κs =
-    let start = c .before .before .before .before .before .before .before .before .before .before .before .before in
+    let start = c .before .before .before .before .before .before .before .before .before .before .before in
     (start .pre .1 .0, omega (arith, length-piece (start .args .stack .top) (start .pre .0)))
 
 same-length : tie.Need-same-length

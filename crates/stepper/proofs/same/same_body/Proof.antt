@@ -1,6 +1,6 @@
 use Rattle.stepper.specs.SameLaws.{under-atom, whole-goal, body-beyond, body-missing, body-same, body-long}
 use Rattle.stepper.specs.SettledLaws.{body-told-as}
-use Rattle.stepper.specs.LayoutLaws.{cuts}
+use Rattle.stepper.specs.LayoutLaws.{put-cuts}
 use Rattle.terms.specs.Accepted.{accepted-program}
 use borrow.Author.Needs.{needs}
 use Rattle.stepper.proofs.same.same_body.Statement.{statement}
@@ -19,37 +19,40 @@ atom-body-requires c κs =
 enum-told : tie.Need-enum-told
 enum-told c = search needs
 
+body-refusal-requires : tie.Need-body-refusal-requires
+body-refusal-requires c κs = search needs
+
 enum-told-2 : tie.Need-enum-told-2
 enum-told-2 c = search needs
 
-enum-known-n : tie.Need-enum-known-n
-enum-known-n c = search needs
+enum-known-answer : tie.Need-enum-known-answer
+enum-known-answer c = search needs
 
 slice-aggregate-same-front : tie.Need-slice-aggregate-same-front
 slice-aggregate-same-front c = search needs
 
 same-front-requires : tie.Need-same-front-requires
 same-front-requires c κs =
-    let b = c .before .before .before .before .before .before .before .before .before .shared-slice-known .given in let k = c .before .before .before .before .before .before .before .before .shared-slice-known2 .given in let d = c .before .before .before .before .before .before .before .before .before .before .pre .0 in let w = c .before .before .before .before .before .before .before .before .before .before .pre .1 in let h = body-told-as ((rw (c .before .before .before .before .before .before .before .ancestor-frame .ensures) at (c .before .before .before .before .before .atom-body .ensures)) (accepted-program _ b (d .definitions) (d .reads)) (under-atom b k d w)) (search needs) (c .before .before .n .given .1) in (cuts (h .stands) (h .inside) .inside, whole-goal b k d w .inside)
+    let b = c .before .before .before .before .before .before .before .before .before .shared-slice-known .given in let k = c .before .before .before .before .before .before .before .before .shared-slice-known2 .given in let d = c .before .before .before .before .before .before .before .before .before .before .pre .0 in let w = c .before .before .before .before .before .before .before .before .before .before .pre .1 in let h = (body-told-as ((rw (c .before .before .before .before .before .before .before .ancestor-frame .ensures) at (c .before .before .before .before .before .atom-body .ensures)) (accepted-program _ b (d .definitions) (d .reads)) (under-atom b k d w)) (c .before .before .answer .given .1)) in (put-cuts (h .put) (h .room) .inside, whole-goal b k d w .inside)
 
 enum-told-3 : tie.Need-enum-told-3
 enum-told-3 c = search needs
 
 returns : tie.Need-returns
 returns c =
-    λ d w. let b = c .before .before .before .before .before .before .before .shared-slice-known .given in let k = c .before .before .before .before .before .before .shared-slice-known2 .given in body-beyond b k d w (body-told-as ((rw (c .before .before .before .before .before .ancestor-frame .ensures) at (c .before .before .before .atom-body .ensures)) (accepted-program _ b (d .definitions) (d .reads)) (under-atom b k d w)) (search needs) (c .enum-told .given .1))
+    λ d w. let b = c .before .before .before .before .before .before .before .before .shared-slice-known .given in let k = c .before .before .before .before .before .before .before .shared-slice-known2 .given in rw (c .body-refusal .ensures, c .before .enum-told .given .1) (body-beyond b k d w ((body-told-as ((rw (c .before .before .before .before .before .before .ancestor-frame .ensures) at (c .before .before .before .before .atom-body .ensures)) (accepted-program _ b (d .definitions) (d .reads)) (under-atom b k d w)) (c .before .enum-told .given .1)) .0))
 
 returns-2 : tie.Need-returns-2
 returns-2 c =
-    λ d w. let b = c .before .before .before .before .before .before .before .shared-slice-known .given in let k = c .before .before .before .before .before .before .shared-slice-known2 .given in body-missing b k d w (body-told-as ((rw (c .before .before .before .before .before .ancestor-frame .ensures) at (c .before .before .before .atom-body .ensures)) (accepted-program _ b (d .definitions) (d .reads)) (under-atom b k d w)) (search needs) (c .enum-told2 .given .1))
+    λ d w. let b = c .before .before .before .before .before .before .before .shared-slice-known .given in let k = c .before .before .before .before .before .before .shared-slice-known2 .given in body-missing b k d w ((body-told-as ((rw (c .before .before .before .before .before .ancestor-frame .ensures) at (c .before .before .before .atom-body .ensures)) (accepted-program _ b (d .definitions) (d .reads)) (under-atom b k d w)) (c .enum-told2 .given .1)) .0)
 
 returns-3 : tie.Need-returns-3
 returns-3 c =
-    λ d w. let b = c .before .before .before .before .before .before .before .before .before .before .shared-slice-known .given in let k = c .before .before .before .before .before .before .before .before .before .shared-slice-known2 .given in body-same b k d w (body-told-as ((rw (c .before .before .before .before .before .before .before .before .ancestor-frame .ensures) at (c .before .before .before .before .before .before .atom-body .ensures)) (accepted-program _ b (d .definitions) (d .reads)) (under-atom b k d w)) (search needs) (c .before .before .before .n .given .1)) (c .same-front .ensures)
+    λ d w. let b = c .before .before .before .before .before .before .before .before .before .before .shared-slice-known .given in let k = c .before .before .before .before .before .before .before .before .before .shared-slice-known2 .given in body-same b k d w (body-told-as ((rw (c .before .before .before .before .before .before .before .before .ancestor-frame .ensures) at (c .before .before .before .before .before .before .atom-body .ensures)) (accepted-program _ b (d .definitions) (d .reads)) (under-atom b k d w)) (c .before .before .before .answer .given .1)) (c .same-front .ensures)
 
 returns-4 : tie.Need-returns-4
 returns-4 c =
-    λ d w. let b = c .before .before .before .before .before .before .before .shared-slice-known .given in let k = c .before .before .before .before .before .before .shared-slice-known2 .given in body-long b k d w (search needs) (body-told-as ((rw (c .before .before .before .before .before .ancestor-frame .ensures) at (c .before .before .before .atom-body .ensures)) (accepted-program _ b (d .definitions) (d .reads)) (under-atom b k d w)) (search needs) (c .enum-told3 .given .1))
+    λ d w. let b = c .before .before .before .before .before .before .before .shared-slice-known .given in let k = c .before .before .before .before .before .before .shared-slice-known2 .given in body-long b k d w (search needs) ((body-told-as ((rw (c .before .before .before .before .before .ancestor-frame .ensures) at (c .before .before .before .atom-body .ensures)) (accepted-program _ b (d .definitions) (d .reads)) (under-atom b k d w)) (c .enum-told3 .given .1)) .0)
 
 pub same-body-spec : {M : Type 1} → statement M
 same-body-spec =
@@ -59,8 +62,9 @@ same-body-spec =
     slice-aggregate-atom-body
     atom-body-requires
     enum-told
+    body-refusal-requires
     enum-told-2
-    enum-known-n
+    enum-known-answer
     slice-aggregate-same-front
     same-front-requires
     enum-told-3

@@ -1,6 +1,6 @@
 use Rattle.stepper.specs.SameLaws.{rest-bets, unifier-left, unifier-right, top-unifier, unifier-large, unifier-clash, unifier-same, unifier-long}
 use Rattle.stepper.specs.SettledLaws.{told-as, event-short}
-use Rattle.stepper.specs.LayoutLaws.{cuts}
+use Rattle.stepper.specs.LayoutLaws.{put-cuts}
 use borrow.Author.Needs.{needs}
 use Rattle.stepper.proofs.same.same_unifier.Statement.{statement}
 use Rattle.stepper.proofs.same.same_unifier.Tie as tie
@@ -15,37 +15,40 @@ unifier-under-requires c κs =
 enum-told : tie.Need-enum-told
 enum-told c = search needs
 
+unifier-refusal-requires : tie.Need-unifier-refusal-requires
+unifier-refusal-requires c κs = search needs
+
 enum-told-2 : tie.Need-enum-told-2
 enum-told-2 c = search needs
 
-enum-known-n : tie.Need-enum-known-n
-enum-known-n c = search needs
+enum-known-answer : tie.Need-enum-known-answer
+enum-known-answer c = search needs
 
 slice-aggregate-same-front : tie.Need-slice-aggregate-same-front
 slice-aggregate-same-front c = search needs
 
 same-front-requires : tie.Need-same-front-requires
 same-front-requires c κs =
-    let k = c .before .before .before .before .before .before .before .shared-slice-known .given in let w = c .before .before .before .before .before .before .before .before .pre in let h = told-as (c .before .before .before .before .before .unifier-under .ensures (rest-bets k w) (unifier-left k w) (unifier-right k w)) (search needs) (c .before .before .n .given .1) in (cuts (h .stands) (h .inside) .inside, top-unifier k w .inside)
+    let k = c .before .before .before .before .before .before .before .shared-slice-known .given in let w = c .before .before .before .before .before .before .before .before .pre in let h = told-as (c .before .before .before .before .before .unifier-under .ensures (rest-bets k w) (unifier-left k w) (unifier-right k w)) (c .before .before .answer .given .1) in (put-cuts (h .put) (h .room) .inside, top-unifier k w .inside)
 
 enum-told-3 : tie.Need-enum-told-3
 enum-told-3 c = search needs
 
 returns : tie.Need-returns
 returns c =
-    λ w. let k = c .before .before .before .before .before .shared-slice-known .given in unifier-large k w (told-as (c .before .before .before .unifier-under .ensures (rest-bets k w) (unifier-left k w) (unifier-right k w)) (search needs) (c .enum-told .given .1))
+    λ w. let k = c .before .before .before .before .before .before .shared-slice-known .given in rw (c .unifier-refusal .ensures, c .before .enum-told .given .1) (unifier-large k w (told-as (c .before .before .before .before .unifier-under .ensures (rest-bets k w) (unifier-left k w) (unifier-right k w)) (c .before .enum-told .given .1) .0))
 
 returns-2 : tie.Need-returns-2
 returns-2 c =
-    λ w. let k = c .before .before .before .before .before .shared-slice-known .given in unifier-clash k w (told-as (c .before .before .before .unifier-under .ensures (rest-bets k w) (unifier-left k w) (unifier-right k w)) (search needs) (c .enum-told2 .given .1))
+    λ w. let k = c .before .before .before .before .before .shared-slice-known .given in unifier-clash k w (told-as (c .before .before .before .unifier-under .ensures (rest-bets k w) (unifier-left k w) (unifier-right k w)) (c .enum-told2 .given .1) .0)
 
 returns-3 : tie.Need-returns-3
 returns-3 c =
-    λ w. let k = c .before .before .before .before .before .before .before .before .shared-slice-known .given in unifier-same k w (told-as (c .before .before .before .before .before .before .unifier-under .ensures (rest-bets k w) (unifier-left k w) (unifier-right k w)) (search needs) (c .before .before .before .n .given .1)) (c .same-front .ensures)
+    λ w. let k = c .before .before .before .before .before .before .before .before .shared-slice-known .given in unifier-same k w (told-as (c .before .before .before .before .before .before .unifier-under .ensures (rest-bets k w) (unifier-left k w) (unifier-right k w)) (c .before .before .before .answer .given .1)) (c .same-front .ensures)
 
 returns-4 : tie.Need-returns-4
 returns-4 c =
-    λ w. let k = c .before .before .before .before .before .shared-slice-known .given in unifier-long k w (search needs) (told-as (c .before .before .before .unifier-under .ensures (rest-bets k w) (unifier-left k w) (unifier-right k w)) (search needs) (c .enum-told3 .given .1))
+    λ w. let k = c .before .before .before .before .before .shared-slice-known .given in unifier-long k w (search needs) (told-as (c .before .before .before .unifier-under .ensures (rest-bets k w) (unifier-left k w) (unifier-right k w)) (c .enum-told3 .given .1) .0)
 
 pub same-unifier-spec : {M : Type 1} → statement M
 same-unifier-spec =
@@ -54,8 +57,9 @@ same-unifier-spec =
     slice-aggregate-unifier-under
     unifier-under-requires
     enum-told
+    unifier-refusal-requires
     enum-told-2
-    enum-known-n
+    enum-known-answer
     slice-aggregate-same-front
     same-front-requires
     enum-told-3

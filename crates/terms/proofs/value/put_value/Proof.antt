@@ -20,14 +20,18 @@ variable-value-requires : tie.Need-variable-value-requires
 variable-value-requires c κs =
     let p = c .before .before .before .before .before .before .pre in (p .0, record { entries = omega (arith, p .1); same = search needs; limit = search needs })
 
-enum-known-m : tie.Need-enum-known-m
-enum-known-m c = search needs
+enum-known-answer : tie.Need-enum-known-answer
+enum-known-answer c = search needs
 
 enum-told : tie.Need-enum-told
 enum-told c = search needs
 
+value-refusal-requires : tie.Need-value-refusal-requires
+value-refusal-requires c κs = search needs
+
 returns-2 : tie.Need-returns-2
-returns-2 c = λ p. replied-large (c .before .before .before .before .before .variable-value .ensures p) (omega arith) (c .enum-told .given .1)
+returns-2 c =
+    λ p. rw (c .value-refusal .ensures) (replied-large (c .before .before .before .before .before .before .variable-value .ensures p) (omega arith) (c .before .enum-told .given .1))
 
 slice-aggregate-put-range : tie.Need-slice-aggregate-put-range
 slice-aggregate-put-range c = search needs
@@ -35,13 +39,13 @@ slice-aggregate-put-range c = search needs
 put-range-requires : tie.Need-put-range-requires
 put-range-requires c κs =
     let w = c .before .before .before .before .before .before .before .before .variable-value .ensures (c .before .before .before .before .before .before .before .before .before .before .before .before .before .before .before .pre .0) in
-    (value-inside w (c .before .before .before .m .given .1), value-room w (c .before .before .before .m .given .1) (omega arith))
+    (value-inside w (c .before .before .before .answer .given .1), value-room w (c .before .before .before .answer .given .1) (omega arith))
 
 same-length : tie.Need-same-length
 same-length c = search needs
 
 returns-3 : tie.Need-returns-3
-returns-3 c = λ p. replied-value (c .before .before .before .before .before .before .before .before .before .before .before .variable-value .ensures p) (c .before .before .before .before .before .before .m .given .1) (omega arith) (c .before .before .put-range .ensures)
+returns-3 c = λ p. replied-value (c .before .before .before .before .before .before .before .before .before .before .before .variable-value .ensures p) (c .before .before .before .before .before .before .answer .given .1) (omega arith) (c .before .before .put-range .ensures)
 
 pub put-value-spec : {M : Type 1} → statement M
 put-value-spec =
@@ -52,8 +56,9 @@ put-value-spec =
     slice-aggregate-variable-value-2
     slice-aggregate-variable-value-3
     variable-value-requires
-    enum-known-m
+    enum-known-answer
     enum-told
+    value-refusal-requires
     returns-2
     slice-aggregate-put-range
     put-range-requires

@@ -1,4 +1,5 @@
 // A text to standard output, page after page, each by one call.
+use walk_text::text::PAGE;
 use walk_text::text::is_done;
 use walk_text::text::next_page;
 use walk_text::text::whole;
@@ -16,7 +17,7 @@ fn write_bytes(bytes: &[u8]) -> bool
 pub fn print_text(program: &[u8], query: &[u8]) -> bool
     ensures { λ r. ⌜ Output (text (now (program .entry)) (now (query .entry))) r ⌝ }
 {
-    let mut page: [u8; 65536] = [0; 65536];
+    let mut page: [u8; PAGE] = [0; PAGE];
     let mut rest = whole();
     loop {
         let p = next_page(program, query, rest, &mut page);

@@ -1,4 +1,7 @@
 // The text of a walk: numbers in decimal, the line of an event, the stop line. Each writer puts its bytes at a place of an output.
+use records::kinds::CALL;
+use records::kinds::EXIT;
+use records::kinds::FAIL;
 use records::places::PartEnds;
 use records::places::places_by;
 use records::put::put_byte;
@@ -42,9 +45,9 @@ fn put_port(out: &mut [u8], at: usize, port: u8) -> usize
     ensures within { λ r. ⌜ r ≤ at + 4 ⌝ }
 {
     match port {
-        1 => put_part(out, at, b"call"),
-        2 => put_part(out, at, b"exit"),
-        3 => put_part(out, at, b"fail"),
+        CALL => put_part(out, at, b"call"),
+        EXIT => put_part(out, at, b"exit"),
+        FAIL => put_part(out, at, b"fail"),
         _ => put_part(out, at, b"redo"),
     }
 }

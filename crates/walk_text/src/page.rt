@@ -13,6 +13,12 @@ ghost use Rattle.stepper.specs.View.{EndsOf};
 ghost use Rattle.walk_text.specs.Walked.{step-limit};
 ghost use Rattle.walk_text.specs.Page.{Ready, Advanced, Filled};
 
+// A walk makes at most so many steps.
+pub const STEP_LIMIT: usize = 100000;
+
+// A line has 68 bytes at most, and the stop line 26.
+const LINE_ROOM: usize = 94;
+
 // The number of the stop line where the walk is stopped, else the length of the next event's record and where its parts end.
 pub struct Next {
     pub stopped: bool,
@@ -44,7 +50,7 @@ fn advance(
     requires { ⌜ step ≤ step-limit ⌝ }
     ensures { λ r. ⌜ ((w : Passed (now (program .entry)) (take len (now (here .entry)))) → Advanced (machine layers (w .definitions)) step (w .event) r (now (here .exit))) ⌝ }
 {
-    if step == 100000 {
+    if step == STEP_LIMIT {
         return Next {
             stopped: true,
             number: 0,
@@ -62,7 +68,7 @@ fn advance(
     }
 }
 
-// The lines from an event on, at which the walk stands after `first` steps, as far as they fit: 68 bytes for a line and 26 for the stop line.
+// The lines from an event on, at which the walk stands after `first` steps, as far as they fit.
 pub fn fill_page(
     program: &[u8],
     here: &mut [u8],
@@ -80,7 +86,7 @@ pub fn fill_page(
     let mut len = start;
     let mut ends = part_ends(&here[..start]);
     let mut step = first;
-    while 94 <= page.len() - used {
+    while LINE_ROOM <= page.len() - used {
         let next_at = put_line(page, used, step, &here[..len], ends);
         let next = advance(program, here, len, ends, there, step);
         if next.stopped {

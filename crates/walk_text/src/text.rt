@@ -1,10 +1,12 @@
 // The next page of the text that the walk program prints: a page is filled from the two records and from what is left of the text, refusals
 // included. Nothing is required of either.
 use crate::line::put_stop;
-use crate::page::Lines;
+use crate::page::STEP_LIMIT;
 use crate::page::fill_page;
 use records::gate::program_number;
 use records::gate::program_verdict;
+use records::kinds::RECORD_LIMIT;
+use records::questions::DONE;
 use stepper::first::first_event;
 use stepper::service::gate;
 ghost use mathlib.Core.Path.{_≡_};
@@ -21,6 +23,12 @@ ghost use Rattle.walk_text.specs.Text.{text};
 ghost use Rattle.walk_text.specs.Rest.{by-stage, lines-left, steps-made, Gives, Paged};
 ghost use Rattle.walk_text.specs.declared.text.Stage.the-variants.{Start};
 
+// The bytes of a page.
+pub const PAGE: usize = 65536;
+
+// A query's first event has two counts and a port more than its record.
+const FIRST_EVENT_MORE: usize = 5;
+
 // The whole text, the lines from an event on, or nothing.
 pub enum Stage {
     Start,
@@ -33,7 +41,7 @@ pub struct Rest {
     pub stage: Stage,
     pub step: usize,
     pub length: usize,
-    pub event: [u8; 32768],
+    pub event: [u8; RECORD_LIMIT],
 }
 
 // How many bytes of a page are used, and what is left of the text after it.
@@ -67,12 +75,12 @@ pub fn whole() -> Rest
         stage: Stage::Start,
         step: 0,
         length: 0,
-        event: [0; 32768],
+        event: [0; RECORD_LIMIT],
     }
 }
 
 // The page that has the stop line alone.
-fn stop_page(event: [u8; 32768], number: u8, page: &mut [u8; 65536]) -> Page
+fn stop_page(event: [u8; RECORD_LIMIT], number: u8, page: &mut [u8; PAGE]) -> Page
     ensures { λ r. ⌜ ((program query : List ℕ) (most : ℕ) → Gives program query (stop-bytes number) most (now (page .entry)) r (now (page .exit))) ⌝ }
 {
     let used = put_stop(page, 0, number);
@@ -90,10 +98,10 @@ fn stop_page(event: [u8; 32768], number: u8, page: &mut [u8; 65536]) -> Page
 // The page from the line of an accepted event on, at which the walk stands after `first` steps.
 fn walk_page(
     program: &[u8],
-    event: [u8; 32768],
+    event: [u8; RECORD_LIMIT],
     len: usize,
     first: usize,
-    page: &mut [u8; 65536],
+    page: &mut [u8; PAGE],
 ) -> Page
     requires { ⌜ Passed (now program) (take len event) ⌝ }
     requires { ⌜ len ≤ 32768 ⌝ }
@@ -101,7 +109,7 @@ fn walk_page(
     ensures { λ r. ⌜ ((w : Passed (now (program .entry)) (take len event)) (query : List ℕ) → Gives (now (program .entry)) query (text-from (machine layers (w .definitions)) first (w .event)) (suc (step-limit - first)) (now (page .entry)) r (now (page .exit))) ⌝ }
 {
     let mut here = event;
-    let mut there: [u8; 32768] = [0; 32768];
+    let mut there: [u8; RECORD_LIMIT] = [0; RECORD_LIMIT];
     let lines = fill_page(program, &mut here, len, &mut there, first, page);
     let stage = if lines.done {
         Stage::Done
@@ -120,36 +128,36 @@ fn walk_page(
 }
 
 // The first page: a refused program, a refused query or first event, or the walk from there.
-fn first_page(program: &[u8], query: &[u8], page: &mut [u8; 65536]) -> Page
+fn first_page(program: &[u8], query: &[u8], page: &mut [u8; PAGE]) -> Page
     ensures { λ r. ⌜ Gives (now (program .entry)) (now (query .entry)) (text (now (program .entry)) (now (query .entry))) (suc step-limit) (now (page .entry)) r (now (page .exit)) ⌝ }
 {
-    let mut event: [u8; 32768] = [0; 32768];
+    let mut event: [u8; RECORD_LIMIT] = [0; RECORD_LIMIT];
     let number = program_number(program_verdict(program));
-    if number != 0 {
+    if number != DONE {
         return stop_page(event, number, page);
     }
     let refused = first_event(query, &mut event);
-    if refused != 0 {
+    if refused != DONE {
         return stop_page(event, refused, page);
     }
-    walk_page(program, event, query.len() + 5, 0, page)
+    walk_page(program, event, query.len() + FIRST_EVENT_MORE, 0, page)
 }
 
 // A later page: the walk goes on from an event, whose record passes the gate where an earlier page left it.
-fn later_page(program: &[u8], rest: Rest, page: &mut [u8; 65536]) -> Page
+fn later_page(program: &[u8], rest: Rest, page: &mut [u8; PAGE]) -> Page
     ensures { λ r. ⌜ ((query : List ℕ) → Gives (now (program .entry)) query (lines-left (now (program .entry)) rest) (suc (step-limit - steps-made rest)) (now (page .entry)) r (now (page .exit))) ⌝ }
 {
     let event = rest.event;
-    let len = least(rest.length, 32768);
-    let refused = gate(program, &event[..len], 32768);
-    if refused != 0 {
+    let len = least(rest.length, RECORD_LIMIT);
+    let refused = gate(program, &event[..len], RECORD_LIMIT);
+    if refused != DONE {
         return stop_page(event, refused, page);
     }
-    walk_page(program, event, len, least(rest.step, 100000), page)
+    walk_page(program, event, len, least(rest.step, STEP_LIMIT), page)
 }
 
 // The next page of what is left of the text of two records.
-pub fn next_page(program: &[u8], query: &[u8], rest: Rest, page: &mut [u8; 65536]) -> Page
+pub fn next_page(program: &[u8], query: &[u8], rest: Rest, page: &mut [u8; PAGE]) -> Page
     ensures { λ r. ⌜ Paged (now (program .entry)) (now (query .entry)) rest (now (page .entry)) r (now (page .exit)) ⌝ }
 {
     let stage = rest.stage;

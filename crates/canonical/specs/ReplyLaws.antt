@@ -4,18 +4,21 @@ use mathlib.Core.Bool.{Bool, true, false, cond}
 use mathlib.Core.List.{List, [], _∷_}
 use Prim.Native.Nat.{ℕ, _+_, _≤_, _<_}
 use native.Mathlib.Omega.{arith}
+use lib.Dec.{leb}
 use lib.ListN.{length}
-use borrow.Author.Tests.{le-leb, lt-leb}
+use borrow.Author.Tests.{le-leb, lt-leb, leb-true, leb-false}
 use Rattle.records.specs.Syntax.{Definition, Clause}
-use Rattle.records.specs.Encode.{word, each, counted, definition-bytes, record-of, program-record}
+use Rattle.records.specs.Encode.{word, each, counted, definition-bytes, record-of, record-head, program-record}
 use Rattle.records.specs.RecordRules.{every}
 use Rattle.records.specs.Patched.{Put, put-then, put-front}
+use Rattle.records.specs.Emitted.{put-record}
 use Rattle.records.specs.Question.{Asked, framing, version, grammar, rules, of-program, number as question-number}
 use Rattle.records.specs.Gate.{Reading, refused, tree, Accepted, asked-verdict, verdict, program-number, read-clauses}
 use Rattle.canonical.specs.Service.{locals-fit, made, answered, Reply, replied, reply, canonical-record}
 use Rattle.canonical.specs.Remaining.{program-of}
 use Rattle.canonical.specs.AcceptedLaws.{accepted-tree}
-use Rattle.canonical.specs.Survey.{surveyed}
+use Rattle.canonical.specs.Survey.{surveyed, survey-refusal}
+use Rattle.canonical.specs.declared.program.Survey.{Survey}
 use Rattle.canonical.specs.declared.program.Survey.the-variants.{Within, TooMany}
 
 -- a program's record: the length, the version, the count, and the definitions
@@ -67,14 +70,40 @@ module _ (out : List ℕ) (ds : List Definition) (roomy : 32768 ≤ length out) 
         rw (le-leb 32768 (length out) roomy, m .fit, le-leb (length (program-record ds)) 32768 k)
         (ap (replied 0) (put-front p (omega arith)))
 
--- a record is written by its length, its version, its count and its definitions, one after the other
-pub put-program : {ds : List Definition} {before one two three after : List ℕ} {count size a b c d : ℕ} → Measured ds count size
-    → Put before 0 (word (size + 3)) one a → Put one a (1 ∷ []) two b → Put two b (word count) three c → Put three c (each definition-bytes ds) after d
-    → Put before 0 (program-record ds) after d
-unfolding record-of
-put-program {ds} {count = count} {size = size} m p q r v =
-    let n : size + 3 ≡ 1 + length (counted definition-bytes ds) = omega (arith, m .sizes) in
-    put-then (rw n at p) (put-then q (put-then (rw (m .counts) at r) v))
+-- the number of a survey refuses, or is 0 and the record fits
+module _ (out : List ℕ) (ds : List Definition) (roomy : 32768 ≤ length out) where
+  pub reply-refused : {v : Survey} {k : ℕ} → v ≡ surveyed ds → k ≡ survey-refusal v → (k ≡ 0 → ⊥) → replied k out ≡ reply out (made (length out) ds)
+  reply-refused {v} {k} e n z = go v refl
+    where
+      long : (count size : ℕ) → Measured ds count size → (b : Bool) → leb (5 + size) 32768 ≡ b → k ≡ cond b 0 10 → replied k out ≡ reply out (made (length out) ds)
+      long count size m true f i = absurd (z i)
+      long count size m false f i = rw i (reply-long out ds roomy m (omega (arith, leb-false (5 + size) 32768 f)))
+
+      go : (x : Survey) → v ≡ x → replied k out ≡ reply out (made (length out) ds)
+      go (Within count size) q = long count size (measured ds (sym q ∙ e)) _ refl (n ∙ ap survey-refusal q)
+      go TooMany q = rw (n ∙ ap survey-refusal q) (reply-many out ds roomy (sym q ∙ e))
+
+-- its number, for what was measured
+module _ {v : Survey} {count size : ℕ} (q : v ≡ Within count size) where
+  pub survey-long : 32763 < size → 10 ≡ survey-refusal v
+  survey-long h = rw (q, lt-leb (5 + size) 32768 (omega arith)) refl
+
+  pub survey-short : size ≤ 32763 → 0 ≡ survey-refusal v
+  survey-short h = rw (q, le-leb (5 + size) 32768 (omega arith)) refl
+
+pub survey-fits : {v : Survey} {k count size : ℕ} → v ≡ Within count size → k ≡ survey-refusal v → k ≡ 0 → size ≤ 32763
+survey-fits {k = k} {count} {size} q n z = go (leb (5 + size) 32768) refl (n ∙ ap survey-refusal q)
+  where
+    go : (b : Bool) → leb (5 + size) 32768 ≡ b → k ≡ cond b 0 10 → size ≤ 32763
+    go true f i = omega (arith, leb-true (5 + size) 32768 f)
+    go false f i = omega arith
+
+-- a record is written by its head, its count and its definitions, one after the other
+pub put-program : {ds : List Definition} {before one two after : List ℕ} {count size a b c : ℕ} → Measured ds count size
+    → Put before 0 (record-head (size + 5)) one a → Put one a (word count) two b → Put two b (each definition-bytes ds) after c → Put before 0 (program-record ds) after c
+put-program {ds} {size = size} m p q r =
+    let n : size + 5 ≡ length (program-record ds) = omega (arith, m .sizes, program-length ds) in
+    put-record n p (put-then (rw (m .counts) at q) r)
 
 -- the code's number for each answer of the gate is the question's
 program-number-is : (q : Asked) → program-number (asked-verdict q) ≡ question-number (of-program q)

@@ -1,6 +1,9 @@
 // A clause's branch, written: an equation for each term of the head, then the goal, with the clause's variables numbered from a base on.
 use records::heads::Signature;
 use records::heads::clause_head;
+use records::kinds::CONJ;
+use records::kinds::EQUAL;
+use records::kinds::VARIABLE;
 use records::put::Range;
 use records::put::put_byte;
 use records::put::put_part;
@@ -30,7 +33,7 @@ fn put_variable(out: &mut [u8], at: usize, v: usize) -> usize
     requires { ⌜ at + 3 ≤ length (now out) ⌝ }
     ensures { λ r. ⌜ Put (now (out .entry)) at (term-bytes (var v)) (now (out .exit)) r ⌝ }
 {
-    let next = put_byte(out, at, 0x01);
+    let next = put_byte(out, at, VARIABLE);
     put_word(out, next, v)
 }
 
@@ -75,7 +78,7 @@ fn put_equation(out: &mut [u8], at: usize, s: &[u8], pos: usize, x: usize, base:
     requires { ⌜ at + length (equation x (renamed base (walk (now s) pos 1 0))) ≤ length (now out) ⌝ }
     ensures { λ r. ⌜ Passes (walk (now (s .entry)) pos 1 0) (now (out .entry)) at (equation x (renamed base (walk (now (s .entry)) pos 1 0))) (now (out .exit)) r ⌝ }
 {
-    let left_at = put_part(out, at, &[0x13, 0x12]);
+    let left_at = put_part(out, at, &[CONJ, EQUAL]);
     let right_at = put_variable(out, left_at, x);
     let term = Cursor {
         pos,

@@ -4,6 +4,7 @@ use records::ends::Found;
 use records::ends::clause_end;
 use records::heads::Signature;
 use records::heads::clause_head;
+use records::kinds::DISJ;
 use records::put::put_byte;
 use records::put::put_part;
 use records::put::put_word;
@@ -73,7 +74,7 @@ fn put_joined(out: &mut [u8], at: usize, s: &[u8], place: usize, base: usize, mo
     if !more {
         return put_branch(out, at, s, place, base);
     }
-    let next = put_byte(out, at, 0x14);
+    let next = put_byte(out, at, DISJ);
     put_branch(out, next, s, place, base)
 }
 

@@ -2,8 +2,12 @@
 use crate::definition::put_definition;
 use crate::definition::run_totals;
 use crate::order::run_end;
-use records::put::put_byte;
+use records::kinds::RECORD_LIMIT;
+use records::put::put_record_head;
 use records::put::put_word;
+use records::questions::DONE;
+use records::questions::FITS;
+use records::questions::LOCALS;
 ghost use mathlib.Core.Path.{_≡_};
 ghost use mathlib.Core.Bool.{true};
 ghost use Prim.Native.Nat.{_+_, _≤_};
@@ -13,7 +17,7 @@ ghost use Rattle.records.specs.RecordRules.{every};
 ghost use Rattle.records.specs.Patched.{Put};
 ghost use Rattle.canonical.specs.Service.{locals-fit, made, replied, reply};
 ghost use Rattle.canonical.specs.Remaining.{Remaining, program-of};
-ghost use Rattle.canonical.specs.Survey.{surveyed};
+ghost use Rattle.canonical.specs.Survey.{surveyed, survey-refusal};
 ghost use Rattle.canonical.specs.declared.program.Survey.the-variants.{Within};
 
 // How many definitions there are, with their bytes, or question 9 says no.
@@ -22,6 +26,17 @@ pub enum Survey {
     TooMany,
 }
 
+// The paper's number for a survey: question 9, then 10 for the record, which has five bytes besides the definitions; 0 where neither says no.
+fn survey_refusal(survey: Survey) -> u8
+    ensures { λ r. ⌜ r ≡ survey-refusal survey ⌝ }
+{
+    match survey {
+        Survey::Within(_, size) => { if RECORD_LIMIT - 5 < size { FITS } else { DONE } }
+        Survey::TooMany => LOCALS,
+    }
+}
+
+// What the definitions of the sorted entries come to.
 pub fn measure_program(s: &[u8], sorted: &[usize]) -> Survey
     requires { ⌜ Remaining (now s) (now sorted) 0 (program-of (now s)) ⌝ }
     ensures { λ r. ⌜ r ≡ surveyed (program-of (now (s .entry))) ⌝ }
@@ -66,8 +81,7 @@ fn put_record(s: &[u8], sorted: &[usize], count: usize, size: usize, out: &mut [
     requires { ⌜ 32768 ≤ length (now out) ⌝ }
     ensures { λ r. ⌜ Put (now (out .entry)) 0 (program-record (program-of (now (s .entry)))) (now (out .exit)) r ⌝ }
 {
-    let version_at = put_word(out, 0, size + 3);
-    let count_at = put_byte(out, version_at, 1);
+    let count_at = put_record_head(out, size + 5);
     let first = put_word(out, count_at, count);
     put_definitions(out, first, s, sorted)
 }
@@ -78,12 +92,14 @@ pub fn put_program(s: &[u8], sorted: &[usize], out: &mut [u8]) -> u8
     requires { ⌜ 32768 ≤ length (now out) ⌝ }
     ensures { λ r. ⌜ replied r (now (out .exit)) ≡ reply (now (out .entry)) (made (length (now (out .entry))) (program-of (now (s .entry)))) ⌝ }
 {
-    let Survey::Within(count, size) = measure_program(s, sorted) else {
-        return 9;
+    let survey = measure_program(s, sorted);
+    let number = survey_refusal(survey);
+    let Survey::Within(count, size) = survey else {
+        return number;
     };
-    if 32763 < size {
-        return 10;
+    if number != DONE {
+        return number;
     }
     put_record(s, sorted, count, size, out);
-    0
+    DONE
 }

@@ -6,6 +6,9 @@ use records::gate::clauses_verdict;
 use records::gate::program_number;
 use records::heads::Word;
 use records::heads::word_at;
+use records::kinds::RECORD_LIMIT;
+use records::questions::DONE;
+use records::questions::OUTPUT;
 ghost use mathlib.Core.Path.{_≡_};
 ghost use Prim.Native.Nat.{_≤_};
 ghost use lib.ListN.{length};
@@ -35,7 +38,7 @@ fn put_canonical(s: &[u8], table: &mut [usize], sorted: &mut [usize], out: &mut 
     ensures { λ r. ⌜ replied r (now (out .exit)) ≡ reply (now (out .entry)) (made (length (now (out .entry))) (program-of (now (s .entry)))) ⌝ }
 {
     let Word::Number(n) = word_at(s, 3) else {
-        return 0;
+        return DONE;
     };
     put_sorted(s, &mut table[0..n], &mut sorted[0..n], out)
 }
@@ -45,11 +48,11 @@ pub fn canonical(clauses: &[u8], out: &mut [u8]) -> u8
     ensures { λ r. ⌜ replied r (now (out .exit)) ≡ canonical-record (now (clauses .entry)) (now (out .entry)) ⌝ }
 {
     let number = program_number(clauses_verdict(clauses));
-    if number != 0 {
+    if number != DONE {
         return number;
     }
-    if out.len() < 32768 {
-        return 5;
+    if out.len() < RECORD_LIMIT {
+        return OUTPUT;
     }
     let mut table: [usize; 6552] = [0; 6552];
     let mut sorted: [usize; 6552] = [0; 6552];

@@ -117,6 +117,8 @@ class By(Part):
 # ---- Events
 @dataclass(frozen=True)
 class Empty(Part):
+    count = 0
+
     def __iter__(self):
         return iter(())
 
@@ -125,6 +127,10 @@ class Empty(Part):
 class Stack(Part):
     top: Part
     rest: Part
+
+    def __post_init__(self):
+        super().__post_init__()
+        object.__setattr__(self, 'count', self.rest.count + 1)
 
     def __iter__(self):
         """from the top"""

@@ -16,7 +16,7 @@ def cut_off(data, question_1):
 
 
 def line(step, event):
-    return f'{step} {WORDS[event.port]} {len(list(event.ancestors))} {len(list(event.bets))}\n'
+    return f'{step} {WORDS[event.port]} {event.ancestors.count} {event.bets.count}\n'
 
 
 def walk(data, most=MOST_STEPS):

@@ -1,0 +1,50 @@
+-- The digest of the bytes passed, gone on with over those left, is that of all. The measure is the number of bytes that are left.
+use Prim.Native.Nat.{_≤_, _-_}
+use mathlib.Core.Path.{_≡_, refl}
+use Rattle.walk_cases.specs.DigestLaws.{digest-turn, digest-done}
+use lib.ListN.{length, drop}
+use Rattle.walk_cases.specs.Digest.{digest-from}
+use borrow.Author.Needs.{needs}
+use Rattle.walk_cases.proofs.digest.add_bytes.Statement.{statement}
+use Rattle.walk_cases.proofs.digest.add_bytes.Tie as tie
+
+abbrev Inv-loop : tie.InvT-loop
+Inv-loop bytes sum₀ i₀ sum i = (i ≤ length bytes) × (digest-from sum (drop i bytes) ≡ digest-from sum₀ bytes)
+
+abbrev μ-loop : tie.MeasureT-loop
+μ-loop bytes sum₀ i₀ sum i = length bytes - i
+
+loop-holds : tie.Need-loop-holds Inv-loop μ-loop
+loop-holds c = (search needs, refl)
+
+shared-slice-read-add-byte : tie.Need-shared-slice-read-add-byte Inv-loop μ-loop
+shared-slice-read-add-byte c = search needs
+
+add-byte-requires : tie.Need-add-byte-requires Inv-loop μ-loop
+add-byte-requires c κs = search needs
+
+add-i : tie.Need-add-i Inv-loop μ-loop
+add-i c = search needs
+
+loop-less : tie.Need-loop-less Inv-loop μ-loop
+loop-less c = search needs
+
+loop-again : tie.Need-loop-again Inv-loop μ-loop
+loop-again c = (search needs, digest-turn _ _ _ (c .before .before .loop-test .taken) (c .add-byte .ensures) (c .before .before .before .loop .inv .1))
+
+returns : tie.Need-returns Inv-loop μ-loop
+returns c = digest-done _ _ _ (c .loop-test .left) (c .before .loop .inv .1)
+
+pub add-bytes-spec : {M : Type 1} → statement M
+add-bytes-spec =
+    tie.close
+    (tie.spec
+    Inv-loop
+    μ-loop
+    loop-holds
+    shared-slice-read-add-byte
+    add-byte-requires
+    add-i
+    loop-less
+    loop-again
+    returns)

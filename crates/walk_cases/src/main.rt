@@ -1,0 +1,56 @@
+// Puts inputs of the walk program to its library, and prints a line for each: its ordinal from 1, how many bytes and lines the text has, its
+// checksum, and the text, with / for each line feed; of a text of more than 80 bytes the last line, after two dots.
+// A case is a four-byte length, high byte first, and that many bytes, at most 80,000: a whole standard input.
+mod digest; // digest.rt: bytes, lines and checksum
+mod shown; // shown.rt: the line of a case
+mod text; // text.rt: the text of an input, page after page
+
+use shown::print_line;
+use text::digest_input;
+ghost use mathlib.Core.Path.{_≡_};
+ghost use Prim.Native.Nat.{_<_};
+
+fn wide(b: u8) -> usize
+    ensures { λ r. ⌜ (r ≡ b) × (r < 256) ⌝ }
+{
+    b as usize
+}
+
+fn print_case(ordinal: u64, input: &[u8]) {
+    let mut page: [u8; 65536] = [0; 65536];
+    let digested = digest_input(input, &mut page);
+    let used = digested.used;
+    let digest = digested.digest;
+    print_line(ordinal, digest, &page[..used]);
+}
+
+// Reads a case's bytes, as many as the slice has, and prints its line. False, with nothing printed, where the input ends before.
+fn answer(ordinal: u64, input: &mut [u8]) -> bool {
+    if io::read_full(0, input) < input.len() {
+        return false;
+    }
+    print_case(ordinal, input);
+    true
+}
+
+// Reads a case and prints its line. False, with nothing printed, where the input ends or the case is longer than the buffer.
+fn next_case(ordinal: u64) -> bool {
+    let mut head = [0u8; 4];
+    if io::read_full(0, &mut head) < 4 {
+        return false;
+    }
+    let n = ((wide(head[0]) * 256 + wide(head[1])) * 256 + wide(head[2])) * 256 + wide(head[3]);
+    if 80000 < n {
+        return false;
+    }
+    let mut input = [0u8; 80000];
+    answer(ordinal, &mut input[0..n])
+}
+
+// A proved loop has to end, so the number of cases has a limit.
+fn main() {
+    let mut ordinal = 1;
+    while ordinal < 10000 && next_case(ordinal) {
+        ordinal += 1;
+    }
+}

@@ -1,0 +1,31 @@
+"""The table of cases: each has words, a whole standard input of the walk program, and the text that was worked out by hand, or None."""
+from record_cases.layout import *
+
+cases = []
+subject = ''
+
+
+def heading(words):
+    global subject
+    subject = words
+
+
+def case(words, data, want=None):
+    cases.append((subject + ': ' + words, data, want))
+
+
+def refused(words, data, number):
+    """the stop line alone"""
+    case(words, data, f'stop {number}\n')
+
+
+# ---- Records
+def program(*definitions):
+    return record(listed(definitions))
+
+
+NO_DEFINITIONS = program()
+# document 01's own input, and what it prints
+EXAMPLE_QUERY = hexa('00 09 01 12 01 00 00 02 00 02 00')
+EXAMPLE = NO_DEFINITIONS + EXAMPLE_QUERY
+EXAMPLE_TEXT = '0 call 0 0\n1 exit 0 1\nstop 6\n'

@@ -1,4 +1,5 @@
-"""The table of cases: each has words, a whole standard input of the walk program, and the text that was worked out by hand, or None."""
+"""The table of cases: each has words, a whole standard input of the walk program, and what was worked out by hand: the text, or of a long one how many
+events it has and the number of its stop line, or None."""
 from record_cases.layout import *
 
 cases = []
@@ -12,6 +13,14 @@ def heading(words):
 
 def case(words, data, want=None):
     cases.append((subject + ': ' + words, data, want))
+
+
+def agrees(text, want):
+    """with what was worked out by hand"""
+    if isinstance(want, tuple):
+        events, number = want
+        return text.count('\n') == events + 1 and text.endswith(f'\nstop {number}\n')
+    return want is None or text == want
 
 
 def refused(words, data, number):

@@ -1,4 +1,4 @@
-// The line that is printed of a case.
+// The line that is printed for a case.
 use crate::digest::Digest;
 ghost use Prim.Native.Nat.{_≤_};
 ghost use lib.ListN.{length};

@@ -91,6 +91,10 @@ impl Walk {
         let _ = self.input.as_mut().expect("open").write_all(bytes);
     }
 
+    fn close_input(&mut self) {
+        self.input = None;
+    }
+
     /// The program's text, while its input stays as it is. Panics where it does not end.
     fn text(&mut self) -> String {
         let mut output = self.output.take().expect("open");
@@ -99,10 +103,9 @@ impl Walk {
             let mut text = String::new();
             let _ = sender.send(output.read_to_string(&mut text).map(|_| text));
         });
-        let text = receiver.recv_timeout(PATIENCE);
         let status = self.ended();
         assert!(status.success(), "{status}");
-        text.expect("the program prints and ends").expect("text")
+        receiver.recv_timeout(PATIENCE).expect("the output ends with the program").expect("text")
     }
 
     /// How the program ended. Panics where it does not.
@@ -162,7 +165,7 @@ fn an_input_byte_by_byte() {
             walk.send(&[*byte]);
             thread::sleep(Duration::from_micros(200));
         }
-        walk.input = None;
+        walk.close_input();
         assert_eq!(line(i + 1, &walk.text()), lines[i]);
     }
 }
@@ -195,6 +198,7 @@ fn an_output_that_is_closed_early() {
     for command in [Command::new(walk_program()), told] {
         let mut walk = Walk::started(command);
         walk.send(&inputs[long]);
+        walk.close_input();
         let mut front = [0; 11];
         walk.output.take().expect("open").read_exact(&mut front).expect("a line");
         assert_eq!(&front, b"0 call 0 0\n");
@@ -209,5 +213,6 @@ fn an_output_that_is_not_there() {
     command.args(["-c", "exec \"$0\" >&-"]).arg(walk_program());
     let mut walk = Walk::started(command);
     walk.send(&[&PROGRAM[..], &QUERY].concat());
+    walk.close_input();
     assert!(walk.ended().success());
 }

@@ -1,16 +1,13 @@
 -- A text on its way out: at its start, after one page more, after a page that was not taken, and where nothing is left of it.
 use mathlib.Core.Path.{_≡_, refl, sym, ap, _∙_}
-use mathlib.Core.Bool.{Bool, true, false, not, true≢false}
+use mathlib.Core.Bool.{Bool, true, false, not}
 use mathlib.Core.List.{List, [], _++_, append-nil, append-assoc}
-use Prim.Native.Nat.{ℕ, suc, _-_, _<_}
-use native.Mathlib.Omega.{arith}
+use Prim.Native.Nat.{ℕ, _<_}
 use lib.ListN.{take}
-use Rattle.walk_text.specs.Walked.{step-limit}
 use Rattle.walk_text.specs.Text.{text}
-use Rattle.walk_text.specs.Rest.{by-stage, steps-made, left, pages-left, Paged}
-use Rattle.walk_text.specs.RestLaws.{page-bytes}
-use Rattle.walk_text.specs.declared.text.Stage.{Stage}
-use Rattle.walk_text.specs.declared.text.Stage.the-variants.{Start, Walking, Done}
+use Rattle.walk_text.specs.Rest.{done, left, pages-left, Paged}
+use Rattle.walk_text.specs.RestLaws.{page-bytes, pages-more, nothing-left}
+use Rattle.walk_text.specs.declared.text.Stage.the-variants.{Start}
 use Rattle.walk_text.specs.declared.text.Rest.{Rest}
 use Rattle.walk_text.specs.declared.text.Page.{Page}
 use Rattle.walk.specs.Writing.{Handed, Printed, nothing, and-then, Output, all-of, up-to}
@@ -20,10 +17,6 @@ pub record Printing (program query : List ℕ) (rest : Rest) : Type 0 where
   pub bytes : List ℕ
   pub printed : Printed bytes
   pub text-is : text program query ≡ bytes ++ left program query rest
-
--- is nothing left?
-abbrev pub done : Stage → Bool
-done stage = by-stage stage false false true
 
 -- what the test of a negation says
 not-false : (b : Bool) → not b ≡ false → b ≡ true
@@ -53,22 +46,7 @@ module _ {program query : List ℕ} where
       up-to (take (r .used) after) (left program query (r .rest)) (p .printed) (rw (not-true all e) at h) (p .text-is ∙ rw (page-bytes g, g .text-is) refl)
 
   pub printing-done : {rest : Rest} → Printing program query rest → done (rest .stage) ≡ true → Output (text program query) true
-  unfolding left
-  printing-done {rest} p d = go (rest .stage) refl d
-    where
-      go : (s : Stage) → rest .stage ≡ s → done s ≡ true → Output (text program query) true
-      go Start e h = absurd (true≢false (sym h))
-      go Walking e h = absurd (true≢false (sym h))
-      go Done e h = rw (p .text-is, e, append-nil) (all-of (p .printed))
-
--- where something is left, so are pages
-pub pages-more : (rest : Rest) → done (rest .stage) ≡ false → 0 < pages-left rest
-pages-more rest d = go (rest .stage) d
-  where
-    go : (s : Stage) → done s ≡ false → 0 < by-stage s (suc step-limit) (suc (step-limit - steps-made rest)) 0
-    go Start h = omega arith
-    go Walking h = omega arith
-    go Done h = absurd (true≢false h)
+  printing-done {rest} p d = rw (p .text-is, nothing-left program query rest d, append-nil) (all-of (p .printed))
 
 pub pages-start : (rest : Rest) → rest .stage ≡ Start → 0 < pages-left rest
 pages-start rest e = pages-more rest (ap done e)

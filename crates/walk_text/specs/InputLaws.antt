@@ -1,8 +1,8 @@
 -- What code knows of an input: how many bytes its length field names, and how many are taken of it.
 use mathlib.Core.Path.{_≡_, refl, sym, ap, _∙_}
 use mathlib.Core.Bool.{Bool, true, false, cond}
-use mathlib.Core.List.{List, [], _∷_, _++_}
-use Prim.Native.Nat.{ℕ, _+_, _≤_, _<_, min}
+use mathlib.Core.List.{List, [], _∷_}
+use Prim.Native.Nat.{ℕ, zero, suc, _+_, _≤_, _<_, min}
 use native.Mathlib.Omega.{arith}
 use borrow.Author.Tests.{lt-ltb, le-ltb, ltb-false}
 use lib.Dec.{ltb}
@@ -53,14 +53,20 @@ named-field [] = refl
 named-field (x ∷ []) = refl
 named-field (x ∷ y ∷ l) = refl
 
--- all of a short input, or up to where the record ends
-pub taken-all : (s : List ℕ) → length s < 2 + named s → length s ≡ length (taken s)
-unfolding taken
-taken-all s h = sym (length-take (2 + named s) s ∙ omega arith)
-
-pub taken-part : (s : List ℕ) → 2 + named s ≤ length s → 2 + named s ≡ length (taken s)
-unfolding taken
-taken-part s h = sym (length-take (2 + named s) s ∙ omega arith)
-
 pub named-bound : (s : List ℕ) {n : ℕ} → n ≡ named s → n ≤ 32766
 named-bound s e = omega (arith, e, named-most s)
+
+-- what is taken of an input is its front of that length
+module _ (s : List ℕ) where
+  pub taken-length : length (taken s) ≡ min (2 + named s) (length s)
+  unfolding taken
+  taken-length = length-take (2 + named s) s
+
+  pub taken-front : {n : ℕ} → n ≡ length (taken s) → take n s ≡ taken s
+  unfolding taken
+  taken-front {n} is = rw is (again (2 + named s) s)
+    where
+      again : (m : ℕ) (l : List ℕ) → take (length (take m l)) l ≡ take m l
+      again zero l = refl
+      again (suc m) [] = refl
+      again (suc m) (x ∷ l) = ap (λ k. x ∷ k) (again m l)

@@ -1,5 +1,6 @@
 -- What is left of a text after some of its pages, and what a page gives of it.
 use mathlib.Core.Path.{_≡_}
+use mathlib.Core.Bool.{Bool, true, false}
 use mathlib.Core.List.{List, [], _++_}
 use Prim.Native.Nat.{ℕ, suc, _-_, _≤_, _<_, min}
 use lib.ListN.{length, take}
@@ -19,6 +20,10 @@ abbrev pub by-stage : {A : Type 0} → Stage → A → A → A → A
 by-stage Start a b c = a
 by-stage Walking a b c = b
 by-stage Done a b c = c
+
+-- is nothing left?
+abbrev pub done : Stage → Bool
+done stage = by-stage stage false false true
 
 -- the record of the event at which a walk goes on, and the steps made until there
 abbrev pub present : Rest → List ℕ

@@ -1,6 +1,6 @@
 -- What a page gives of a text: the stop line alone, the lines of a walk, and what is left where the records are refused or accepted.
 use mathlib.Core.Path.{_≡_, refl, sym, ap, _∙_}
-use mathlib.Core.Bool.{true, false}
+use mathlib.Core.Bool.{true, false, true≢false}
 use mathlib.Core.List.{List, [], _∷_, _++_, append-nil}
 use Prim.Native.Nat.{ℕ, suc, _+_, _-_, _≤_, _<_, min}
 use native.Mathlib.Nat.{zero-add}
@@ -20,8 +20,9 @@ use Rattle.walk_text.specs.Line.{stop-bytes}
 use Rattle.walk_text.specs.Walked.{step-limit, text-from}
 use Rattle.walk_text.specs.Page.{Filled}
 use Rattle.walk_text.specs.Text.{text}
-use Rattle.walk_text.specs.Rest.{present, steps-made, lines-left, left, Gives, Paged}
+use Rattle.walk_text.specs.Rest.{by-stage, done, present, steps-made, lines-left, left, pages-left, Gives, Paged}
 use Rattle.walk_text.specs.declared.page.Lines.{Lines}
+use Rattle.walk_text.specs.declared.text.Stage.{Stage}
 use Rattle.walk_text.specs.declared.text.Stage.the-variants.{Start, Walking, Done}
 use Rattle.walk_text.specs.declared.text.Rest.{Rest}
 use Rattle.walk_text.specs.declared.text.Page.{Page}
@@ -134,3 +135,21 @@ module _ {program query before after : List ℕ} {page : Page} (rest : Rest) whe
 
 pub paged-done : {program query before : List ℕ} (rest : Rest) → rest .stage ≡ Done → Paged program query rest before (record { used = 0; rest = rest }) before
 paged-done rest e = record { bytes = []; put = put-none; inside = omega arith; text-is = refl; fewer = rw e (λ h. h) }
+
+-- where something is left, so are pages; where nothing is, no text
+pub pages-more : (rest : Rest) → done (rest .stage) ≡ false → 0 < pages-left rest
+pages-more rest d = go (rest .stage) d
+  where
+    go : (s : Stage) → done s ≡ false → 0 < by-stage s (suc step-limit) (suc (step-limit - steps-made rest)) 0
+    go Start h = omega arith
+    go Walking h = omega arith
+    go Done h = absurd (true≢false h)
+
+pub nothing-left : (program query : List ℕ) (rest : Rest) → done (rest .stage) ≡ true → left program query rest ≡ []
+unfolding left
+nothing-left program query rest d = go (rest .stage) (text program query) (lines-left program rest) d
+  where
+    go : (s : Stage) (a b : List ℕ) → done s ≡ true → by-stage s a b [] ≡ []
+    go Start a b h = absurd (true≢false (sym h))
+    go Walking a b h = absurd (true≢false (sym h))
+    go Done a b h = refl

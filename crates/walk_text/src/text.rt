@@ -10,7 +10,6 @@ use records::questions::DONE;
 use stepper::first::first_event;
 use stepper::service::gate;
 ghost use mathlib.Core.Path.{_≡_};
-ghost use mathlib.Core.Bool.{true, false};
 ghost use mathlib.Core.List.{List};
 ghost use Prim.Native.Nat.{ℕ, suc, _-_, _≤_, min};
 ghost use lib.ListN.{length, take};
@@ -20,7 +19,7 @@ ghost use Rattle.stepper.specs.Stepped.{Passed};
 ghost use Rattle.walk_text.specs.Line.{stop-bytes};
 ghost use Rattle.walk_text.specs.Walked.{step-limit, text-from};
 ghost use Rattle.walk_text.specs.Text.{text};
-ghost use Rattle.walk_text.specs.Rest.{by-stage, lines-left, steps-made, Gives, Paged};
+ghost use Rattle.walk_text.specs.Rest.{done, lines-left, steps-made, Gives, Paged};
 ghost use Rattle.walk_text.specs.declared.text.Stage.the-variants.{Start};
 
 // The bytes of a page.
@@ -58,7 +57,7 @@ fn least(a: usize, b: usize) -> usize
 
 // Whether nothing is left.
 pub fn is_done(stage: Stage) -> bool
-    ensures { λ r. ⌜ r ≡ by-stage stage false false true ⌝ }
+    ensures { λ r. ⌜ r ≡ done stage ⌝ }
 {
     match stage {
         Stage::Start => false,

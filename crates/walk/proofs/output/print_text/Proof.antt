@@ -5,7 +5,8 @@ use native.Mathlib.Omega.{arith}
 use lib.Seq.{length-take-le}
 use borrow.Author.Needs.{needs}
 use Rattle.walk_text.specs.Rest.{pages-left}
-use Rattle.walk.specs.WritingLaws.{Printing, printing-start, printing-page, printing-cut, printing-done, pages-more, pages-start}
+use Rattle.walk_text.specs.RestLaws.{pages-more}
+use Rattle.walk.specs.WritingLaws.{Printing, printing-start, printing-page, printing-cut, printing-done, pages-start}
 use Rattle.walk.proofs.output.print_text.Statement.{statement}
 use Rattle.walk.proofs.output.print_text.Tie as tie
 

@@ -1,7 +1,8 @@
 -- What is taken for the query is the front of the rest.
 use mathlib.Core.Path.{sym}
 use lib.Seq.{length-take-le}
-use Rattle.walk_cases.specs.TakenLaws.{taken-within, taken-front}
+use Rattle.walk_text.specs.InputLaws.{taken-front}
+use Rattle.walk_cases.specs.TakenLaws.{taken-within}
 use borrow.Author.Needs.{needs}
 use Rattle.walk_cases.proofs.text.digest_query.Statement.{statement}
 use Rattle.walk_cases.proofs.text.digest_query.Tie as tie

@@ -5,8 +5,9 @@ use native.Mathlib.Omega.{arith}
 use lib.Seq.{length-take-le}
 use Rattle.walk_text.specs.Text.{text}
 use Rattle.walk_text.specs.Rest.{left, pages-left}
+use Rattle.walk_text.specs.RestLaws.{pages-more}
 use Rattle.walk_cases.specs.Digest.{digest-from, digest-of}
-use Rattle.walk_cases.specs.TextLaws.{more-left, digest-start, digest-page, digest-end}
+use Rattle.walk_cases.specs.TextLaws.{digest-start, digest-page, digest-end}
 use borrow.Author.Needs.{needs}
 use Rattle.walk_cases.proofs.text.digest_text.Statement.{statement}
 use Rattle.walk_cases.proofs.text.digest_text.Tie as tie
@@ -43,7 +44,7 @@ loop-less : tie.Need-loop-less Inv-loop μ-loop
 loop-less c = c .before .before .before .before .before .before .next-page .ensures .fewer (c .before .before .before .before .before .before .before .before .loop .inv .0)
 
 loop-again : tie.Need-loop-again Inv-loop μ-loop
-loop-again c = (more-left (c .before .before .before .before .before .before .next-page .result .rest) (sym (c .before .is-done .ensures) ∙ c .if1 .left), digest-page _ _ _ _ (c .before .before .before .before .before .before .next-page .ensures) (c .before .before .before .add-front .ensures) (c .before .before .before .before .before .before .before .before .loop .inv .1))
+loop-again c = (pages-more (c .before .before .before .before .before .before .next-page .result .rest) (sym (c .before .is-done .ensures) ∙ c .if1 .left), digest-page _ _ _ _ (c .before .before .before .before .before .before .next-page .ensures) (c .before .before .before .add-front .ensures) (c .before .before .before .before .before .before .before .before .loop .inv .1))
 
 pub digest-text-spec : {M : Type 1} → statement M
 digest-text-spec =

@@ -1,14 +1,14 @@
 -- Laws of the reply: what the measuring says of questions 9 and 10, and the record that is written.
 use mathlib.Core.Path.{_≡_, refl, sym, ap, _∙_}
 use mathlib.Core.Bool.{Bool, true, false, cond}
-use mathlib.Core.List.{List, [], _∷_}
+use mathlib.Core.List.{List}
 use Prim.Native.Nat.{ℕ, _+_, _≤_, _<_}
 use native.Mathlib.Omega.{arith}
 use lib.Dec.{leb}
 use lib.ListN.{length}
 use borrow.Author.Tests.{le-leb, lt-leb, leb-true, leb-false}
 use Rattle.records.specs.Syntax.{Definition, Clause}
-use Rattle.records.specs.Encode.{word, each, counted, definition-bytes, record-of, record-head, program-record}
+use Rattle.records.specs.Encode.{word, each, definition-bytes, record-of, record-head, program-record}
 use Rattle.records.specs.RecordRules.{every}
 use Rattle.records.specs.Patched.{Put, put-then, put-front}
 use Rattle.records.specs.Emitted.{put-record}

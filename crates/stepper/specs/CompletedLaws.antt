@@ -6,13 +6,13 @@ use Prim.Native.Nat.{ℕ, _+_, _-_, _≤_, _<_}
 use native.Mathlib.Nat.{zero-add}
 use native.Mathlib.Numerals.{add-one}
 use native.Mathlib.Omega.{arith}
-use lib.ListN.{length, take, drop, length-append, length-take, length-drop, take-append-drop}
+use lib.ListN.{length, length-append, length-take, length-drop, take-append-drop}
 use Rattle.records.specs.Syntax.{Terms, Goal, atom, Ancestor, called, Binding, Bet, unifier, Port, Event, event}
 use Rattle.records.specs.Encode.{word, each, counted, goal-bytes, ancestor-bytes, bet-bytes, port-byte, event-bytes, event-record, record-of, record-head}
-use Rattle.records.specs.Patched.{Put, Around, put-length, put-part, put-around, put-front}
+use Rattle.records.specs.Patched.{Put, put-length, put-part, put-around, put-front}
 use Rattle.records.specs.Range.{cut, Inside}
 use Rattle.records.specs.Emitted.{record-head-body}
-use Rattle.records.specs.Stands.{Stands, stands-join, stands-second, stands-cut}
+use Rattle.records.specs.Stands.{stands-join, stands-second, stands-cut}
 use Rattle.records.specs.Places.{goal-end, part-ends, Parts}
 use Rattle.records.specs.declared.put.Range.{Range}
 use Rattle.records.specs.declared.places.PartEnds.{PartEnds}

@@ -37,24 +37,24 @@ written-answer {before} {after} g {n} {to} is h p =
     let e : n ≡ length (goal-bytes g) = omega arith in
     let q : to ≡ length (goal-bytes g) = p .place ∙ omega arith in
     record {
-      number = rw (le-leb (length (goal-bytes g)) (length before) (omega arith)) (ap Defined e);
+      is = rw (le-leb (length (goal-bytes g)) (length before) (omega arith)) (ap Defined e);
       written = λ f i k. let z : g ≡ f = cc in rw (← z) (rw q at p);
       kept = λ no. absurd (no n refl);
     }
 
 pub long-answer : {before : List ℕ} (g : Goal) {n : ℕ} → n ≡ min (length before + 1) (length (goal-bytes g)) → length before < n → Answered before before (defined g) TooLong
 long-answer {before} g is h = record {
-  number = rw (lt-leb (length (goal-bytes g)) (length before) (omega arith));
+  is = rw (lt-leb (length (goal-bytes g)) (length before) (omega arith));
   written = λ f i k. let z : g ≡ f = cc in absurd (omega (arith, ap (λ (x : Goal). length (goal-bytes x)) z));
   kept = λ no. refl;
 }
 
 -- nothing was written
 too-many-answer : (out : List ℕ) → Answered out out too-many TooMany
-too-many-answer out = record { number = refl; written = λ f q k. absurd (let z : _≡_ {A = ℕ} 0 1 = cc in omega arith); kept = λ n. refl }
+too-many-answer out = record { is = refl; written = λ f q k. absurd (let z : _≡_ {A = ℕ} 0 1 = cc in omega arith); kept = λ n. refl }
 
 undefined-answer : (out : List ℕ) → Answered out out undefined Undefined
-undefined-answer out = record { number = refl; written = λ f q k. absurd (let z : _≡_ {A = ℕ} 0 1 = cc in omega arith); kept = λ n. refl }
+undefined-answer out = record { is = refl; written = λ f q k. absurd (let z : _≡_ {A = ℕ} 0 1 = cc in omega arith); kept = λ n. refl }
 
 module _ {s : List ℕ} {f : Frame} (a : AtomAt s f) where
   atom-here : Stands s (f .goal) (goal-bytes (atom (a .predicate) (a .terms))) (a .frame .goal .end)

@@ -31,10 +31,10 @@ unfoldable pub body-with : ℕ → Goal → Terms → ℕ → Body
 body-with l g ts m = cond (locals-beyond m l) too-many (defined (substitute-goal (numbered ts m) g))
 
 -- the answer for a body, where the output has so many bytes
-abbrev pub answer-for : ℕ → Body → BodyAnswer
-answer-for room too-many = TooMany
-answer-for room undefined = Undefined
-answer-for room (defined g) = cond (leb (length (goal-bytes g)) room) (Defined (length (goal-bytes g))) TooLong
+abbrev pub body-answer : ℕ → Body → BodyAnswer
+body-answer room too-many = TooMany
+body-answer room undefined = Undefined
+body-answer room (defined g) = cond (leb (length (goal-bytes g)) room) (Defined (length (goal-bytes g))) TooLong
 
 -- the paper's number for an answer: question 9 or 10 says no, else 0
 abbrev pub body-refusal : BodyAnswer → ℕ
@@ -45,6 +45,6 @@ body-refusal TooLong = 10
 
 -- the answer is the body's; where the body fits it stands at the start of the output, with the rest as it was; else nothing changes
 pub record Answered (before after : List ℕ) (b : Body) (r : BodyAnswer) : Type 0 where
-  pub number : r ≡ answer-for (length before) b
+  pub is : r ≡ body-answer (length before) b
   pub written : (g : Goal) → b ≡ defined g → length (goal-bytes g) ≤ length before → Put before 0 (goal-bytes g) after (length (goal-bytes g))
   pub kept : ((n : ℕ) → r ≡ Defined n → ⊥) → after ≡ before

@@ -24,10 +24,10 @@ abbrev pub length-answer : (room size : ℕ) → UnifierAnswer
 length-answer room size = cond (leb size 32768) (cond (leb size room) (Unifier size) TooLong) TooLong
 
 -- the answer for an outcome
-abbrev pub answer-for : ℕ → Unified → UnifierAnswer
-answer-for room too-large = TooLarge
-answer-for room clash = Clash
-answer-for room (unified σ) = length-answer room (length (unifier-bytes σ))
+abbrev pub unifier-answer : ℕ → Unified → UnifierAnswer
+unifier-answer room too-large = TooLarge
+unifier-answer room clash = Clash
+unifier-answer room (unified σ) = length-answer room (length (unifier-bytes σ))
 
 -- the paper's number for an answer: question 8 or 10 says no, else 0
 abbrev pub unifier-refusal : UnifierAnswer → ℕ
@@ -38,7 +38,7 @@ unifier-refusal TooLong = 10
 
 -- the answer is the outcome's; a unifier that fits stands at the start of the output, with the rest as it was; else nothing changes
 pub record Answered (before after : List ℕ) (u : Unified) (r : UnifierAnswer) : Type 0 where
-  pub number : r ≡ answer-for (length before) u
+  pub is : r ≡ unifier-answer (length before) u
   pub written : (σ : List Binding) → u ≡ unified σ → {n : ℕ} → r ≡ Unifier n → Put before 0 (unifier-bytes σ) after n
   pub kept : ((n : ℕ) → r ≡ Unifier n → ⊥) → after ≡ before
 

@@ -22,7 +22,7 @@ use Rattle.terms.specs.Outcome.{value-under, Unified, unified, outcome, 
 use Rattle.terms.specs.UnifierAnswer.{found-length, Unification, UnifierFits, UnifierPut}
 use Rattle.terms.specs.UnificationLaws.{not-found, found-one, exact-length, unifier-fits}
 use Rattle.terms.specs.Answered as applied
-use Rattle.terms.specs.Equality.{unifier-bytes, answer-for, Answered, OneValue}
+use Rattle.terms.specs.Equality.{unifier-bytes, unifier-answer, Answered, OneValue}
 use Rattle.terms.specs.declared.unifier.Outcome.{Outcome}
 use Rattle.terms.specs.declared.substitute.Sized.{Sized}
 use Rattle.terms.specs.declared.substitute.Sized.the-variants.{Fits, TooLarge as TooLargeValue}
@@ -30,8 +30,8 @@ use Rattle.terms.specs.declared.equality.UnifierAnswer.{UnifierAnswer}
 use Rattle.terms.specs.declared.equality.UnifierAnswer.the-variants.{TooLarge, Clash, Unifier, TooLong}
 
 -- an answer that writes nothing
-pub unwritten : {before : List ℕ} {u : Unified} {r : UnifierAnswer} → r ≡ answer-for (length before) u → ((n : ℕ) → r ≡ Unifier n → ⊥) → Answered before before u r
-unwritten e h = record { number = e; written = λ σ k q. absurd (h _ q); kept = λ k. refl }
+pub unwritten : {before : List ℕ} {u : Unified} {r : UnifierAnswer} → r ≡ unifier-answer (length before) u → ((n : ℕ) → r ≡ Unifier n → ⊥) → Answered before before u r
+unwritten e h = record { is = e; written = λ σ k q. absurd (h _ q); kept = λ k. refl }
 
 not-clash : (n : ℕ) → Clash ≡ Unifier n → ⊥
 not-clash n q = let z : _≡_ {A = ℕ} 0 1 = cc in omega arith
@@ -72,7 +72,7 @@ module _ {kinds numbers nexts rep size : List ℕ} {o : Outcome} {s t : Term} (w
       let q : Put before 0 (unifier-bytes (f .0)) after end = p .each (f .0) (w .holds (f .0) (f .1)) in
       rw (f .1)
       (record {
-        number = rw (le-leb (length (unifier-bytes (f .0))) 32768 (omega arith), le-leb (length (unifier-bytes (f .0))) (length before) (omega arith)) (ap Unifier (sym l));
+        is = rw (le-leb (length (unifier-bytes (f .0))) 32768 (omega arith), le-leb (length (unifier-bytes (f .0))) (length before) (omega arith)) (ap Unifier (sym l));
         written = λ σ e i. same σ (f .0) e q (omega (arith, q .place, l)) i;
         kept = λ e. absurd (e _ refl);
       })

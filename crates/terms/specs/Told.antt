@@ -14,7 +14,7 @@ use Rattle.records.specs.Patched.{Put}
 use Rattle.terms.specs.Outcome.{Unified, too-large, clash, unified}
 use Rattle.terms.specs.Body.{Body, too-many, undefined, defined}
 use Rattle.terms.specs.BodyBytes as bodies
-use Rattle.terms.specs.Equality.{unifier-bytes, answer-for, Answered}
+use Rattle.terms.specs.Equality.{unifier-bytes, unifier-answer, Answered}
 use Rattle.terms.specs.declared.equality.UnifierAnswer.{UnifierAnswer}
 use Rattle.terms.specs.declared.equality.UnifierAnswer.the-variants.{TooLarge, Clash, Unifier, TooLong}
 use Rattle.terms.specs.declared.body.BodyAnswer.{BodyAnswer}
@@ -56,12 +56,12 @@ told {before} {after} {u} {r} w = go u refl
 
     go : (x : Unified) → u ≡ x → Told before after u r
     go too-large e =
-        let i = w .number ∙ ap (answer-for (length before)) e in
+        let i = w .is ∙ ap (unifier-answer (length before)) e in
         subst (Told before after u) (sym i) (e, kept TooLarge i (λ n j. let z : _≡_ {A = ℕ} 0 1 = cc in omega arith))
     go clash e =
-        let i = w .number ∙ ap (answer-for (length before)) e in
+        let i = w .is ∙ ap (unifier-answer (length before)) e in
         subst (Told before after u) (sym i) (e, kept Clash i (λ n j. let z : _≡_ {A = ℕ} 0 1 = cc in omega arith))
-    go (unified σ) e = long σ e _ _ refl refl (w .number ∙ ap (answer-for (length before)) e)
+    go (unified σ) e = long σ e _ _ refl refl (w .is ∙ ap (unifier-answer (length before)) e)
 
 -- a body that was put at the start of the buffer, and one that is too long for a buffer of so many bytes
 pub record BodyHere (b : Body) (before after : List ℕ) (n : ℕ) : Type 0 where
@@ -98,9 +98,9 @@ body-told {before} {after} {b} {r} w = go b refl
 
     go : (x : Body) → b ≡ x → BodyTold before after b r
     go too-many e =
-        let i = w .number ∙ ap (bodies.answer-for (length before)) e in
+        let i = w .is ∙ ap (bodies.body-answer (length before)) e in
         subst (BodyTold before after b) (sym i) (e, kept TooMany i (λ n j. let z : _≡_ {A = ℕ} 0 1 = cc in omega arith))
     go undefined e =
-        let i = w .number ∙ ap (bodies.answer-for (length before)) e in
+        let i = w .is ∙ ap (bodies.body-answer (length before)) e in
         subst (BodyTold before after b) (sym i) (e, kept Undefined i (λ n j. let z : _≡_ {A = ℕ} 0 1 = cc in omega arith))
-    go (defined g) e = sized g e _ refl (w .number ∙ ap (bodies.answer-for (length before)) e)
+    go (defined g) e = sized g e _ refl (w .is ∙ ap (bodies.body-answer (length before)) e)

@@ -13,9 +13,9 @@ const CASES: [(&str, Call); 11] = [
     ("nothing", |_| 0),
     ("canonical", |out| raw::canonical(&record(&listed(&[clause(5, 1, &[nested(8_186, &variable(0))], &TRUE)])), out)),
     ("first", |out| raw::first(&record(&equality(&variable(0), &nested(8_188, &symbol(2, &[])))), out)),
-    ("forward", |out| raw::forward(&program(&[]), &event(1, &doubly_nested(), &[], &[]), out)),
-    ("back", |out| raw::back(&program(&[]), &event(3, &doubly_nested(), &[], &[]), out)),
-    ("run", |out| raw::run(&program(&[]), &event(3, &doubly_nested(), &[], &[]), 1, 1, out, &mut 0)),
+    ("forward", |out| raw::forward(&program(&[]), &event(1, &doubly_nested(1_630), &[], &[]), out)),
+    ("back", |out| raw::back(&program(&[]), &event(2, &doubly_nested(2_045), &[], &[unifier(&[])]), out)),
+    ("run", |out| raw::run(&program(&[]), &event(2, &doubly_nested(2_045), &[], &[unifier(&[])]), 1, 1, out, &mut 0)),
     ("value", |out| raw::value(&event(1, &TRUE, &[], &[unifier(&[(0, nested(8_184, &symbol(2, &[])))])]), 0, out, &mut 0)),
     ("value, renamed", |out| raw::value(&event(1, &TRUE, &[], &renamed()), 0, out, &mut 0)),
     ("run, renamed", |out| raw::run(&program(&[]), &event(1, &equality(&variable(0), &variable(0)), &[], &renamed()), 1, 0, out, &mut 0)),
@@ -23,9 +23,10 @@ const CASES: [(&str, Call); 11] = [
     ("count", |_| raw::count(&mut Default::default(), &event(1, &equality(&variable(0), &nested(8_187, &symbol(2, &[]))), &[], &[]))),
 ];
 
-/// g(V0, f(..f(V2)..)) = g(f(..f(V1)..), V1), both values as long as question 8 lets pass: V0 becomes a term of 4,090 levels.
-fn doubly_nested() -> Vec<u8> {
-    equality(&symbol(5, &[variable(0), nested(2_045, &variable(2))]), &symbol(5, &[nested(2_045, &variable(1)), variable(1)]))
+/// g(V0, f(..f(V2)..)) = g(f(..f(V1)..), V1), each nested term of that many levels: V0 becomes a term of twice as many. With 2,045 levels both values
+/// are as long as question 8 lets pass, and the unifier is only compared, in a step back from exit; with 1,630 it is written, in a step from call.
+fn doubly_nested(levels: usize) -> Vec<u8> {
+    equality(&symbol(5, &[variable(0), nested(levels, &variable(2))]), &symbol(5, &[nested(levels, &variable(1)), variable(1)]))
 }
 
 /// As many bets as fit, each of which gives the variable another number: one level for each.

@@ -1,4 +1,3 @@
-use mathlib.Core.Path.{_∙_}
 use native.Mathlib.Omega.{arith}
 use Rattle.stepper.specs.CompletedLaws.{lent-kept, handed-room}
 use Rattle.stepper.specs.SettledEquality.{equality-bets, equality-left, equality-right, clash-within, equality-order, equality-large, equality-clash, unifier-room, equality-found, equality-long}

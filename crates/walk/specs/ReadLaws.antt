@@ -10,7 +10,7 @@ use lib.Seq.{take-take}
 use Rattle.records.specs.Question.{Asked}
 use Rattle.records.specs.Gate.{refused, read-program}
 use Rattle.stepper.specs.Services.{reading}
-use Rattle.walk_text.specs.Input.{named, taken}
+use Rattle.walk_text.specs.Input.{bytes-named, taken}
 use Rattle.walk_text.specs.InputLaws.{named-field, taken-length, taken-front}
 use Rattle.walk_text.specs.Text.{text, printed}
 use Rattle.walk.specs.Reading.{RecordRead}
@@ -18,12 +18,12 @@ use Rattle.walk.specs.Reading.{RecordRead}
 -- the calls gave the next bytes of the input, as far as it goes
 pub record Faithful (input buffer : List ℕ) {r : ℕ} (w : RecordRead buffer r) : Type 0 where
   pub field-whole : w .field ≡ min 2 (length input)
-  pub rest-whole : w .rest ≡ min (named (take (w .field) buffer)) (length input - w .field)
+  pub rest-whole : w .rest ≡ min (bytes-named (take (w .field) buffer)) (length input - w .field)
   pub bytes : take r buffer ≡ take r input
 
 module _ (input buffer : List ℕ) {r : ℕ} (w : RecordRead buffer r) (f : Faithful input buffer w) where
   -- the field in the buffer is that of the input
-  same-field : 2 ≤ length input → named (take (w .field) buffer) ≡ named input
+  same-field : 2 ≤ length input → bytes-named (take (w .field) buffer) ≡ bytes-named input
   same-field h =
       let two : w .field ≡ 2 = omega (arith, f .field-whole) in
       let more : 2 ≤ r = omega (arith, two, w .length-is) in

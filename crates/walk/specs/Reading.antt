@@ -6,7 +6,7 @@ use Prim.Native.Nat.{ℕ, _+_, _≤_}
 use lib.ListN.{length, take}
 use Rattle.records.specs.Question.{Asked}
 use Rattle.records.specs.Gate.{refused, Accepted, read-program}
-use Rattle.walk_text.specs.Input.{named}
+use Rattle.walk_text.specs.Input.{bytes-named}
 
 -- a call that may read `most` bytes answered n. The definition is shut, so that outside this file a count can only be one that a call answered
 pub Delivered : (most n : ℕ) → Type 0
@@ -31,7 +31,7 @@ pub record RecordRead (buffer : List ℕ) (r : ℕ) : Type 0 where
   pub field : ℕ
   pub rest : ℕ
   pub field-read : Delivered 2 field
-  pub rest-read : Delivered (named (take field buffer)) rest
+  pub rest-read : Delivered (bytes-named (take field buffer)) rest
   pub length-is : r ≡ field + rest
 
 -- the query's record, or nothing at all where the program is refused

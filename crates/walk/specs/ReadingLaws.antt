@@ -10,11 +10,11 @@ use Rattle.records.specs.Syntax.{Definition}
 use Rattle.records.specs.Question.{Asked}
 use Rattle.records.specs.Gate.{Reading, refused, tree, read-program, verdict, program-number}
 use Rattle.terms.specs.AcceptedLaws.{program-refused, program-passed}
-use Rattle.walk_text.specs.Input.{named}
+use Rattle.walk_text.specs.Input.{bytes-named}
 use Rattle.walk_text.specs.InputLaws.{named-most}
 use Rattle.walk.specs.Reading.{delivered-most, PartRead, RecordRead, QueryRead}
 
-pub record-read : {before between after : List ℕ} {field n rest : ℕ} → PartRead 0 2 before field between → n ≡ named (take field between)
+pub record-read : {before between after : List ℕ} {field n rest : ℕ} → PartRead 0 2 before field between → n ≡ bytes-named (take field between)
     → PartRead 2 n between rest after → RecordRead after (field + rest)
 record-read {between = between} {after} {field} {n} {rest} a is b =
     let h = delivered-most (a .count) in

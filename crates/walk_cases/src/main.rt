@@ -7,8 +7,12 @@ mod text; // text.rt: the text of an input, page after page
 
 use shown::print_line;
 use text::digest_input;
+use walk_text::text::PAGE;
 ghost use mathlib.Core.Path.{_≡_};
 ghost use Prim.Native.Nat.{_<_};
+
+// The longest input that is stored.
+const LONGEST: usize = 80000;
 
 fn wide(b: u8) -> usize
     ensures { λ r. ⌜ (r ≡ b) × (r < 256) ⌝ }
@@ -17,7 +21,7 @@ fn wide(b: u8) -> usize
 }
 
 fn print_case(ordinal: u64, input: &[u8]) {
-    let mut page: [u8; 65536] = [0; 65536];
+    let mut page: [u8; PAGE] = [0; PAGE];
     let digested = digest_input(input, &mut page);
     let used = digested.used;
     let digest = digested.digest;
@@ -40,10 +44,10 @@ fn next_case(ordinal: u64) -> bool {
         return false;
     }
     let n = ((wide(head[0]) * 256 + wide(head[1])) * 256 + wide(head[2])) * 256 + wide(head[3]);
-    if 80000 < n {
+    if LONGEST < n {
         return false;
     }
-    let mut input = [0u8; 80000];
+    let mut input: [u8; LONGEST] = [0; LONGEST];
     answer(ordinal, &mut input[0..n])
 }
 

@@ -3,6 +3,9 @@ use crate::digest::Digest;
 ghost use Prim.Native.Nat.{_≤_};
 ghost use lib.ListN.{length};
 
+// A text of at most so many bytes is shown whole.
+const WHOLE: u32 = 80;
+
 // Where the last line of a text starts.
 fn last_line(text: &[u8]) -> usize
     ensures { λ r. ⌜ r ≤ length (now (text .entry)) ⌝ }
@@ -51,7 +54,7 @@ fn print_last(page: &[u8]) {
 pub fn print_line(ordinal: u64, digest: Digest, page: &[u8]) {
     io::print_decimal(1, ordinal);
     print_digest(digest);
-    if digest.bytes <= 80 {
+    if digest.bytes <= WHOLE {
         print_text(page);
     } else {
         print_last(page);

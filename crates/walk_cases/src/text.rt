@@ -3,6 +3,7 @@ use crate::digest::Digest;
 use crate::digest::add_front;
 use crate::digest::no_bytes;
 use walk_text::input::taken_length;
+use walk_text::text::PAGE;
 use walk_text::text::is_done;
 use walk_text::text::next_page;
 use walk_text::text::whole;
@@ -19,7 +20,7 @@ pub struct Digested {
 }
 
 // The text of two records; its last page stays in the buffer.
-fn digest_text(program: &[u8], query: &[u8], page: &mut [u8; 65536]) -> Digested
+fn digest_text(program: &[u8], query: &[u8], page: &mut [u8; PAGE]) -> Digested
     ensures { λ r. ⌜ r .digest ≡ digest-of (text (now (program .entry)) (now (query .entry))) ⌝ }
     ensures within { λ r. ⌜ Counts (r .used) (now (page .exit)) ⌝ }
 {
@@ -38,7 +39,7 @@ fn digest_text(program: &[u8], query: &[u8], page: &mut [u8; 65536]) -> Digested
 }
 
 // The text of a program, and of the query at the front of the rest of the input.
-fn digest_query(program: &[u8], rest: &[u8], page: &mut [u8; 65536]) -> Digested
+fn digest_query(program: &[u8], rest: &[u8], page: &mut [u8; PAGE]) -> Digested
     ensures { λ r. ⌜ r .digest ≡ digest-of (text (now (program .entry)) (taken (now (rest .entry)))) ⌝ }
     ensures within { λ r. ⌜ Counts (r .used) (now (page .exit)) ⌝ }
 {
@@ -47,7 +48,7 @@ fn digest_query(program: &[u8], rest: &[u8], page: &mut [u8; 65536]) -> Digested
 }
 
 // The text of a standard input.
-pub fn digest_input(input: &[u8], page: &mut [u8; 65536]) -> Digested
+pub fn digest_input(input: &[u8], page: &mut [u8; PAGE]) -> Digested
     ensures { λ r. ⌜ r .digest ≡ digest-of (printed (now (input .entry))) ⌝ }
     ensures within { λ r. ⌜ Counts (r .used) (now (page .exit)) ⌝ }
 {

@@ -17,7 +17,7 @@ use Rattle.terms.specs.Body.{next-variable, definition-of, body}
 use Rattle.stepper.specs.Rules.{fitting, first-event, on-room}
 use Rattle.stepper.specs.Services.{record-limit, reading, first-answer}
 use Rattle.walk_text.specs.Walked.{after-line}
-use Rattle.walk_text.specs.Input.{named, taken}
+use Rattle.walk_text.specs.Input.{bytes-named, taken}
 use Rattle.walk_text.specs.Text.{text, printed}
 use Rattle.walk_text.specs.Line.{line-bytes, stop-bytes}
 
@@ -33,20 +33,20 @@ pub example-printed : (after : List ℕ) → printed (program ++ (query ++ after
     ≡ (0x30 ∷ 0x20 ∷ 0x63 ∷ 0x61 ∷ 0x6C ∷ 0x6C ∷ 0x20 ∷ 0x30 ∷ 0x20 ∷ 0x30 ∷ 0x0A ∷ [])
     ++ ((0x31 ∷ 0x20 ∷ 0x65 ∷ 0x78 ∷ 0x69 ∷ 0x74 ∷ 0x20 ∷ 0x30 ∷ 0x20 ∷ 0x31 ∷ 0x0A ∷ [])
     ++ (0x73 ∷ 0x74 ∷ 0x6F ∷ 0x70 ∷ 0x20 ∷ 0x36 ∷ 0x0A ∷ []))
-unfolding printed text taken named reading first-answer read-record framed of-version read many read-goal read-definition read-counted program-rules on-room fitting after-line line-bytes stop-bytes number first-event record-limit record-of unified-under value-under apply unify body definition-of next-variable unifier-rules goal? ℕ-discrete decLt
+unfolding printed text taken bytes-named reading first-answer read-record framed of-version read many read-goal read-definition read-counted program-rules on-room fitting after-line line-bytes stop-bytes number first-event record-limit record-of unified-under value-under apply unify body definition-of next-variable unifier-rules goal? ℕ-discrete decLt
 example-printed after = refl
 
 -- an empty input, one that ends within the program, and one that ends within the query: stop 1, stop 1, stop 11
 pub example-empty : printed [] ≡ stop-bytes 1
-unfolding printed text taken named reading read-record framed number
+unfolding printed text taken bytes-named reading read-record framed number
 example-empty = refl
 
 pub example-short-program : printed (0x00 ∷ 0x03 ∷ 0x01 ∷ 0x00 ∷ []) ≡ stop-bytes 1
-unfolding printed text taken named reading read-record framed number
+unfolding printed text taken bytes-named reading read-record framed number
 example-short-program = refl
 
 pub example-short-query : printed (program ++ (0x00 ∷ 0x09 ∷ 0x01 ∷ 0x12 ∷ [])) ≡ stop-bytes 11
-unfolding printed text taken named reading first-answer read-record framed of-version read many read-definition read-counted program-rules number
+unfolding printed text taken bytes-named reading first-answer read-record framed of-version read many read-definition read-counted program-rules number
 example-short-query = refl
 
 -- 100000 redo 2 0

@@ -8,11 +8,11 @@ use lib.ListN.{take}
 use Rattle.records.specs.Heads.{joined}
 
 -- how many bytes follow the length field at an input's front: none where the input ends within it, or where it names more than a record has
-unfoldable pub named : List ℕ → ℕ
-named [] = 0
-named (x ∷ []) = 0
-named (x ∷ y ∷ l) = cond (ltb 32766 (joined x y)) 0 (joined x y)
+unfoldable pub bytes-named : List ℕ → ℕ
+bytes-named [] = 0
+bytes-named (x ∷ []) = 0
+bytes-named (x ∷ y ∷ l) = cond (ltb 32766 (joined x y)) 0 (joined x y)
 
 -- what is taken of an input for the record at its front: the length field and the bytes that it names, as far as there are any
 unfoldable pub taken : List ℕ → List ℕ
-taken input = take (2 + named input) input
+taken input = take (2 + bytes-named input) input

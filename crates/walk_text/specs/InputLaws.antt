@@ -10,34 +10,34 @@ use lib.ListN.{length, take, length-take}
 use Rattle.records.specs.Heads.{joined, word-at}
 use Rattle.records.specs.declared.heads.Word.{Word}
 use Rattle.records.specs.declared.heads.Word.the-variants.{Number, Short}
-use Rattle.walk_text.specs.Input.{named, taken}
+use Rattle.walk_text.specs.Input.{bytes-named, taken}
 
 abbrev word-named : Word → ℕ
 word-named (Number n) = cond (ltb 32766 n) 0 n
 word-named Short = 0
 
-named-word : (s : List ℕ) → word-named (word-at s 0) ≡ named s
-unfolding named word-at
+named-word : (s : List ℕ) → word-named (word-at s 0) ≡ bytes-named s
+unfolding bytes-named word-at
 named-word [] = refl
 named-word (x ∷ []) = refl
 named-word (x ∷ y ∷ l) = refl
 
 module _ (s : List ℕ) {w : Word} (is : w ≡ word-at s 0) where
-  named-told : {v : Word} → w ≡ v → word-named v ≡ named s
+  named-told : {v : Word} → w ≡ v → word-named v ≡ bytes-named s
   named-told e = ap word-named (sym e ∙ is) ∙ named-word s
 
-  pub named-over : {n : ℕ} → w ≡ Number n → 32766 < n → 0 ≡ named s
+  pub named-over : {n : ℕ} → w ≡ Number n → 32766 < n → 0 ≡ bytes-named s
   named-over {n} e h = rw (lt-ltb 32766 n h) at (named-told e)
 
-  pub named-within : {n : ℕ} → w ≡ Number n → n ≤ 32766 → n ≡ named s
+  pub named-within : {n : ℕ} → w ≡ Number n → n ≤ 32766 → n ≡ bytes-named s
   named-within {n} e h = rw (le-ltb 32766 n h) at (named-told e)
 
-  pub named-short : w ≡ Short → 0 ≡ named s
+  pub named-short : w ≡ Short → 0 ≡ bytes-named s
   named-short e = named-told e
 
 -- a length field that is not over 32,766
-pub named-most : (s : List ℕ) → named s ≤ 32766
-unfolding named
+pub named-most : (s : List ℕ) → bytes-named s ≤ 32766
+unfolding bytes-named
 named-most [] = omega arith
 named-most (x ∷ []) = omega arith
 named-most (x ∷ y ∷ l) = go (ltb 32766 (joined x y)) refl
@@ -47,24 +47,24 @@ named-most (x ∷ y ∷ l) = go (ltb 32766 (joined x y)) refl
     go false e = ltb-false 32766 (joined x y) e
 
 -- two bytes tell as much as the whole input
-pub named-field : (s : List ℕ) → named (take 2 s) ≡ named s
-unfolding named
+pub named-field : (s : List ℕ) → bytes-named (take 2 s) ≡ bytes-named s
+unfolding bytes-named
 named-field [] = refl
 named-field (x ∷ []) = refl
 named-field (x ∷ y ∷ l) = refl
 
-pub named-bound : (s : List ℕ) {n : ℕ} → n ≡ named s → n ≤ 32766
+pub named-bound : (s : List ℕ) {n : ℕ} → n ≡ bytes-named s → n ≤ 32766
 named-bound s e = omega (arith, e, named-most s)
 
 -- what is taken of an input is its front of that length
 module _ (s : List ℕ) where
-  pub taken-length : length (taken s) ≡ min (2 + named s) (length s)
+  pub taken-length : length (taken s) ≡ min (2 + bytes-named s) (length s)
   unfolding taken
-  taken-length = length-take (2 + named s) s
+  taken-length = length-take (2 + bytes-named s) s
 
   pub taken-front : {n : ℕ} → n ≡ length (taken s) → take n s ≡ taken s
   unfolding taken
-  taken-front {n} is = rw is (again (2 + named s) s)
+  taken-front {n} is = rw is (again (2 + bytes-named s) s)
     where
       again : (m : ℕ) (l : List ℕ) → take (length (take m l)) l ≡ take m l
       again zero l = refl

@@ -47,7 +47,7 @@ pub record Advanced (M : Machine) (step : ℕ) (e : Event) (next : Next) (here :
   pub goes : next .stopped ≡ false → Onward M step e here (next .length) (next .ends)
 
 -- a page that is being filled; a line has 68 bytes at most
-pub record Filling (M : Machine) (first : ℕ) (start : Event) (before page : List ℕ) (used : ℕ) (here : List ℕ) (len : ℕ) (ends : PartEnds) (step : ℕ) : Type 0 where
+pub record PageFilling (M : Machine) (first : ℕ) (start : Event) (before page : List ℕ) (used : ℕ) (here : List ℕ) (len : ℕ) (ends : PartEnds) (step : ℕ) : Type 0 where
   pub lines : List ℕ
   pub put : Put before 0 lines page used
   pub walking : Walking M first start lines here len step

@@ -15,7 +15,7 @@ use Rattle.stepper.specs.View.{EndsOf}
 use Rattle.stepper.specs.ViewLaws.{ends-known}
 use Rattle.walk_text.specs.Line.{line-bytes}
 use Rattle.walk_text.specs.Walked.{step-limit, rest-of-text, text-from}
-use Rattle.walk_text.specs.Page.{Walking, Onward, Filling, Filled}
+use Rattle.walk_text.specs.Page.{Walking, Onward, PageFilling, Filled}
 
 -- under an accepted program, an accepted event
 abbrev pub passed-at : {program s t : List ℕ} → Passed program s → (e : Event) → read-event t ≡ tree e → Passed program t
@@ -36,11 +36,11 @@ module _ (M : Machine) (first : ℕ) (start : Event) where
   walking-on {a} {b} w v = record { event = v .event; reads = v .reads; inside = v .inside; within = v .within; text = w .text ∙ rw (v .text, append-assoc) refl }
 
   pub filling-start : {here page : List ℕ} {ends : PartEnds} (len : ℕ) → read-event (take len here) ≡ tree start → EndsOf (take len here) ends
-      → len ≤ length here → first ≤ step-limit → Filling M first start page page 0 here len ends first
+      → len ≤ length here → first ≤ step-limit → PageFilling M first start page page 0 here len ends first
   unfolding walking-start
   filling-start len e i h k = record { lines = []; put = put-none; walking = walking-start len e h k; ends-are = i start e; small = omega arith }
 
-  module _ {before page : List ℕ} {used : ℕ} {here : List ℕ} {len : ℕ} {ends : PartEnds} {step : ℕ} (f : Filling M first start before page used here len ends step) where
+  module _ {before page : List ℕ} {used : ℕ} {here : List ℕ} {len : ℕ} {ends : PartEnds} {step : ℕ} (f : PageFilling M first start before page used here len ends step) where
     -- the ends of the present event
     pub filling-ends : EndsOf (take len here) ends
     filling-ends = ends-known (take len here) (f .walking .reads) (f .ends-are)
@@ -54,7 +54,7 @@ module _ (M : Machine) (first : ℕ) (start : Event) where
       with-line = f .walking .text ∙ sym (append-assoc (f .lines) (line-bytes step present) (rest-of-text M step present))
 
       pub filling-line : {here′ : List ℕ} {len′ : ℕ} {ends′ : PartEnds} → used′ ≤ used + 68 → Onward M step present here′ len′ ends′
-          → Filling M first start before page′ used′ here′ len′ ends′ (step + 1)
+          → PageFilling M first start before page′ used′ here′ len′ ends′ (step + 1)
       filling-line h o = record {
         lines = f .lines ++ line-bytes step present;
         put = put-then (f .put) line;

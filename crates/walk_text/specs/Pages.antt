@@ -4,7 +4,7 @@ use mathlib.Core.List.{List, [], _++_}
 use Prim.Native.Nat.{ℕ}
 use lib.ListN.{take}
 use Rattle.walk_text.specs.Text.{text}
-use Rattle.walk_text.specs.Rest.{left, Paged}
+use Rattle.walk_text.specs.Rest.{left-text, Paged}
 use Rattle.walk_text.specs.RestLaws.{page-bytes}
 use Rattle.walk_text.specs.declared.text.Stage.the-variants.{Start, Done}
 use Rattle.walk_text.specs.declared.text.Rest.{Rest}
@@ -17,11 +17,11 @@ module _ (program query : List ℕ) where
     page : {rest : Rest} {before after later : List ℕ} {r : Page} → Paged program query rest before r after → Pages (r .rest) later
         → Pages rest (take (r .used) after ++ later)
 
-  pages-are-left : {rest : Rest} {bytes : List ℕ} → Pages rest bytes → bytes ≡ left program query rest
-  unfolding left
+  pages-are-left : {rest : Rest} {bytes : List ℕ} → Pages rest bytes → bytes ≡ left-text program query rest
+  unfolding left-text
   pages-are-left (ended e) = rw e refl
   pages-are-left (page {later = later} g more) = rw (page-bytes g) (ap (λ l. g .bytes ++ l) (pages-are-left more) ∙ sym (g .text-is))
 
   pub pages-are-text : {rest : Rest} {bytes : List ℕ} → rest .stage ≡ Start → Pages rest bytes → bytes ≡ text program query
-  unfolding left
+  unfolding left-text
   pages-are-text e p = pages-are-left p ∙ rw e refl

@@ -40,21 +40,21 @@ lines-left program r =
     text-from (machine layers P) (steps-made r) e))
 
 -- what is left of the text of a program slice and a query slice
-unfoldable pub left : (program query : List ℕ) → Rest → List ℕ
-left program query r = by-stage (r .stage) (text program query) (lines-left program r) []
+unfoldable pub left-text : (program query : List ℕ) → Rest → List ℕ
+left-text program query r = by-stage (r .stage) (text program query) (lines-left program r) []
 
 -- no more pages than these are left
 abbrev pub pages-left : Rest → ℕ
 pages-left r = by-stage (r .stage) (suc step-limit) (suc (step-limit - steps-made r)) 0
 
 -- a page of a text of at most so many pages: the bytes put there are the text's front, what they leave of it is left, and pages grow fewer
-pub record Gives (program query whole : List ℕ) (most : ℕ) (before : List ℕ) (r : Page) (after : List ℕ) : Type 0 where
+pub record PageOf (program query whole : List ℕ) (most : ℕ) (before : List ℕ) (r : Page) (after : List ℕ) : Type 0 where
   pub bytes : List ℕ
   pub put : Put before 0 bytes after (r .used)
   pub inside : r .used ≤ length after
-  pub text-is : whole ≡ bytes ++ left program query (r .rest)
+  pub text-is : whole ≡ bytes ++ left-text program query (r .rest)
   pub fewer : 0 < most → pages-left (r .rest) < most
 
 -- the next page of what is left
 abbrev pub Paged : (program query : List ℕ) → Rest → (before : List ℕ) → Page → (after : List ℕ) → Type 0
-Paged program query rest = Gives program query (left program query rest) (pages-left rest)
+Paged program query rest = PageOf program query (left-text program query rest) (pages-left rest)

@@ -20,7 +20,7 @@ use Rattle.walk_text.specs.Line.{stop-bytes}
 use Rattle.walk_text.specs.Walked.{step-limit, text-from}
 use Rattle.walk_text.specs.Page.{Filled}
 use Rattle.walk_text.specs.Text.{text}
-use Rattle.walk_text.specs.Rest.{by-stage, done, present, steps-made, lines-left, left, pages-left, Gives, Paged}
+use Rattle.walk_text.specs.Rest.{by-stage, done, present, steps-made, lines-left, left-text, pages-left, PageOf, Paged}
 use Rattle.walk_text.specs.declared.page.Lines.{Lines}
 use Rattle.walk_text.specs.declared.text.Stage.{Stage}
 use Rattle.walk_text.specs.declared.text.Stage.the-variants.{Start, Walking, Done}
@@ -28,7 +28,7 @@ use Rattle.walk_text.specs.declared.text.Rest.{Rest}
 use Rattle.walk_text.specs.declared.text.Page.{Page}
 
 -- the bytes that a page gives are those it has
-pub page-bytes : {program query whole before after : List ℕ} {most : ℕ} {r : Page} (g : Gives program query whole most before r after)
+pub page-bytes : {program query whole before after : List ℕ} {most : ℕ} {r : Page} (g : PageOf program query whole most before r after)
     → take (r .used) after ≡ g .bytes
 page-bytes {before = before} {after} {r = r} g =
     let n : r .used ≡ length (g .bytes) = g .put .place ∙ zero-add (length (g .bytes)) in
@@ -36,8 +36,8 @@ page-bytes {before = before} {after} {r = r} g =
 
 -- a page with the rest of the text on it
 pub gives-last : {program query whole before after event : List ℕ} {used step len : ℕ} (most : ℕ) → Put before 0 whole after used → used ≤ length after
-    → Gives program query whole most before (record { used = used; rest = record { stage = Done; step = step; length = len; event = event } }) after
-unfolding left
+    → PageOf program query whole most before (record { used = used; rest = record { stage = Done; step = step; length = len; event = event } }) after
+unfolding left-text
 gives-last {whole = whole} most put h = record { bytes = whole; put = put; inside = h; text-is = sym (append-nil whole); fewer = λ p. p }
 
 -- under an accepted program, the lines from an accepted event on
@@ -50,15 +50,15 @@ module _ {program query : List ℕ} {s : List ℕ} (w : Passed program s) {first
     (filled : Filled (machine layers (w .definitions)) first (w .event) before lines after here) where
   -- a page that ends the walk
   pub gives-ended : {event : List ℕ} {step len : ℕ} → lines .done ≡ true
-      → Gives program query (text-from (machine layers (w .definitions)) first (w .event)) (suc (step-limit - first)) before
+      → PageOf program query (text-from (machine layers (w .definitions)) first (w .event)) (suc (step-limit - first)) before
       (record { used = lines .used; rest = record { stage = Done; step = step; length = len; event = event } }) after
   gives-ended d = rw (filled .ends d) (gives-last _ (filled .put) (filled .inside))
 
   -- a page after which the walk goes on
   pub gives-walking : lines .done ≡ false → length here ≡ 32768
-      → Gives program query (text-from (machine layers (w .definitions)) first (w .event)) (suc (step-limit - first)) before
+      → PageOf program query (text-from (machine layers (w .definitions)) first (w .event)) (suc (step-limit - first)) before
       (record { used = lines .used; rest = record { stage = Walking; step = lines .step; length = lines .length; event = here } }) after
-  unfolding left
+  unfolding left-text
   gives-walking d n =
       let on = filled .goes d in
       let walking = on .0 in
@@ -102,8 +102,8 @@ gate-text program rest {len} {n} l is z = go (read-program program) refl (read-e
 -- a walk that goes on from a record that is accepted
 pub gives-later : {program query before after : List ℕ} {page : Page} (rest : Rest) {len first : ℕ} → len ≡ min (rest .length) 32768 → first ≡ steps-made rest
     → (w : Passed program (take len (rest .event)))
-    → Gives program query (text-from (machine layers (w .definitions)) first (w .event)) (suc (step-limit - first)) before page after
-    → Gives program query (lines-left program rest) (suc (step-limit - steps-made rest)) before page after
+    → PageOf program query (text-from (machine layers (w .definitions)) first (w .event)) (suc (step-limit - first)) before page after
+    → PageOf program query (lines-left program rest) (suc (step-limit - steps-made rest)) before page after
 gives-later rest l f w g = rw (walk-left rest l w, ← f) g
 
 module _ (program query : List ℕ) (P : List Definition) (reads : read-program program ≡ tree P) where
@@ -124,13 +124,13 @@ module _ (program query : List ℕ) (P : List Definition) (reads : read-program 
 
 -- what is left, by the stage
 module _ {program query before after : List ℕ} {page : Page} (rest : Rest) where
-  pub paged-start : rest .stage ≡ Start → Gives program query (text program query) (suc step-limit) before page after → Paged program query rest before page after
-  unfolding left
+  pub paged-start : rest .stage ≡ Start → PageOf program query (text program query) (suc step-limit) before page after → Paged program query rest before page after
+  unfolding left-text
   paged-start e g = rw e g
 
-  pub paged-walking : rest .stage ≡ Walking → Gives program query (lines-left program rest) (suc (step-limit - steps-made rest)) before page after
+  pub paged-walking : rest .stage ≡ Walking → PageOf program query (lines-left program rest) (suc (step-limit - steps-made rest)) before page after
       → Paged program query rest before page after
-  unfolding left lines-left
+  unfolding left-text lines-left
   paged-walking e g = rw e g
 
 pub paged-done : {program query before : List ℕ} (rest : Rest) → rest .stage ≡ Done → Paged program query rest before (record { used = 0; rest = rest }) before
@@ -145,8 +145,8 @@ pages-more rest d = go (rest .stage) d
     go Walking h = omega arith
     go Done h = absurd (true≢false h)
 
-pub nothing-left : (program query : List ℕ) (rest : Rest) → done (rest .stage) ≡ true → left program query rest ≡ []
-unfolding left
+pub nothing-left : (program query : List ℕ) (rest : Rest) → done (rest .stage) ≡ true → left-text program query rest ≡ []
+unfolding left-text
 nothing-left program query rest d = go (rest .stage) (text program query) (lines-left program rest) d
   where
     go : (s : Stage) (a b : List ℕ) → done s ≡ true → by-stage s a b [] ≡ []

@@ -8,7 +8,7 @@ use Rattle.records.specs.Gate.{read-program}
 use Rattle.stepper.specs.Services.{machine, reading, first-answer}
 use Rattle.stepper.specs.Desk.{layers}
 use Rattle.walk_text.specs.Line.{stop-bytes}
-use Rattle.walk_text.specs.Walked.{answered, text-from}
+use Rattle.walk_text.specs.Walked.{answer-text, text-from}
 use Rattle.walk_text.specs.Input.{taken}
 
 -- the stop line of a record or a first event that a question refuses
@@ -20,7 +20,7 @@ refused-text q = stop-bytes (number q)
 unfoldable pub text : (program query : List ℕ) → List ℕ
 text program query =
     reading (λ a. refused-text (of-program a)) (read-program program) (λ P.
-    answered (first-answer layers query 32768) (text-from (machine layers P) 0))
+    answer-text (first-answer layers query 32768) (text-from (machine layers P) 0))
 
 -- the text of an input: a program record and then a query record are taken, and nothing after them
 unfoldable pub printed : (input : List ℕ) → List ℕ

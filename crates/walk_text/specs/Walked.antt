@@ -12,15 +12,15 @@ abbrev pub step-limit : ℕ
 step-limit = 100000
 
 -- the stop line with the number of the question that refuses a step, or what is printed of the event that the step gives
-abbrev pub answered : Answer → (Event → List ℕ) → List ℕ
-answered (refused q) text = stop-bytes (number q)
-answered (gives c) text = text c
+abbrev pub answer-text : Answer → (Event → List ℕ) → List ℕ
+answer-text (refused q) text = stop-bytes (number q)
+answer-text (gives c) text = text c
 
 -- what follows the line of the event e, at which a walk stands after `step` steps, with at most n steps to go
 unfoldable pub after-line : Machine → (n step : ℕ) → Event → List ℕ
 unfolding number line-bytes stop-bytes step-forward
 after-line M zero step e = stop-bytes 0
-after-line M (suc n) step e = answered (step-forward M e) (λ c. line-bytes (suc step) c ++ after-line M n (suc step) c)
+after-line M (suc n) step e = answer-text (step-forward M e) (λ c. line-bytes (suc step) c ++ after-line M n (suc step) c)
 
 -- the same, with as many steps to go as are left of the limit
 abbrev pub rest-of-text : Machine → (step : ℕ) → Event → List ℕ

@@ -3,14 +3,14 @@ use records::heads::Word;
 use records::heads::word_at;
 ghost use mathlib.Core.Path.{_≡_};
 ghost use lib.ListN.{length};
-ghost use Rattle.walk_text.specs.Input.{named, taken};
+ghost use Rattle.walk_text.specs.Input.{bytes-named, taken};
 
 // No record's length field names more bytes.
 const LONGEST: usize = 32766;
 
 // How many bytes follow a length field. None where its two bytes are not there, or name more than a record has.
 pub fn named(field: &[u8]) -> usize
-    ensures { λ r. ⌜ r ≡ named (now (field .entry)) ⌝ }
+    ensures { λ r. ⌜ r ≡ bytes-named (now (field .entry)) ⌝ }
 {
     match word_at(field, 0) {
         Word::Number(n) => { if LONGEST < n { 0 } else { n } }

@@ -19,7 +19,7 @@ ghost use Rattle.stepper.specs.Stepped.{Passed};
 ghost use Rattle.walk_text.specs.Line.{stop-bytes};
 ghost use Rattle.walk_text.specs.Walked.{step-limit, text-from};
 ghost use Rattle.walk_text.specs.Text.{text};
-ghost use Rattle.walk_text.specs.Rest.{done, lines-left, steps-made, Gives, Paged};
+ghost use Rattle.walk_text.specs.Rest.{done, lines-left, steps-made, PageOf, Paged};
 ghost use Rattle.walk_text.specs.declared.text.Stage.the-variants.{Start};
 
 // The bytes of a page.
@@ -80,7 +80,7 @@ pub fn whole() -> Rest
 
 // The page that has the stop line alone.
 fn stop_page(event: [u8; RECORD_LIMIT], number: u8, page: &mut [u8; PAGE]) -> Page
-    ensures { λ r. ⌜ ((program query : List ℕ) (most : ℕ) → Gives program query (stop-bytes number) most (now (page .entry)) r (now (page .exit))) ⌝ }
+    ensures { λ r. ⌜ ((program query : List ℕ) (most : ℕ) → PageOf program query (stop-bytes number) most (now (page .entry)) r (now (page .exit))) ⌝ }
 {
     let used = put_stop(page, 0, number);
     Page {
@@ -105,7 +105,7 @@ fn walk_page(
     requires { ⌜ Passed (now program) (take len event) ⌝ }
     requires { ⌜ len ≤ 32768 ⌝ }
     requires { ⌜ first ≤ step-limit ⌝ }
-    ensures { λ r. ⌜ ((w : Passed (now (program .entry)) (take len event)) (query : List ℕ) → Gives (now (program .entry)) query (text-from (machine layers (w .definitions)) first (w .event)) (suc (step-limit - first)) (now (page .entry)) r (now (page .exit))) ⌝ }
+    ensures { λ r. ⌜ ((w : Passed (now (program .entry)) (take len event)) (query : List ℕ) → PageOf (now (program .entry)) query (text-from (machine layers (w .definitions)) first (w .event)) (suc (step-limit - first)) (now (page .entry)) r (now (page .exit))) ⌝ }
 {
     let mut here = event;
     let mut there: [u8; RECORD_LIMIT] = [0; RECORD_LIMIT];
@@ -128,7 +128,7 @@ fn walk_page(
 
 // The first page: a refused program, a refused query or first event, or the walk from there.
 fn first_page(program: &[u8], query: &[u8], page: &mut [u8; PAGE]) -> Page
-    ensures { λ r. ⌜ Gives (now (program .entry)) (now (query .entry)) (text (now (program .entry)) (now (query .entry))) (suc step-limit) (now (page .entry)) r (now (page .exit)) ⌝ }
+    ensures { λ r. ⌜ PageOf (now (program .entry)) (now (query .entry)) (text (now (program .entry)) (now (query .entry))) (suc step-limit) (now (page .entry)) r (now (page .exit)) ⌝ }
 {
     let mut event: [u8; RECORD_LIMIT] = [0; RECORD_LIMIT];
     let number = program_number(program_verdict(program));
@@ -144,7 +144,7 @@ fn first_page(program: &[u8], query: &[u8], page: &mut [u8; PAGE]) -> Page
 
 // A later page: the walk goes on from an event, whose record passes the gate where an earlier page left it.
 fn later_page(program: &[u8], rest: Rest, page: &mut [u8; PAGE]) -> Page
-    ensures { λ r. ⌜ ((query : List ℕ) → Gives (now (program .entry)) query (lines-left (now (program .entry)) rest) (suc (step-limit - steps-made rest)) (now (page .entry)) r (now (page .exit))) ⌝ }
+    ensures { λ r. ⌜ ((query : List ℕ) → PageOf (now (program .entry)) query (lines-left (now (program .entry)) rest) (suc (step-limit - steps-made rest)) (now (page .entry)) r (now (page .exit))) ⌝ }
 {
     let event = rest.event;
     let len = least(rest.length, RECORD_LIMIT);

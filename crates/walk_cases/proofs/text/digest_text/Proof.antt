@@ -4,7 +4,7 @@ use mathlib.Core.Path.{_≡_, sym, _∙_}
 use native.Mathlib.Omega.{arith}
 use lib.Seq.{length-take-le}
 use Rattle.walk_text.specs.Text.{text}
-use Rattle.walk_text.specs.Rest.{left, pages-left}
+use Rattle.walk_text.specs.Rest.{left-text, pages-left}
 use Rattle.walk_text.specs.RestLaws.{pages-more}
 use Rattle.walk_cases.specs.Digest.{digest-from, digest-of}
 use Rattle.walk_cases.specs.TextLaws.{digest-start, digest-page, digest-end}
@@ -14,7 +14,7 @@ use Rattle.walk_cases.proofs.text.digest_text.Tie as tie
 
 abbrev Inv-loop : tie.InvT-loop
 Inv-loop program query page₀ digest₀ rest₀ page digest rest =
-    (0 < pages-left rest) × (digest-from digest (left program query rest) ≡ digest-of (text program query))
+    (0 < pages-left rest) × (digest-from digest (left-text program query rest) ≡ digest-of (text program query))
 
 abbrev μ-loop : tie.MeasureT-loop
 μ-loop program query page₀ digest₀ rest₀ page digest rest = pages-left rest

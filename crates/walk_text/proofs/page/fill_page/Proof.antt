@@ -9,7 +9,7 @@ use Rattle.records.specs.Patched.{put-length}
 use Rattle.stepper.specs.Services.{machine}
 use Rattle.stepper.specs.Desk.{layers}
 use Rattle.stepper.specs.Stepped.{Passed}
-use Rattle.walk_text.specs.Page.{Filling}
+use Rattle.walk_text.specs.Page.{PageFilling}
 use Rattle.walk_text.specs.PageLaws.{passed-at, accepted-event, filling-start, filling-ends, filling-line, filled-done, filled-full}
 use Rattle.walk_text.proofs.page.fill_page.Statement.{statement}
 use Rattle.walk_text.proofs.page.fill_page.Tie as tie
@@ -17,7 +17,7 @@ use Rattle.walk_text.proofs.page.fill_page.Tie as tie
 abbrev Inv-loop : tie.InvT-loop
 Inv-loop program here₀ start there₀ first page₀ used₀ len₀ ends₀ step₀ here there page used len ends step =
     (length here ≡ length here₀) × ((length there ≡ length there₀) × ((length page ≡ length page₀) × ((used ≤ length page) × ((len ≤ length here) × ((step ≤ 100000)
-    × ((w : Passed program (take start here₀)) → Filling (machine layers (w .definitions)) first (w .event) page₀ page used here len ends step))))))
+    × ((w : Passed program (take start here₀)) → PageFilling (machine layers (w .definitions)) first (w .event) page₀ page used here len ends step))))))
 
 abbrev μ-loop : tie.MeasureT-loop
 μ-loop program here₀ start there₀ first page₀ used₀ len₀ ends₀ step₀ here there page used len ends step = 100001 - step

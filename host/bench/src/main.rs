@@ -13,7 +13,7 @@ mod walks;
 use desk::{Fourport, Twin};
 use std::path::Path;
 
-/// The deepest terms need some 2 MiB.
+/// Far more than the deepest calls need.
 const STACK: usize = 16 << 20;
 
 fn main() {

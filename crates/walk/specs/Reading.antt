@@ -8,11 +8,12 @@ use Rattle.records.specs.Question.{Asked}
 use Rattle.records.specs.Gate.{refused, Accepted, read-program}
 use Rattle.walk_text.specs.Input.{bytes-named}
 
--- a call that may read `most` bytes answered n. The definition is shut, so that outside this file a count can only be one that a call answered
+-- a call that may read `most` bytes answered n. All that holds of such a count is its bound, so a program that makes one up meets a contract as well:
+-- the name is shut to show a reader where counts come from, and that the proofs of the code take them from there
 pub Delivered : (most n : ℕ) → Type 0
 Delivered most n = n ≤ most
 
--- for the one function that makes the call
+-- to be cited by the proof of the one function that makes the call
 pub delivered : {most n : ℕ} → n ≤ most → Delivered most n
 unfolding Delivered
 delivered h = h

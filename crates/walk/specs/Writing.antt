@@ -1,15 +1,15 @@
--- What was printed: the bytes that calls of the C library took, one call after the other. Which bytes a call takes the C library says; which ones it
--- is handed, and when there are no more, is said here.
+-- What was printed: the bytes that calls of the C library took, one call after the other. No logic here sees a call, so these words are a reading of the
+-- code and no theorem about an output: `Output` holds of every text for whoever cites `handed` (see `docs/DECISIONS.md`).
 use mathlib.Core.Path.{_≡_}
 use mathlib.Core.Bool.{Bool, true, false}
 use mathlib.Core.List.{List, [], _++_}
 use Prim.Native.Nat.{ℕ}
 
--- a call was handed these bytes, and answered whether it took all. The definition is shut, so that outside this file it holds of nothing but a call
+-- a call was handed these bytes, and answered whether it took all; shut, to show where the bytes went
 pub Handed : List ℕ → (all : Bool) → Type 0
 Handed bytes all = Unit {0}
 
--- for the one function that makes the call
+-- to be cited by the proof of the one function that makes the call
 pub handed : (bytes : List ℕ) (all : Bool) → Handed bytes all
 unfolding Handed
 handed bytes all = tt

@@ -6,18 +6,18 @@ use mathlib.Core.Bool.{true}
 use mathlib.Core.List.{List}
 use Prim.Native.Nat.{ℕ, _≤_}
 use lib.ListN.{length}
-use Rattle.records.specs.Syntax.{Clause}
-use Rattle.records.specs.Encode.{program-record}
-use Rattle.records.specs.RecordRules.{every, rising, keys}
-use Rattle.records.specs.HeadLaws.{Bytes}
-use Rattle.records.specs.Gate.{tree, read-clauses, read-program}
-use Rattle.records.specs.GateLaws.{front, clauses-tree}
-use Rattle.terms.specs.Body.{definition-of}
-use Rattle.canonical.specs.Canonical.{predicate, clauses-of, defined-by, canonical}
-use Rattle.canonical.specs.Service.{locals-fit, canonical-record}
-use Rattle.canonical.specs.LookupLaws.{canonical-of, canonical-rises}
-use Rattle.canonical.specs.FormedLaws.{all-small}
-use Rattle.canonical.specs.ServiceLaws.{same-clauses, canonical-done, canonical-done-iff}
+use Rattle.records.specs.Format.Syntax.{Clause}
+use Rattle.records.specs.Format.Encode.{program-record}
+use Rattle.records.specs.Gate.RecordRules.{every, rising, keys}
+use Rattle.records.specs.Format.HeadLaws.{Bytes}
+use Rattle.records.specs.Gate.Gate.{tree, read-clauses, read-program}
+use Rattle.records.specs.Gate.GateLaws.{front, clauses-tree}
+use Rattle.terms.specs.Body.Body.{definition-of}
+use Rattle.canonical.specs.Form.Canonical.{predicate, clauses-of, defined-by, canonical}
+use Rattle.canonical.specs.Writing.Service.{locals-fit, canonical-record}
+use Rattle.canonical.specs.Form.LookupLaws.{canonical-of, canonical-rises}
+use Rattle.canonical.specs.Form.FormedLaws.{all-small}
+use Rattle.canonical.specs.Writing.ServiceLaws.{same-clauses, canonical-done, canonical-done-iff}
 
 -- The record s is the program that the clauses cs become: it passes questions 1 to 4 and says their canonical form, in which definitions rise by
 -- predicate, then arity, and the definition found for p of arity n is the one that its own clauses make: their branches in the clauses' order, and

@@ -14,14 +14,14 @@ use records::walk::Step;
 use records::walk::walk_step;
 ghost use Prim.Native.Nat.{_+_, _≤_};
 ghost use lib.ListN.{length};
-ghost use Rattle.records.specs.Syntax.Term.{var};
-ghost use Rattle.records.specs.Encode.{term-bytes, goal-bytes};
-ghost use Rattle.records.specs.Patched.{Put};
-ghost use Rattle.records.specs.Walk.{walk};
-ghost use Rattle.records.specs.Steps.{On};
-ghost use Rattle.canonical.specs.Canonical.{branch};
-ghost use Rattle.canonical.specs.Clauses.{ClauseAt, clause-at};
-ghost use Rattle.canonical.specs.Renaming.{renamed, equation, Passes};
+ghost use Rattle.records.specs.Format.Syntax.Term.{var};
+ghost use Rattle.records.specs.Format.Encode.{term-bytes, goal-bytes};
+ghost use Rattle.records.specs.Writing.Patched.{Put};
+ghost use Rattle.records.specs.Ends.Walk.{walk};
+ghost use Rattle.records.specs.Ends.Steps.{On};
+ghost use Rattle.canonical.specs.Form.Canonical.{branch};
+ghost use Rattle.canonical.specs.Sorting.Clauses.{ClauseAt, clause-at};
+ghost use Rattle.canonical.specs.Writing.Renaming.{renamed, equation, Passes};
 
 // Where the output goes on, and the source.
 pub struct Progress {

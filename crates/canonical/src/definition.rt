@@ -11,12 +11,12 @@ use records::put::put_word;
 ghost use mathlib.Core.Path.{_≡_};
 ghost use Prim.Native.Nat.{suc, _+_, _≤_, _<_};
 ghost use lib.ListN.{length};
-ghost use Rattle.records.specs.Encode.{definition-bytes};
-ghost use Rattle.records.specs.Patched.{Put};
-ghost use Rattle.canonical.specs.Canonical.{variable-count, locals-of};
-ghost use Rattle.canonical.specs.Sizes.{branch-size};
-ghost use Rattle.canonical.specs.Clauses.{ClauseAt, clause-at, clauses-in, RunAt};
-ghost use Rattle.canonical.specs.Joining.{joined-branch, branches-bytes, run-definition, Sums};
+ghost use Rattle.records.specs.Format.Encode.{definition-bytes};
+ghost use Rattle.records.specs.Writing.Patched.{Put};
+ghost use Rattle.canonical.specs.Form.Canonical.{variable-count, locals-of};
+ghost use Rattle.canonical.specs.Writing.Sizes.{branch-size};
+ghost use Rattle.canonical.specs.Sorting.Clauses.{ClauseAt, clause-at, clauses-in, RunAt};
+ghost use Rattle.canonical.specs.Writing.Joining.{joined-branch, branches-bytes, run-definition, Sums};
 
 // A run's variables, and the bytes of its branches, each with the byte that joins it to the next one.
 pub struct Totals {

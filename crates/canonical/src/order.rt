@@ -6,9 +6,9 @@ use records::heads::clause_head;
 ghost use mathlib.Core.Path.{_≡_};
 ghost use Prim.Native.Nat.{_+_, _<_};
 ghost use lib.ListN.{length, getD, drop};
-ghost use Rattle.canonical.specs.Entries.{better, least, picked, top};
-ghost use Rattle.canonical.specs.Listing.{ClausesAt, entries};
-ghost use Rattle.canonical.specs.Runs.{key-of, run-length};
+ghost use Rattle.canonical.specs.Sorting.Entries.{better, least, picked, top};
+ghost use Rattle.canonical.specs.Sorting.Listing.{ClausesAt, entries};
+ghost use Rattle.canonical.specs.Sorting.Runs.{key-of, run-length};
 
 // The entries of the clauses of a record, as they stand.
 pub fn list_clauses(s: &[u8], table: &mut [usize])

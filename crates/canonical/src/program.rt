@@ -12,12 +12,12 @@ ghost use mathlib.Core.Path.{_≡_};
 ghost use mathlib.Core.Bool.{true};
 ghost use Prim.Native.Nat.{_+_, _≤_};
 ghost use lib.ListN.{length};
-ghost use Rattle.records.specs.Encode.{each, definition-bytes, program-record};
-ghost use Rattle.records.specs.RecordRules.{every};
-ghost use Rattle.records.specs.Patched.{Put};
-ghost use Rattle.canonical.specs.Service.{locals-fit, made, replied, reply};
-ghost use Rattle.canonical.specs.Remaining.{Remaining, program-of};
-ghost use Rattle.canonical.specs.Survey.{surveyed, survey-refusal};
+ghost use Rattle.records.specs.Format.Encode.{each, definition-bytes, program-record};
+ghost use Rattle.records.specs.Gate.RecordRules.{every};
+ghost use Rattle.records.specs.Writing.Patched.{Put};
+ghost use Rattle.canonical.specs.Writing.Service.{locals-fit, made, replied, reply};
+ghost use Rattle.canonical.specs.Sorting.Remaining.{Remaining, program-of};
+ghost use Rattle.canonical.specs.Writing.Survey.{surveyed, survey-refusal};
 ghost use Rattle.canonical.specs.declared.program.Survey.the-variants.{Within};
 
 // How many definitions there are, with their bytes, or question 9 says no.

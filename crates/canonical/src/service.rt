@@ -12,9 +12,9 @@ use records::questions::OUTPUT;
 ghost use mathlib.Core.Path.{_≡_};
 ghost use Prim.Native.Nat.{_≤_};
 ghost use lib.ListN.{length};
-ghost use Rattle.records.specs.Gate.{Accepted, read-clauses};
-ghost use Rattle.canonical.specs.Service.{made, replied, reply, canonical-record};
-ghost use Rattle.canonical.specs.Remaining.{record-clauses, program-of};
+ghost use Rattle.records.specs.Gate.Gate.{Accepted, read-clauses};
+ghost use Rattle.canonical.specs.Writing.Service.{made, replied, reply, canonical-record};
+ghost use Rattle.canonical.specs.Sorting.Remaining.{record-clauses, program-of};
 
 // The program of an accepted clause record, by way of its clauses' entries: as they stand in the table, and then sorted.
 fn put_sorted(s: &[u8], table: &mut [usize], sorted: &mut [usize], out: &mut [u8]) -> u8

@@ -6,16 +6,16 @@ use native.Mathlib.Nat.{add-sub-cancel-left}
 use native.Mathlib.Omega.{arith}
 use lib.Dec.{ltb}
 use lib.ListN.{length}
-use Rattle.records.specs.Syntax.{Event}
-use Rattle.records.specs.Syntax.Term.{var}
-use Rattle.records.specs.Gate.{Reading, refused, tree}
-use Rattle.records.specs.Question.{output}
+use Rattle.records.specs.Format.Syntax.{Event}
+use Rattle.records.specs.Format.Syntax.Term.{var}
+use Rattle.records.specs.Gate.Gate.{Reading, refused, tree}
+use Rattle.records.specs.Gate.Question.{output}
 use Rattle.records.specs.declared.put.Range.{Range}
-use Rattle.terms.specs.Outcome.{value-limit, value}
-use Rattle.terms.specs.OutcomeLaws.{Valued, within, beyond, valued}
-use Rattle.terms.specs.ValueService.{no, within-limit, bets-of, reply-into, reply-bytes, value-reply}
-use Rattle.stepper.specs.Lookup.{Part}
-use Rattle.stepper.specs.LookupRange.{range-of}
+use Rattle.terms.specs.Theory.Outcome.{value-limit, value}
+use Rattle.terms.specs.Theory.OutcomeLaws.{Valued, within, beyond, valued}
+use Rattle.terms.specs.Values.ValueService.{no, within-limit, bets-of, reply-into, reply-bytes, value-reply}
+use Rattle.stepper.specs.Services.Lookup.{Part}
+use Rattle.stepper.specs.Services.LookupRange.{range-of}
 
 -- the range of a part
 module _ {r : Range} (p : Part) (e : r ≡ range-of p) where

@@ -2,8 +2,8 @@
 use mathlib.Core.Bool.{not}
 use Prim.Native.Nat.{ℕ}
 use lib.Dec.{eqb}
-use Rattle.stepper.specs.Walk.{Direction}
-use Rattle.stepper.specs.Running.{direction}
+use Rattle.stepper.specs.Walks.Walk.{Direction}
+use Rattle.stepper.specs.Run.Running.{direction}
 
 -- 0 is forward, any other number back
 abbrev pub direction-of : ℕ → Direction

@@ -2,8 +2,8 @@
 use stepper::counts::Counts;
 use stepper::counts::count;
 ghost use mathlib.Core.Path.{_≡_};
-ghost use Rattle.stepper.specs.Counts.{count-record};
-ghost use Rattle.stepper.specs.PortCounts.{counts-of, reply-with};
+ghost use Rattle.stepper.specs.Services.Counts.{count-record};
+ghost use Rattle.stepper.specs.Services.PortCounts.{counts-of, reply-with};
 
 // Adds an event's port to the counts that are lent; a refused event changes none.
 #[no_mangle]

@@ -3,9 +3,9 @@ use stepper::lookup::lookup_range;
 use terms::value::value;
 ghost use mathlib.Core.Path.{_≡_};
 ghost use lib.ListN.{length};
-ghost use Rattle.records.specs.Gate.{read-event};
-ghost use Rattle.terms.specs.ValueService.{Replied, value-reply};
-ghost use Rattle.stepper.specs.Lookup.{lookup};
+ghost use Rattle.records.specs.Gate.Gate.{read-event};
+ghost use Rattle.terms.specs.Values.ValueService.{Replied, value-reply};
+ghost use Rattle.stepper.specs.Services.Lookup.{lookup};
 
 // S(v) as bare term bytes. How many there are is left in `written`.
 #[no_mangle]

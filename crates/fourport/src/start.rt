@@ -2,10 +2,10 @@
 use canonical::service::canonical;
 use stepper::first::first_event;
 ghost use mathlib.Core.Path.{_≡_};
-ghost use Rattle.canonical.specs.Service.{replied, canonical-record};
-ghost use Rattle.stepper.specs.Services.{first-record};
-ghost use Rattle.stepper.specs.Desk.{layers};
-ghost use Rattle.stepper.specs.Replied.{Replied};
+ghost use Rattle.canonical.specs.Writing.Service.{replied, canonical-record};
+ghost use Rattle.stepper.specs.Services.Services.{first-record};
+ghost use Rattle.stepper.specs.Services.Desk.{layers};
+ghost use Rattle.stepper.specs.Services.Replied.{Replied};
 
 // Clauses to canonical program.
 #[no_mangle]

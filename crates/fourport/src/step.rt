@@ -2,12 +2,12 @@
 use stepper::run::run;
 use stepper::service::step_back;
 use stepper::service::step_forward;
-ghost use Rattle.stepper.specs.Walk.{forward, back};
-ghost use Rattle.stepper.specs.Services.{step-record};
-ghost use Rattle.stepper.specs.Desk.{layers};
-ghost use Rattle.stepper.specs.Replied.{Replied};
-ghost use Rattle.stepper.specs.Run.{run-record};
-ghost use Rattle.stepper.specs.Running.{RunReplied};
+ghost use Rattle.stepper.specs.Walks.Walk.{forward, back};
+ghost use Rattle.stepper.specs.Services.Services.{step-record};
+ghost use Rattle.stepper.specs.Services.Desk.{layers};
+ghost use Rattle.stepper.specs.Services.Replied.{Replied};
+ghost use Rattle.stepper.specs.Run.Run.{run-record};
+ghost use Rattle.stepper.specs.Run.Running.{RunReplied};
 ghost use Rattle.fourport.specs.Directions.{direction-of};
 
 // One step forward.

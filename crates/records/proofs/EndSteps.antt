@@ -5,10 +5,10 @@ use native.Mathlib.Omega.{arith}
 use mathlib.Core.Path.{_≡_, sym, _∙_}
 use mathlib.Core.List.{List}
 use lib.ListN.{length}
-use Rattle.records.specs.Heads.{term-head-at, goal-head-at}
-use Rattle.records.specs.HeadLaws.{Known}
-use Rattle.records.specs.Walk.{end-at}
-use Rattle.records.specs.EndLaws.{end-step, end-by-heads, end-then, end-never, end-bound}
+use Rattle.records.specs.Format.Heads.{term-head-at, goal-head-at}
+use Rattle.records.specs.Format.HeadLaws.{Known}
+use Rattle.records.specs.Ends.Walk.{end-at}
+use Rattle.records.specs.Ends.EndLaws.{end-step, end-by-heads, end-then, end-never, end-bound}
 use Rattle.records.specs.declared.heads.TermHead.{TermHead}
 use Rattle.records.specs.declared.heads.TermHead.the-variants.{Variable, Symbol, NoTerm}
 use Rattle.records.specs.declared.ends.Found.{Found}

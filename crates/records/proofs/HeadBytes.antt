@@ -8,7 +8,7 @@ use mathlib.Core.List.{List, [], _∷_}
 use lib.ListN.{length, drop, getD, length-drop, drop-of-length-le}
 use lib.Seq.{drop-cons}
 use borrow.Author.Tests.{ne-eqb, le-leb, lt-leb}
-use Rattle.records.specs.Heads.{joined, is-tag, term-head, goal-head, atom-head, half-head, called-or, unifier-head, word-head, definition-head, clause-of, term-head-at, goal-head-at, atom-head-at, half-head-at, ancestor-head-at, bet-head-at, or-head-at, word-at, definition-head-at, clause-head-at}
+use Rattle.records.specs.Format.Heads.{joined, is-tag, term-head, goal-head, atom-head, half-head, called-or, unifier-head, word-head, definition-head, clause-of, term-head-at, goal-head-at, atom-head-at, half-head-at, ancestor-head-at, bet-head-at, or-head-at, word-at, definition-head-at, clause-head-at}
 use Rattle.records.specs.declared.heads.TermHead.the-variants.{Variable, Symbol, NoTerm}
 use Rattle.records.specs.declared.heads.GoalHead.{GoalHead}
 use Rattle.records.specs.declared.heads.GoalHead.the-variants.{Atom, NoGoal}

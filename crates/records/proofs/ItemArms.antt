@@ -3,13 +3,13 @@ use Prim.Native.Nat.{ℕ, _-_, _<_}
 use mathlib.Core.Path.{_≡_, refl, sym, ap, _∙_}
 use mathlib.Core.Bool.{Bool, true, false, _&&_}
 use mathlib.Core.List.{List}
-use Rattle.records.specs.RecordRules.{every, bet-rules, definition-rules, clause-rules}
-use Rattle.records.specs.Reader.{Read}
-use Rattle.records.specs.Items.{Reader, read-ancestor, read-bet, read-definition, read-clause}
-use Rattle.records.specs.Walk.{end-of}
-use Rattle.records.specs.Rows.{Ends, holds, kept-at, row-at, First, row-more, row-first, row-none}
-use Rattle.records.specs.ItemEnds.{item-end, items-end}
-use Rattle.records.specs.ItemsKept.{item-kept, items-kept}
+use Rattle.records.specs.Gate.RecordRules.{every, bet-rules, definition-rules, clause-rules}
+use Rattle.records.specs.Format.Reader.{Read}
+use Rattle.records.specs.Format.Items.{Reader, read-ancestor, read-bet, read-definition, read-clause}
+use Rattle.records.specs.Ends.Walk.{end-of}
+use Rattle.records.specs.Gate.Rows.{Ends, holds, kept-at, row-at, First, row-more, row-first, row-none}
+use Rattle.records.specs.Ends.ItemEnds.{item-end, items-end}
+use Rattle.records.specs.Gate.ItemsKept.{item-kept, items-kept}
 use Rattle.records.specs.declared.ends.Found.{Found}
 use Rattle.records.specs.declared.ends.Found.the-variants.{At, Nothing}
 use Rattle.records.specs.declared.ends.Item.{Item}

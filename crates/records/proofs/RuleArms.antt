@@ -7,25 +7,25 @@ use mathlib.Core.Bool.{Bool, true, false, not, _&&_}
 use mathlib.Core.List.{List, [], _∷_, _++_}
 use lib.Dec.{leb}
 use lib.ListN.{drop, replicate}
-use Rattle.records.specs.Syntax.{Binding, Definition}
-use Rattle.records.specs.Syntax.Definition.{definition}
-use Rattle.records.specs.Formed.{All, BindingFormed}
-use Rattle.records.specs.RecordRules.{every, bound, free, rising, rising-from, key, keys, unifier-rules, definition-rules, clause-rules}
-use Rattle.records.specs.Bools.{every-append, rising-next, rising-not}
-use Rattle.records.specs.Heads.{word-at, definition-head, definition-head-at, clause-head-at}
-use Rattle.records.specs.HeadLaws.{Known, bytes-all, bytes-drop}
-use Rattle.records.specs.Reader.{Read, Parts, also, read}
-use Rattle.records.specs.Reader.Read.{unread, found}
-use Rattle.records.specs.Items.{Reader, many, read-binding, first-goal, read-definition, read-clause}
-use Rattle.records.specs.ItemLaws.{many-exact}
-use Rattle.records.specs.Exact.{binding-exact}
-use Rattle.records.specs.Sets.{is-marked, marked, all-marked}
-use Rattle.records.specs.VariableLaws.{unifier-rules-marked}
-use Rattle.records.specs.Walk.{walk, end-of}
-use Rattle.records.specs.Steps.{On, met}
-use Rattle.records.specs.Kept.{pair-read}
-use Rattle.records.specs.Rows.{Ends, holds, kept-at, row-of, row-at, row-more, row-first}
-use Rattle.records.specs.ItemEnds.{binding-ends, definition-ends, clause-ends}
+use Rattle.records.specs.Format.Syntax.{Binding, Definition}
+use Rattle.records.specs.Format.Syntax.Definition.{definition}
+use Rattle.records.specs.Format.Formed.{All, BindingFormed}
+use Rattle.records.specs.Gate.RecordRules.{every, bound, free, rising, rising-from, key, keys, unifier-rules, definition-rules, clause-rules}
+use Rattle.records.specs.Gate.Bools.{every-append, rising-next, rising-not}
+use Rattle.records.specs.Format.Heads.{word-at, definition-head, definition-head-at, clause-head-at}
+use Rattle.records.specs.Format.HeadLaws.{Known, bytes-all, bytes-drop}
+use Rattle.records.specs.Format.Reader.{Read, Parts, also, read}
+use Rattle.records.specs.Format.Reader.Read.{unread, found}
+use Rattle.records.specs.Format.Items.{Reader, many, read-binding, first-goal, read-definition, read-clause}
+use Rattle.records.specs.Format.ItemLaws.{many-exact}
+use Rattle.records.specs.Format.Exact.{binding-exact}
+use Rattle.records.specs.Gate.Sets.{is-marked, marked, all-marked}
+use Rattle.records.specs.Gate.VariableLaws.{unifier-rules-marked}
+use Rattle.records.specs.Ends.Walk.{walk, end-of}
+use Rattle.records.specs.Ends.Steps.{On, met}
+use Rattle.records.specs.Gate.Kept.{pair-read}
+use Rattle.records.specs.Gate.Rows.{Ends, holds, kept-at, row-of, row-at, row-more, row-first}
+use Rattle.records.specs.Ends.ItemEnds.{binding-ends, definition-ends, clause-ends}
 use Rattle.records.specs.declared.ends.Found.{Found}
 use Rattle.records.specs.declared.ends.Found.the-variants.{At, Nothing}
 use Rattle.records.specs.declared.heads.BetHead.the-variants.{Unifier, Or, By, NoBet}

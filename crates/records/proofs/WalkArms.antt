@@ -3,9 +3,9 @@ use Prim.Native.Nat.{ℕ, zero, suc, _+_, _-_, _<_}
 use native.Mathlib.Omega.{arith}
 use mathlib.Core.Path.{_≡_, refl, sym, ap, _∙_}
 use mathlib.Core.List.{List}
-use Rattle.records.specs.Heads.{term-head-at, goal-head-at}
-use Rattle.records.specs.Walk.{walk}
-use Rattle.records.specs.Steps.{On, after-goal, step-by, next-step}
+use Rattle.records.specs.Format.Heads.{term-head-at, goal-head-at}
+use Rattle.records.specs.Ends.Walk.{walk}
+use Rattle.records.specs.Ends.Steps.{On, after-goal, step-by, next-step}
 use Rattle.records.specs.declared.heads.TermHead.{TermHead}
 use Rattle.records.specs.declared.heads.TermHead.the-variants.{Variable, Symbol, NoTerm}
 use Rattle.records.specs.declared.heads.GoalHead.{GoalHead}

@@ -3,8 +3,8 @@ use crate::put::Range;
 ghost use mathlib.Core.Path.{_≡_};
 ghost use Prim.Native.Nat.{_+_, _≤_};
 ghost use lib.ListN.{length, take, drop};
-ghost use Rattle.records.specs.Range.{cut, Inside};
-ghost use Rattle.records.specs.Same.{same-bytes};
+ghost use Rattle.records.specs.Ends.Range.{cut, Inside};
+ghost use Rattle.records.specs.Ends.Same.{same-bytes};
 
 // Whether n bytes of s from a on are those of u from b on.
 fn same_part(s: &[u8], a: usize, u: &[u8], b: usize, n: usize) -> bool

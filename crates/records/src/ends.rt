@@ -14,10 +14,10 @@ use crate::heads::term_head;
 use crate::heads::word_at;
 ghost use mathlib.Core.Path.{_≡_};
 ghost use Prim.Native.Nat.{_≤_};
-ghost use Rattle.records.specs.Items.{many, read-ancestor, read-binding, read-bet, read-definition, read-clause};
-ghost use Rattle.records.specs.Walk.{end-at, end-of};
-ghost use Rattle.records.specs.EndLaws.{next-goal, announced};
-ghost use Rattle.records.specs.ItemEnds.{item-end, items-end};
+ghost use Rattle.records.specs.Format.Items.{many, read-ancestor, read-binding, read-bet, read-definition, read-clause};
+ghost use Rattle.records.specs.Ends.Walk.{end-at, end-of};
+ghost use Rattle.records.specs.Ends.EndLaws.{next-goal, announced};
+ghost use Rattle.records.specs.Ends.ItemEnds.{item-end, items-end};
 
 // The position after it, if it is there.
 pub enum Found {

@@ -11,14 +11,14 @@ use crate::rules::keys_rise;
 ghost use mathlib.Core.Path.{_≡_};
 ghost use Prim.Native.Nat.{_≤_};
 ghost use lib.ListN.{length};
-ghost use Rattle.records.specs.RecordRules.{program-rules};
-ghost use Rattle.records.specs.Items.{read-program-bytes};
-ghost use Rattle.records.specs.Walk.{end-of};
-ghost use Rattle.records.specs.Rows.{Ends, kept-at};
-ghost use Rattle.records.specs.Gate.{framed, of-version, verdict, program-number, event-number, read-query, read-event, read-program, read-clauses};
-ghost use Rattle.records.specs.GateEnds.{judged-at};
-ghost use Rattle.records.specs.CountedEnds.{counted-end, counted-kept, program-rises};
-ghost use Rattle.records.specs.EventEnds.{port-end, bets-place, bets-verdict};
+ghost use Rattle.records.specs.Gate.RecordRules.{program-rules};
+ghost use Rattle.records.specs.Format.Items.{read-program-bytes};
+ghost use Rattle.records.specs.Ends.Walk.{end-of};
+ghost use Rattle.records.specs.Gate.Rows.{Ends, kept-at};
+ghost use Rattle.records.specs.Gate.Gate.{framed, of-version, verdict, program-number, event-number, read-query, read-event, read-program, read-clauses};
+ghost use Rattle.records.specs.Gate.GateEnds.{judged-at};
+ghost use Rattle.records.specs.Gate.CountedEnds.{counted-end, counted-kept, program-rises};
+ghost use Rattle.records.specs.Gate.EventEnds.{port-end, bets-place, bets-verdict};
 
 // Passed, or the question that says no.
 pub enum Verdict {

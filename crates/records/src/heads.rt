@@ -3,7 +3,7 @@ use crate::kinds::*;
 ghost use mathlib.Core.Path.{_≡_};
 ghost use Prim.Native.Nat.{_+_, _-_, _≤_, _<_};
 ghost use lib.ListN.{length, getD};
-ghost use Rattle.records.specs.Heads.{joined, is-tag, unifier-head, term-head-at, goal-head-at, atom-head-at, half-head-at, ancestor-head-at, bet-head-at, or-head-at, word-at, definition-head-at, clause-head-at};
+ghost use Rattle.records.specs.Format.Heads.{joined, is-tag, unifier-head, term-head-at, goal-head-at, atom-head-at, half-head-at, ancestor-head-at, bet-head-at, or-head-at, word-at, definition-head-at, clause-head-at};
 
 // A variable, or a symbol and its arity.
 pub enum TermHead {

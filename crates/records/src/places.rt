@@ -10,17 +10,17 @@ use crate::heads::word_at;
 use crate::put::Range;
 ghost use mathlib.Core.Path.{_≡_};
 ghost use Prim.Native.Nat.{ℕ};
-ghost use Rattle.records.specs.Syntax.{Event, Definition};
-ghost use Rattle.records.specs.Encode.{definition-bytes};
-ghost use Rattle.records.specs.Formed.{DefinitionFormed};
-ghost use Rattle.records.specs.Items.{read-definition};
-ghost use Rattle.records.specs.Walk.{end-of};
-ghost use Rattle.records.specs.Rows.{Ends};
-ghost use Rattle.records.specs.Gate.{Accepted, read-event};
-ghost use Rattle.records.specs.Gate.Reading.{tree};
-ghost use Rattle.records.specs.CountedEnds.{counted-end};
-ghost use Rattle.records.specs.Stands.{Stands};
-ghost use Rattle.records.specs.Places.{RowAt, RowTo, GoalAt, part-ends, event-places, definition-places};
+ghost use Rattle.records.specs.Format.Syntax.{Event, Definition};
+ghost use Rattle.records.specs.Format.Encode.{definition-bytes};
+ghost use Rattle.records.specs.Format.Formed.{DefinitionFormed};
+ghost use Rattle.records.specs.Format.Items.{read-definition};
+ghost use Rattle.records.specs.Ends.Walk.{end-of};
+ghost use Rattle.records.specs.Gate.Rows.{Ends};
+ghost use Rattle.records.specs.Gate.Gate.{Accepted, read-event};
+ghost use Rattle.records.specs.Gate.Gate.Reading.{tree};
+ghost use Rattle.records.specs.Gate.CountedEnds.{counted-end};
+ghost use Rattle.records.specs.Ends.Stands.{Stands};
+ghost use Rattle.records.specs.Ends.Places.{RowAt, RowTo, GoalAt, part-ends, event-places, definition-places};
 
 // A row of items: how many, and from where to where.
 pub struct Row {

@@ -12,11 +12,11 @@ use crate::questions::OUTPUT;
 ghost use mathlib.Core.Path.{_≡_};
 ghost use Prim.Native.Nat.{ℕ, _+_, _-_, _<_, _≤_};
 ghost use lib.ListN.{length};
-ghost use Rattle.records.specs.Patched.{Put};
-ghost use Rattle.records.specs.Range.{size, Inside};
-ghost use Rattle.records.specs.Plan.{lead-bytes, piece-bytes, stack-bytes, planned-body, planned, Within};
-ghost use Rattle.records.specs.Plan.{piece-length, stack-length, body-length, plan-length, limited, plan-ends};
-ghost use Rattle.records.specs.Emitted.{Emitted};
+ghost use Rattle.records.specs.Writing.Patched.{Put};
+ghost use Rattle.records.specs.Ends.Range.{size, Inside};
+ghost use Rattle.records.specs.Writing.Plan.{lead-bytes, piece-bytes, stack-bytes, planned-body, planned, Within};
+ghost use Rattle.records.specs.Writing.Plan.{piece-length, stack-length, body-length, plan-length, limited, plan-ends};
+ghost use Rattle.records.specs.Writing.Emitted.{Emitted};
 
 // The bytes that stand before a part: a kind byte, and a tag.
 pub enum Lead {

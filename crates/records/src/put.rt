@@ -3,9 +3,9 @@ use crate::kinds::VERSION;
 ghost use mathlib.Core.List.{[], _∷_};
 ghost use Prim.Native.Nat.{ℕ, _+_, _-_, _<_, _≤_};
 ghost use lib.ListN.{length};
-ghost use Rattle.records.specs.Encode.{word, record-head};
-ghost use Rattle.records.specs.Patched.{Put};
-ghost use Rattle.records.specs.Range.{cut, Inside};
+ghost use Rattle.records.specs.Format.Encode.{word, record-head};
+ghost use Rattle.records.specs.Writing.Patched.{Put};
+ghost use Rattle.records.specs.Ends.Range.{cut, Inside};
 
 // The places `from` to `to - 1` of a slice.
 pub struct Range {

@@ -23,14 +23,14 @@ ghost use mathlib.Core.Path.{_≡_};
 ghost use mathlib.Core.Bool.{not};
 ghost use Prim.Native.Nat.{_≤_};
 ghost use lib.ListN.{length};
-ghost use Rattle.records.specs.RecordRules.{every, exactly, bound, free, rising, keys, unifier-rules, bet-rules, definition-rules, clause-rules};
-ghost use Rattle.records.specs.Sets.{is-marked, all-marked};
-ghost use Rattle.records.specs.Items.{many, read-binding, read-bet, read-definition, read-clause};
-ghost use Rattle.records.specs.Walk.{walk, end-of};
-ghost use Rattle.records.specs.Steps.{On, met};
-ghost use Rattle.records.specs.Rows.{Ends, kept-at, row-at};
-ghost use Rattle.records.specs.ItemEnds.{item-end, items-end};
-ghost use Rattle.records.specs.ItemsKept.{item-kept, items-kept};
+ghost use Rattle.records.specs.Gate.RecordRules.{every, exactly, bound, free, rising, keys, unifier-rules, bet-rules, definition-rules, clause-rules};
+ghost use Rattle.records.specs.Gate.Sets.{is-marked, all-marked};
+ghost use Rattle.records.specs.Format.Items.{many, read-binding, read-bet, read-definition, read-clause};
+ghost use Rattle.records.specs.Ends.Walk.{walk, end-of};
+ghost use Rattle.records.specs.Ends.Steps.{On, met};
+ghost use Rattle.records.specs.Gate.Rows.{Ends, kept-at, row-at};
+ghost use Rattle.records.specs.Ends.ItemEnds.{item-end, items-end};
+ghost use Rattle.records.specs.Gate.ItemsKept.{item-kept, items-kept};
 
 // Whether exactly the variables 0 to v - 1 are met: a set with one bit for each, compared with the full mask.
 fn meets_exactly(s: &[u8], start: Cursor, v: usize) -> bool

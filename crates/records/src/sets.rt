@@ -3,7 +3,7 @@ ghost use mathlib.Core.Path.{_≡_};
 ghost use Prim.Native.Nat.{_-_, _<_, _≤_, _^_};
 ghost use lib.Dec.{eqb};
 ghost use lib.ListN.{length};
-ghost use Rattle.records.specs.Sets.{has-variable, with-variable, is-marked, marked};
+ghost use Rattle.records.specs.Gate.Sets.{has-variable, with-variable, is-marked, marked};
 
 // The set with the variable x in it.
 pub fn with_variable(set: u64, x: usize) -> u64

@@ -5,8 +5,8 @@ use crate::heads::goal_head;
 use crate::heads::term_head;
 ghost use mathlib.Core.Path.{_≡_};
 ghost use Prim.Native.Nat.{_+_, _-_, _<_, _^_};
-ghost use Rattle.records.specs.Walk.{walk};
-ghost use Rattle.records.specs.Steps.{On, next-step, after-goal, raised, Tops};
+ghost use Rattle.records.specs.Ends.Walk.{walk};
+ghost use Rattle.records.specs.Ends.Steps.{On, next-step, after-goal, raised, Tops};
 
 // A place in a walk: the terms, and then the goals, that are still to come from pos on.
 pub struct Cursor {

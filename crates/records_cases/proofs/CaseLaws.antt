@@ -3,7 +3,7 @@ use Prim.Native.Nat.{ℕ}
 use mathlib.Core.Path.{_≡_, ap, _∙_}
 use mathlib.Core.List.{List}
 use borrow.Author.Tests.{ne-eqb}
-use Rattle.records.specs.Gate.{verdict, read-query, read-event, read-program, read-clauses, program-number, event-number}
+use Rattle.records.specs.Gate.Gate.{verdict, read-query, read-event, read-program, read-clauses, program-number, event-number}
 use Rattle.records.specs.declared.gate.Verdict.{Verdict}
 use Rattle.records_cases.specs.Case.{case-number}
 

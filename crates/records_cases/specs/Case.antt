@@ -2,8 +2,8 @@
 use Prim.Native.Nat.{ℕ}
 use mathlib.Core.List.{List}
 use lib.Dec.{eqb}
-use Rattle.records.specs.Heads.{pick}
-use Rattle.records.specs.Gate.{verdict, read-query, read-event, read-program, read-clauses, program-number, event-number}
+use Rattle.records.specs.Format.Heads.{pick}
+use Rattle.records.specs.Gate.Gate.{verdict, read-query, read-event, read-program, read-clauses, program-number, event-number}
 
 -- q query, e event, p program, any other byte clauses
 abbrev pub case-number : ℕ → List ℕ → ℕ

@@ -4,11 +4,11 @@ use mathlib.Core.Path.{_≡_, refl, ap, _∙_}
 use mathlib.Core.List.{List}
 use lib.ListN.{getD}
 use borrow.Author.Tests.{eq-eqb, ne-eqb}
-use Rattle.records.specs.Items.{read-ancestor, read-bet}
-use Rattle.records.specs.Walk.{end-of, end-at}
+use Rattle.records.specs.Format.Items.{read-ancestor, read-bet}
+use Rattle.records.specs.Ends.Walk.{end-of, end-at}
 use Rattle.records.specs.declared.ends.Found.{Found}
 use Rattle.records.specs.declared.places.Row.{Row}
-use Rattle.stepper.specs.View.{found-end, middle-at, untagged, tagged, no-part, ancestor-part-at, bet-part-at, ancestor-top-at, bet-top-at}
+use Rattle.stepper.specs.Plans.View.{found-end, middle-at, untagged, tagged, no-part, ancestor-part-at, bet-part-at, ancestor-top-at, bet-top-at}
 use Rattle.stepper.specs.declared.view.Part.{Part}
 
 module _ (s : List ℕ) (at : ℕ) {f : Found} where

@@ -9,22 +9,22 @@ use mathlib.Core.List.{List}
 use mathlib.Core.Option.{none, some}
 use Prim.Native.Nat.{ℕ, _≤_}
 use lib.ListN.{length}
-use Rattle.records.specs.Syntax.{Term, Bet, Event}
-use Rattle.records.specs.Encode.{event-record}
-use Rattle.records.specs.Question.{Question, number as question-number}
-use Rattle.records.specs.HeadLaws.{Bytes}
-use Rattle.records.specs.Gate.{tree, read-event}
-use Rattle.terms.specs.Outcome.{Meant}
-use Rattle.terms.specs.OutcomeLaws.{unified-meant}
-use Rattle.stepper.specs.Machine.{gives}
-use Rattle.stepper.specs.Listed.{Rule}
-use Rattle.stepper.specs.Sources.{Source}
-use Rattle.stepper.specs.Refusals.{Refusal, BackRefusal}
-use Rattle.stepper.specs.Walk.{forward, back, net}
-use Rattle.stepper.specs.Services.{Reply, reply, step-record, serve, CameFrom, Move, forward-into, back-into, Program, rules-of, Start, start, served}
-use Rattle.stepper.specs.Desk.{layers, lawful}
-use Rattle.stepper.specs.StepRecordLaws.{forward-accepted, forward-follows, forward-refused, back-accepted, back-follows, back-refused}
-use Rattle.stepper.specs.ByteDemands.{undone, came-from, same-end}
+use Rattle.records.specs.Format.Syntax.{Term, Bet, Event}
+use Rattle.records.specs.Format.Encode.{event-record}
+use Rattle.records.specs.Gate.Question.{Question, number as question-number}
+use Rattle.records.specs.Format.HeadLaws.{Bytes}
+use Rattle.records.specs.Gate.Gate.{tree, read-event}
+use Rattle.terms.specs.Theory.Outcome.{Meant}
+use Rattle.terms.specs.Theory.OutcomeLaws.{unified-meant}
+use Rattle.stepper.specs.Rules.Machine.{gives}
+use Rattle.stepper.specs.Rules.Listed.{Rule}
+use Rattle.stepper.specs.Rules.Sources.{Source}
+use Rattle.stepper.specs.Rules.Refusals.{Refusal, BackRefusal}
+use Rattle.stepper.specs.Walks.Walk.{forward, back, net}
+use Rattle.stepper.specs.Services.Services.{Reply, reply, step-record, serve, CameFrom, Move, forward-into, back-into, Program, rules-of, Start, start, served}
+use Rattle.stepper.specs.Services.Desk.{layers, lawful}
+use Rattle.stepper.specs.Services.StepRecordLaws.{forward-accepted, forward-follows, forward-refused, back-accepted, back-follows, back-refused}
+use Rattle.stepper.specs.Walks.ByteDemands.{undone, came-from, same-end}
 
 -- the reply r of a step into the buffer `out`: where it is accepted, a rule leads to the event whose record it writes; where a rule leads to an event
 -- whose record fits, it writes that; and its number is that of a question exactly where that question says no

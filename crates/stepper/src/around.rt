@@ -14,9 +14,9 @@ use records::questions::DONE;
 ghost use mathlib.Core.List.{[], _∷_, _++_};
 ghost use Prim.Native.Nat.{_+_, _≤_};
 ghost use lib.ListN.{length};
-ghost use Rattle.records.specs.Encode.{word};
-ghost use Rattle.records.specs.Patched.{Put};
-ghost use Rattle.stepper.specs.Completed.{Gap, InOrder, event-head, unifier-front, unifier-back, unifier-ends, body-front, body-back, body-ends, Completed};
+ghost use Rattle.records.specs.Format.Encode.{word};
+ghost use Rattle.records.specs.Writing.Patched.{Put};
+ghost use Rattle.stepper.specs.Step.Completed.{Gap, InOrder, event-head, unifier-front, unifier-back, unifier-ends, body-front, body-back, body-ends, Completed};
 
 // The part of an output for what starts at a place of a record that has so many other bytes: the rest of the record, and nothing where they are too many.
 pub fn gap(at: usize, others: usize) -> Range

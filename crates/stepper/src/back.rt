@@ -18,8 +18,8 @@ use crate::view::View;
 use records::kinds::*;
 use records::plan::Plan;
 ghost use mathlib.Core.Path.{_≡_};
-ghost use Rattle.stepper.specs.Numbers.{call-source, exit-source, fail-source, redo-source, back-rule};
-ghost use Rattle.stepper.specs.RulePlans.{back-plan};
+ghost use Rattle.stepper.specs.Plans.Numbers.{call-source, exit-source, fail-source, redo-source, back-rule};
+ghost use Rattle.stepper.specs.Plans.RulePlans.{back-plan};
 
 // To call, by the ancestor on top.
 fn call_source(kind: u8, tag: u8) -> u8

@@ -7,8 +7,8 @@ use records::kinds::FAIL;
 use records::places::event_places;
 use records::questions::DONE;
 ghost use mathlib.Core.Path.{_≡_};
-ghost use Rattle.stepper.specs.Counts.{one-more, count-record};
-ghost use Rattle.stepper.specs.PortCounts.{counts-of, reply-of, with-port};
+ghost use Rattle.stepper.specs.Services.Counts.{one-more, count-record};
+ghost use Rattle.stepper.specs.Services.PortCounts.{counts-of, reply-of, with-port};
 
 // How many events of each port a walk passed, laid out as in C, whose programs lend such counts.
 #[repr(C)]

@@ -4,8 +4,8 @@ use records::plan::Plan;
 use records::plan::emit_plan;
 use records::plan::plan_ends;
 ghost use mathlib.Core.Path.{_≡_};
-ghost use Rattle.records.specs.Plan.{Within};
-ghost use Rattle.stepper.specs.Stepped.{refusal-of, EmittedEvent};
+ghost use Rattle.records.specs.Writing.Plan.{Within};
+ghost use Rattle.stepper.specs.Step.Stepped.{refusal-of, EmittedEvent};
 
 // A step's number and, where it is 0, the length of the record that was written and where its parts end.
 pub struct Moved {

@@ -11,9 +11,9 @@ use records::plan::emit_plan;
 use records::put::Range;
 use records::questions::DONE;
 ghost use mathlib.Core.Path.{_≡_};
-ghost use Rattle.stepper.specs.Services.{first-record};
-ghost use Rattle.stepper.specs.Desk.{layers};
-ghost use Rattle.stepper.specs.Replied.{Replied, no-items, first-plan};
+ghost use Rattle.stepper.specs.Services.Services.{first-record};
+ghost use Rattle.stepper.specs.Services.Desk.{layers};
+ghost use Rattle.stepper.specs.Services.Replied.{Replied, no-items, first-plan};
 
 // A stack with nothing on it.
 fn no_items() -> Stack

@@ -18,8 +18,8 @@ use crate::view::View;
 use records::kinds::*;
 use records::plan::Plan;
 ghost use mathlib.Core.Path.{_≡_};
-ghost use Rattle.stepper.specs.Numbers.{call-rule, exit-rule, fail-rule, redo-rule, forward-rule};
-ghost use Rattle.stepper.specs.RulePlans.{forward-plan};
+ghost use Rattle.stepper.specs.Plans.Numbers.{call-rule, exit-rule, fail-rule, redo-rule, forward-rule};
+ghost use Rattle.stepper.specs.Plans.RulePlans.{forward-plan};
 
 // From call, by the goal.
 fn call_rule(kind: u8) -> u8

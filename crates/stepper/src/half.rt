@@ -8,7 +8,7 @@ use records::put::Range;
 use records::questions::DONE;
 use records::questions::MATCHES;
 ghost use mathlib.Core.Path.{_≡_};
-ghost use Rattle.stepper.specs.Halves.{HalvesInside, is-half, either, HalvesWhere, unlike-number};
+ghost use Rattle.stepper.specs.Step.Halves.{HalvesInside, is-half, either, HalvesWhere, unlike-number};
 
 // Whether the goal is the half that the ancestor on top selects.
 pub fn is_half(event: &[u8], v: View) -> bool

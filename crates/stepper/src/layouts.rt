@@ -10,10 +10,10 @@ use records::plan::Plan;
 use records::plan::Stack;
 use records::put::Range;
 ghost use mathlib.Core.Path.{_≡_};
-ghost use Rattle.stepper.specs.Layouts.{whole, first-of, second-of, content-of, led, tagged, by-goal, or-tag};
-ghost use Rattle.stepper.specs.Layouts.{same, dropped, pushed, replaced, plan-of};
-ghost use Rattle.stepper.specs.Layouts.{kept, bet-dropped, first-entered, second-entered, first-chosen, second-chosen, chosen, first-reached, second-reached};
-ghost use Rattle.stepper.specs.Layouts.{left, left-with-or, atom-left, atom-left-by, body-entered};
+ghost use Rattle.stepper.specs.Plans.Layouts.{whole, first-of, second-of, content-of, led, tagged, by-goal, or-tag};
+ghost use Rattle.stepper.specs.Plans.Layouts.{same, dropped, pushed, replaced, plan-of};
+ghost use Rattle.stepper.specs.Plans.Layouts.{kept, bet-dropped, first-entered, second-entered, first-chosen, second-chosen, chosen, first-reached, second-reached};
+ghost use Rattle.stepper.specs.Plans.Layouts.{left, left-with-or, atom-left, atom-left-by, body-entered};
 
 // A part as it stands.
 fn whole(part: Part) -> Piece

@@ -16,10 +16,10 @@ use terms::definitions::Lookup;
 use terms::definitions::find_definition;
 ghost use mathlib.Core.Path.{_≡_};
 ghost use mathlib.Core.List.{List};
-ghost use Rattle.records.specs.Syntax.{Event, Definition};
-ghost use Rattle.records.specs.Gate.{Accepted, read-event, read-program, tree};
-ghost use Rattle.stepper.specs.Lookup.{empty, definition-part, lookup};
-ghost use Rattle.stepper.specs.LookupRange.{range-of, named-part, RangeAfter, LookedUp};
+ghost use Rattle.records.specs.Format.Syntax.{Event, Definition};
+ghost use Rattle.records.specs.Gate.Gate.{Accepted, read-event, read-program, tree};
+ghost use Rattle.stepper.specs.Services.Lookup.{empty, definition-part, lookup};
+ghost use Rattle.stepper.specs.Services.LookupRange.{range-of, named-part, RangeAfter, LookedUp};
 
 // No bytes, at the start.
 fn nowhere() -> Range

@@ -10,13 +10,13 @@ use records::put::put_range;
 use records::questions::DONE;
 ghost use Prim.Native.Nat.{_≤_};
 ghost use lib.ListN.{length, take};
-ghost use Rattle.stepper.specs.Rules.{step};
-ghost use Rattle.stepper.specs.Services.{machine};
-ghost use Rattle.stepper.specs.Run.{run, run-record};
-ghost use Rattle.stepper.specs.Desk.{layers};
-ghost use Rattle.stepper.specs.View.{EndsOf};
-ghost use Rattle.stepper.specs.Stepped.{Stepped, Passed};
-ghost use Rattle.stepper.specs.Running.{direction, Turned, RanTo, RunReplied};
+ghost use Rattle.stepper.specs.Rules.Rules.{step};
+ghost use Rattle.stepper.specs.Services.Services.{machine};
+ghost use Rattle.stepper.specs.Run.Run.{run, run-record};
+ghost use Rattle.stepper.specs.Services.Desk.{layers};
+ghost use Rattle.stepper.specs.Plans.View.{EndsOf};
+ghost use Rattle.stepper.specs.Step.Stepped.{Stepped, Passed};
+ghost use Rattle.stepper.specs.Run.Running.{direction, Turned, RanTo, RunReplied};
 
 // A run's number and the steps it took.
 pub struct RunAnswer {

@@ -10,11 +10,11 @@ use records::places::part_ends;
 use records::questions::DONE;
 use records::questions::OUTPUT;
 ghost use mathlib.Core.Path.{_≡_};
-ghost use Rattle.stepper.specs.Walk.{forward, back};
-ghost use Rattle.stepper.specs.Services.{step-record};
-ghost use Rattle.stepper.specs.Desk.{layers};
-ghost use Rattle.stepper.specs.Replied.{Replied};
-ghost use Rattle.stepper.specs.Stepped.{gate-number};
+ghost use Rattle.stepper.specs.Walks.Walk.{forward, back};
+ghost use Rattle.stepper.specs.Services.Services.{step-record};
+ghost use Rattle.stepper.specs.Services.Desk.{layers};
+ghost use Rattle.stepper.specs.Services.Replied.{Replied};
+ghost use Rattle.stepper.specs.Step.Stepped.{gate-number};
 
 // 1 to 4 of the program, 11 to 14 of the event, then 5 for an output of `room` bytes; else 0.
 pub fn gate(program: &[u8], event: &[u8], room: usize) -> u8

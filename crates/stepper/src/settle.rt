@@ -19,10 +19,10 @@ use terms::variables::Frame;
 ghost use mathlib.Core.Path.{_≡_};
 ghost use Prim.Native.Nat.{_≤_};
 ghost use lib.ListN.{length};
-ghost use Rattle.records.specs.Syntax.{Port};
-ghost use Rattle.records.specs.Encode.{port-byte};
-ghost use Rattle.stepper.specs.Stepped.{Stepped};
-ghost use Rattle.stepper.specs.Settled.{settled-equality, settled-atom, ProgramRead, EqualityViewed, AtomViewed, goal-frame};
+ghost use Rattle.records.specs.Format.Syntax.{Port};
+ghost use Rattle.records.specs.Format.Encode.{port-byte};
+ghost use Rattle.stepper.specs.Step.Stepped.{Stepped};
+ghost use Rattle.stepper.specs.Step.Settled.{settled-equality, settled-atom, ProgramRead, EqualityViewed, AtomViewed, goal-frame};
 
 // An equality goes to one port if its terms have no unifier, else to the other with the unifier put on the bets.
 pub fn settle_equality(event: &[u8], v: View, clash: u8, found: u8, out: &mut [u8]) -> Moved

@@ -24,13 +24,13 @@ use records::questions::POSSIBLE;
 ghost use mathlib.Core.Path.{_≡_};
 ghost use Prim.Native.Nat.{_≤_};
 ghost use lib.ListN.{length};
-ghost use Rattle.records.specs.Plan.{Within};
-ghost use Rattle.stepper.specs.Rules.{step-forward, step-back};
-ghost use Rattle.stepper.specs.Services.{machine};
-ghost use Rattle.stepper.specs.Desk.{layers};
-ghost use Rattle.stepper.specs.NoRuleNumbers.{no-rule-number, no-source-number};
-ghost use Rattle.stepper.specs.View.{EndsOf};
-ghost use Rattle.stepper.specs.Stepped.{Stepped, Passed, EmittedUnless};
+ghost use Rattle.records.specs.Writing.Plan.{Within};
+ghost use Rattle.stepper.specs.Rules.Rules.{step-forward, step-back};
+ghost use Rattle.stepper.specs.Services.Services.{machine};
+ghost use Rattle.stepper.specs.Services.Desk.{layers};
+ghost use Rattle.stepper.specs.Step.NoRuleNumbers.{no-rule-number, no-source-number};
+ghost use Rattle.stepper.specs.Plans.View.{EndsOf};
+ghost use Rattle.stepper.specs.Step.Stepped.{Stepped, Passed, EmittedUnless};
 
 // The number where no rule has the event as its left side: 6 from exit and fail, else 7.
 fn no_rule(v: View) -> u8

@@ -12,9 +12,9 @@ use records::put::Range;
 ghost use mathlib.Core.Path.{_≡_};
 ghost use Prim.Native.Nat.{_+_, _-_, _<_};
 ghost use lib.ListN.{length};
-ghost use Rattle.records.specs.Syntax.{Event};
-ghost use Rattle.records.specs.Gate.{Accepted, read-event, tree};
-ghost use Rattle.stepper.specs.View.{EndsOf, found-end, middle-at, goal-part-at, ancestor-part-at, bet-part-at, no-part, TopInside, ancestor-top-at, bet-top-at, stack-at, event-view};
+ghost use Rattle.records.specs.Format.Syntax.{Event};
+ghost use Rattle.records.specs.Gate.Gate.{Accepted, read-event, tree};
+ghost use Rattle.stepper.specs.Plans.View.{EndsOf, found-end, middle-at, goal-part-at, ancestor-part-at, bet-part-at, no-part, TopInside, ancestor-top-at, bet-top-at, stack-at, event-view};
 
 // A goal, an ancestor or a bet: its kind byte and its tag (0 where it has none); where it starts, where it goes on after kind and tag, where
 // its second half or term starts (its end where it has none), and where it ends. All numbers are 0 but the places where there is none.

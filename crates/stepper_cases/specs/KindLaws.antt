@@ -4,11 +4,11 @@ use mathlib.Core.Bool.{Bool, true, false}
 use mathlib.Core.List.{List}
 use Prim.Native.Nat.{ℕ}
 use borrow.Author.Tests.{ne-eqb}
-use Rattle.stepper.specs.Walk.{forward, back}
-use Rattle.stepper.specs.Services.{step-record}
-use Rattle.stepper.specs.Desk.{layers}
-use Rattle.stepper.specs.Replied.{Replied}
-use Rattle.stepper.specs.Running.{direction}
+use Rattle.stepper.specs.Walks.Walk.{forward, back}
+use Rattle.stepper.specs.Services.Services.{step-record}
+use Rattle.stepper.specs.Services.Desk.{layers}
+use Rattle.stepper.specs.Services.Replied.{Replied}
+use Rattle.stepper.specs.Run.Running.{direction}
 use Rattle.stepper_cases.specs.Kinds.{goes-back}
 
 module _ (kind : ℕ) where

@@ -7,7 +7,7 @@ use native.Mathlib.Omega.{arith}
 use lib.ListN.{length, take, set, getD, length-append}
 use lib.Seq.{take-suc, take-all}
 use Rattle.io.specs.Digits.{glyph}
-use Rattle.records.specs.Patched.{put-none, put-set, put-then, put-room}
+use Rattle.records.specs.Writing.Patched.{put-none, put-set, put-then, put-room}
 use Rattle.stepper_cases.specs.Lines.{Written, hex-digits}
 
 pub written-none : {before : List ℕ} {at : ℕ} → Written before at [] before at

@@ -3,7 +3,7 @@ use mathlib.Core.List.{List, [], _∷_}
 use Prim.Native.Nat.{ℕ, _+_, _/_, _%_, _≤_}
 use lib.ListN.{length}
 use Rattle.io.specs.Digits.{glyph}
-use Rattle.records.specs.Patched.{Put}
+use Rattle.records.specs.Writing.Patched.{Put}
 
 -- where there is room for the bytes, they stand in the line from `at` on, and `next` is the place after them
 pub record Written (before : List ℕ) (at : ℕ) (bytes after : List ℕ) (next : ℕ) : Type 0 where

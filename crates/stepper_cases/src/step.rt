@@ -8,10 +8,10 @@ use stepper::service::step_back;
 use stepper::service::step_forward;
 ghost use mathlib.Core.Path.{_≡_};
 ghost use Prim.Native.Nat.{_<_};
-ghost use Rattle.stepper.specs.Services.{step-record};
-ghost use Rattle.stepper.specs.Desk.{layers};
-ghost use Rattle.stepper.specs.Replied.{Replied};
-ghost use Rattle.stepper.specs.Running.{direction};
+ghost use Rattle.stepper.specs.Services.Services.{step-record};
+ghost use Rattle.stepper.specs.Services.Desk.{layers};
+ghost use Rattle.stepper.specs.Services.Replied.{Replied};
+ghost use Rattle.stepper.specs.Run.Running.{direction};
 ghost use Rattle.stepper_cases.specs.Kinds.{goes-back};
 
 // Whether a kind names a service that goes back: b a step, s a run.

@@ -3,9 +3,9 @@ use crate::pairs::list_bets;
 use crate::substitute::Sized;
 use crate::substitute::put_under;
 ghost use Prim.Native.Nat.{ℕ};
-ghost use Rattle.terms.specs.Answered.{Answered, Buffers};
-ghost use Rattle.terms.specs.Applied.{TermAt};
-ghost use Rattle.terms.specs.BetRow.{Bets};
+ghost use Rattle.terms.specs.Values.Answered.{Answered, Buffers};
+ghost use Rattle.terms.specs.Values.Applied.{TermAt};
+ghost use Rattle.terms.specs.Standing.BetRow.{Bets};
 
 // The n bets at `at` of the event applied to the term at `from` of src. The value is left in the output; the tables are for the pairs of the bets.
 pub fn apply_bets(

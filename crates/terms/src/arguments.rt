@@ -6,7 +6,7 @@ use records::put::Range;
 ghost use mathlib.Core.Path.{_≡_};
 ghost use Prim.Native.Nat.{_+_, _<_};
 ghost use lib.ListN.{length, take};
-ghost use Rattle.terms.specs.Arguments.{ArgumentsAt, position, term-places, entry};
+ghost use Rattle.terms.specs.Body.Arguments.{ArgumentsAt, position, term-places, entry};
 
 // An argument list: where it stands, and how many terms it has.
 pub struct Arguments {

@@ -24,15 +24,15 @@ use records::walk::walk_step;
 ghost use mathlib.Core.Path.{_≡_};
 ghost use Prim.Native.Nat.{ℕ, _+_, _-_, _<_, _≤_, _^_, min};
 ghost use lib.ListN.{length};
-ghost use Rattle.records.specs.Syntax.Term.{var};
-ghost use Rattle.records.specs.Syntax.{arity};
-ghost use Rattle.records.specs.Encode.{term-bytes, goal-bytes};
-ghost use Rattle.records.specs.Patched.{Put};
-ghost use Rattle.terms.specs.Arguments.{TermTable, ArgumentTable};
-ghost use Rattle.terms.specs.Body.{numbered, defined, locals-beyond, body, next-variable};
-ghost use Rattle.terms.specs.Frames.{GoalAt};
-ghost use Rattle.terms.specs.Definitions.{ProgramAt};
-ghost use Rattle.terms.specs.BodyBytes.{AtomAt, body-refusal, numbered-goal, body-with, Answered};
+ghost use Rattle.records.specs.Format.Syntax.Term.{var};
+ghost use Rattle.records.specs.Format.Syntax.{arity};
+ghost use Rattle.records.specs.Format.Encode.{term-bytes, goal-bytes};
+ghost use Rattle.records.specs.Writing.Patched.{Put};
+ghost use Rattle.terms.specs.Body.Arguments.{TermTable, ArgumentTable};
+ghost use Rattle.terms.specs.Body.Body.{numbered, defined, locals-beyond, body, next-variable};
+ghost use Rattle.terms.specs.Standing.Frames.{GoalAt};
+ghost use Rattle.terms.specs.Body.Definitions.{ProgramAt};
+ghost use Rattle.terms.specs.Body.BodyBytes.{AtomAt, body-refusal, numbered-goal, body-with, Answered};
 
 // Question 9 says no, there is no definition, the body has so many bytes, or the output is too short for it: question 10.
 pub enum BodyAnswer {

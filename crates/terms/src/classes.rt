@@ -5,8 +5,8 @@ use crate::nodes::VARIABLE_NODE;
 ghost use mathlib.Core.Path.{_≡_};
 ghost use Prim.Native.Nat.{_<_};
 ghost use lib.ListN.{length};
-ghost use Rattle.terms.specs.Nodes.{nodes, Table};
-ghost use Rattle.terms.specs.ClassState.{
+ghost use Rattle.terms.specs.Classes.Nodes.{nodes, Table};
+ghost use Rattle.terms.specs.Classes.ClassState.{
   State,
   Relabelled,
   Preferred,

@@ -8,7 +8,7 @@ use records::heads::word_at;
 ghost use mathlib.Core.Path.{_≡_};
 ghost use mathlib.Core.Bool.{_&&_};
 ghost use lib.Dec.{eqb};
-ghost use Rattle.terms.specs.Definitions.{ProgramAt, DefinitionAt, DefinitionsAt, EntryOf, Located};
+ghost use Rattle.terms.specs.Body.Definitions.{ProgramAt, DefinitionAt, DefinitionsAt, EntryOf, Located};
 
 // What a definition starts with, and where it ends.
 pub struct Entry {

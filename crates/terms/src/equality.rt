@@ -11,12 +11,12 @@ use records::questions::VALUES;
 ghost use mathlib.Core.Path.{_≡_};
 ghost use Prim.Native.Nat.{_+_, _*_, _≤_};
 ghost use lib.ListN.{length};
-ghost use Rattle.terms.specs.Applied.{TermAt};
-ghost use Rattle.terms.specs.BetRow.{Bets};
+ghost use Rattle.terms.specs.Values.Applied.{TermAt};
+ghost use Rattle.terms.specs.Standing.BetRow.{Bets};
 ghost use mathlib.Core.Option.{some};
-ghost use Rattle.terms.specs.Outcome.{value-under, outcome-of, unified-under};
-ghost use Rattle.terms.specs.UnifierAnswer.{Unifiable};
-ghost use Rattle.terms.specs.Equality.{unifier-refusal, OneValue, Answered, Answers};
+ghost use Rattle.terms.specs.Theory.Outcome.{value-under, outcome-of, unified-under};
+ghost use Rattle.terms.specs.Unifier.UnifierAnswer.{Unifiable};
+ghost use Rattle.terms.specs.Unifier.Equality.{unifier-refusal, OneValue, Answered, Answers};
 
 // Question 8 says no, there is no unifier, its count and pairs have so many bytes, or they are too long for a record or the output: question 10.
 pub enum UnifierAnswer {

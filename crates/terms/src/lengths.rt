@@ -3,9 +3,9 @@ use crate::nodes::SYMBOL_NODE;
 ghost use mathlib.Core.Path.{_≡_};
 ghost use Prim.Native.Nat.{_+_, _≤_, _<_, min};
 ghost use lib.ListN.{length};
-ghost use Rattle.terms.specs.Nodes.{nodes, Table};
-ghost use Rattle.terms.specs.ClassState.{State};
-ghost use Rattle.terms.specs.Lengths.{length-cap, Weighable, Weighed, Offered, Measuring, Blank, Checked};
+ghost use Rattle.terms.specs.Classes.Nodes.{nodes, Table};
+ghost use Rattle.terms.specs.Classes.ClassState.{State};
+ghost use Rattle.terms.specs.Classes.Lengths.{length-cap, Weighable, Weighed, Offered, Measuring, Blank, Checked};
 
 // a + b, but at most 40,000.
 pub fn capped(a: usize, b: usize) -> usize

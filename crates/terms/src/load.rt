@@ -6,8 +6,8 @@ use records::heads::term_head;
 ghost use mathlib.Core.Path.{_≡_};
 ghost use Prim.Native.Nat.{_+_, _*_, _≤_, _<_};
 ghost use lib.ListN.{length};
-ghost use Rattle.records.specs.Heads.{term-head-at};
-ghost use Rattle.terms.specs.Laid.{head-of, IsValue, Loads, Behind, Linkable, Links, Layable, Lays};
+ghost use Rattle.records.specs.Format.Heads.{term-head-at};
+ghost use Rattle.terms.specs.Classes.Laid.{head-of, IsValue, Loads, Behind, Linkable, Links, Layable, Lays};
 
 // A node's kind and number, and how many bytes its head has.
 pub struct NodeHead {

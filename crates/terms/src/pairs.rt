@@ -7,11 +7,11 @@ use records::heads::bet_head;
 ghost use mathlib.Core.Path.{_≡_};
 ghost use Prim.Native.Nat.{_+_, _*_, _≤_};
 ghost use lib.ListN.{length};
-ghost use Rattle.records.specs.Heads.{bet-head-at};
-ghost use Rattle.terms.specs.BetRow.{BetHere, Bets, bet-pairs, head-pairs};
-ghost use Rattle.terms.specs.Entries.{Listed};
-ghost use Rattle.terms.specs.Listing.{Filled};
-ghost use Rattle.terms.specs.Pairs.{Pairs};
+ghost use Rattle.records.specs.Format.Heads.{bet-head-at};
+ghost use Rattle.terms.specs.Standing.BetRow.{BetHere, Bets, bet-pairs, head-pairs};
+ghost use Rattle.terms.specs.Values.Entries.{Listed};
+ghost use Rattle.terms.specs.Values.Listing.{Filled};
+ghost use Rattle.terms.specs.Standing.Pairs.{Pairs};
 
 // How many pairs the bet at a position has; OR and BY have none.
 pub fn pairs_at(event: &[u8], at: usize) -> usize

@@ -2,8 +2,8 @@
 ghost use mathlib.Core.Path.{_≡_};
 ghost use Prim.Native.Nat.{_<_};
 ghost use lib.ListN.{length};
-ghost use Rattle.terms.specs.Nodes.{nodes, Table};
-ghost use Rattle.terms.specs.Lengths.{Blank, Solved};
+ghost use Rattle.terms.specs.Classes.Nodes.{nodes, Table};
+ghost use Rattle.terms.specs.Classes.Lengths.{Blank, Solved};
 use crate::classes::begin;
 use crate::classes::close;
 use crate::lengths::complete;

@@ -10,16 +10,16 @@ use records::walk::walk_step;
 ghost use mathlib.Core.List.{List};
 ghost use Prim.Native.Nat.{ℕ, _≤_};
 ghost use lib.ListN.{length};
-ghost use Rattle.records.specs.Encode.{term-bytes};
-ghost use Rattle.records.specs.Range.{cut, Inside};
-ghost use Rattle.records.specs.Stands.{Stands};
-ghost use Rattle.records.specs.Steps.{On};
-ghost use Rattle.records.specs.Syntax.Term.{var};
-ghost use Rattle.records.specs.Walk.{walk};
-ghost use Rattle.terms.specs.Substitution.{apply};
-ghost use Rattle.terms.specs.Fitted.{Fitted};
-ghost use Rattle.terms.specs.NodeBytes.{walk-bytes};
-ghost use Rattle.terms.specs.Entries.{PairTable, FoundPair, under};
+ghost use Rattle.records.specs.Format.Encode.{term-bytes};
+ghost use Rattle.records.specs.Ends.Range.{cut, Inside};
+ghost use Rattle.records.specs.Ends.Stands.{Stands};
+ghost use Rattle.records.specs.Ends.Steps.{On};
+ghost use Rattle.records.specs.Format.Syntax.Term.{var};
+ghost use Rattle.records.specs.Ends.Walk.{walk};
+ghost use Rattle.terms.specs.Theory.Substitution.{apply};
+ghost use Rattle.terms.specs.Values.Fitted.{Fitted};
+ghost use Rattle.terms.specs.Values.NodeBytes.{walk-bytes};
+ghost use Rattle.terms.specs.Values.Entries.{PairTable, FoundPair, under};
 
 // How many bytes were written, or that they are more than the output holds.
 pub enum Sized {

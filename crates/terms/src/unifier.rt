@@ -7,9 +7,9 @@ use crate::write::write_term;
 use records::put::put_word;
 ghost use Prim.Native.Nat.{_<_};
 ghost use lib.ListN.{length};
-ghost use Rattle.terms.specs.Nodes.{nodes};
-ghost use Rattle.terms.specs.ClassTerms.{ClassTable};
-ghost use Rattle.terms.specs.UnifierAnswer.{Classed, Tested, Least, Chosen, PairsLength, PairFits, PairPut, PairsFit, PairsPut, UnifierFits, UnifierPut, Cleared, Decidable, Decides, Unifiable, Unifications};
+ghost use Rattle.terms.specs.Classes.Nodes.{nodes};
+ghost use Rattle.terms.specs.Unifier.ClassTerms.{ClassTable};
+ghost use Rattle.terms.specs.Unifier.UnifierAnswer.{Classed, Tested, Least, Chosen, PairsLength, PairFits, PairPut, PairsFit, PairsPut, UnifierFits, UnifierPut, Cleared, Decidable, Decides, Unifiable, Unifications};
 
 // Whether node i is a variable whose class has another term.
 fn is_bound(kind: &[usize], number: &[usize], next: &[usize], rep: &[usize], i: usize) -> bool

@@ -15,12 +15,12 @@ use records::questions::VALUES;
 ghost use mathlib.Core.Path.{_≡_};
 ghost use Prim.Native.Nat.{_≤_};
 ghost use lib.ListN.{length};
-ghost use Rattle.records.specs.Gate.{read-event};
-ghost use Rattle.records.specs.Syntax.Term.{var};
-ghost use Rattle.terms.specs.Answered.{value-refusal, Answered, Buffers};
-ghost use Rattle.terms.specs.BetRow.{Bets};
-ghost use Rattle.terms.specs.Outcome.{value};
-ghost use Rattle.terms.specs.ValueService.{Replied, reply-into, value-reply};
+ghost use Rattle.records.specs.Gate.Gate.{read-event};
+ghost use Rattle.records.specs.Format.Syntax.Term.{var};
+ghost use Rattle.terms.specs.Values.Answered.{value-refusal, Answered, Buffers};
+ghost use Rattle.terms.specs.Standing.BetRow.{Bets};
+ghost use Rattle.terms.specs.Theory.Outcome.{value};
+ghost use Rattle.terms.specs.Values.ValueService.{Replied, reply-into, value-reply};
 
 // S(v) under the n bets at `at` of the event. The value is left in the output; the tables are for the pairs of the bets.
 pub fn variable_value(

@@ -6,10 +6,10 @@ use records::walk::Top;
 use records::walk::variables_top;
 ghost use mathlib.Core.Path.{_≡_};
 ghost use Prim.Native.Nat.{max};
-ghost use Rattle.terms.specs.Variables.{above};
-ghost use Rattle.terms.specs.Body.{ancestors-variables, next-variable};
-ghost use Rattle.terms.specs.Frames.{AncestorAt, AncestorsAt, FrameAt};
-ghost use Rattle.terms.specs.TopLaws.{AncestorTop};
+ghost use Rattle.terms.specs.Theory.Variables.{above};
+ghost use Rattle.terms.specs.Body.Body.{ancestors-variables, next-variable};
+ghost use Rattle.terms.specs.Standing.Frames.{AncestorAt, AncestorsAt, FrameAt};
+ghost use Rattle.terms.specs.Body.TopLaws.{AncestorTop};
 
 // Where an event's goal and its stacks stand, and how many parts a stack has.
 pub struct Frame {

@@ -8,9 +8,9 @@ use records::put::put_word;
 ghost use mathlib.Core.Path.{_≡_};
 ghost use Prim.Native.Nat.{_≤_, _<_};
 ghost use lib.ListN.{length};
-ghost use Rattle.records.specs.Patched.{Put};
-ghost use Rattle.terms.specs.Nodes.{nodes};
-ghost use Rattle.terms.specs.ClassTerms.{head-bytes, ClassTable, Fits, Rest, Wrote, Wrotes};
+ghost use Rattle.records.specs.Writing.Patched.{Put};
+ghost use Rattle.terms.specs.Classes.Nodes.{nodes};
+ghost use Rattle.terms.specs.Unifier.ClassTerms.{head-bytes, ClassTable, Fits, Rest, Wrote, Wrotes};
 
 // A node's own bytes.
 fn put_head(out: &mut [u8], kind: usize, number: usize) -> usize

@@ -2,15 +2,15 @@
 use mathlib.Core.Path.{_≡_}
 use mathlib.Core.List.{List}
 use Prim.Native.Nat.{ℕ}
-use Rattle.records.specs.Syntax.{Terms, Goal, Ancestor, Bet, Port, Event, Definition}
-use Rattle.records.specs.Syntax.Goal.{truth, failure, equal, conj, disj, atom}
-use Rattle.records.specs.Syntax.Event.{event}
-use Rattle.records.specs.Gate.{Reading, read-event}
-use Rattle.records.specs.Gate.Reading.{refused, tree}
-use Rattle.records.specs.Question.{Question, number}
-use Rattle.records.specs.Question.Question.{of-program, of-event}
-use Rattle.terms.specs.Body.{Body, body}
-use Rattle.terms.specs.BodyBytes.{Answered}
+use Rattle.records.specs.Format.Syntax.{Terms, Goal, Ancestor, Bet, Port, Event, Definition}
+use Rattle.records.specs.Format.Syntax.Goal.{truth, failure, equal, conj, disj, atom}
+use Rattle.records.specs.Format.Syntax.Event.{event}
+use Rattle.records.specs.Gate.Gate.{Reading, read-event}
+use Rattle.records.specs.Gate.Gate.Reading.{refused, tree}
+use Rattle.records.specs.Gate.Question.{Question, number}
+use Rattle.records.specs.Gate.Question.Question.{of-program, of-event}
+use Rattle.terms.specs.Body.Body.{Body, body}
+use Rattle.terms.specs.Body.BodyBytes.{Answered}
 use Rattle.terms.specs.declared.body.BodyAnswer.{BodyAnswer}
 use Rattle.terms_cases.specs.declared.body.BodyCase.{BodyCase}
 use Rattle.terms_cases.specs.declared.body.BodyCase.the-variants.{Refused, NoAtom, Answered as TheAnswer}

@@ -3,20 +3,20 @@ use mathlib.Core.Path.{_≡_, refl, ap}
 use mathlib.Core.List.{List}
 use native.Mathlib.Omega.{arith}
 use Prim.Native.Nat.{ℕ}
-use Rattle.records.specs.Syntax.{Goal, Ancestor, Bet, Port, Event, Definition}
-use Rattle.records.specs.Syntax.Goal.{truth, failure, equal, conj, disj, atom}
-use Rattle.records.specs.Syntax.Event.{event}
-use Rattle.records.specs.Heads.{goal-head-at}
-use Rattle.records.specs.HeadLaws.{Known}
-use Rattle.records.specs.Gate.{Reading, Accepted, verdict, program-number, event-number, read-program, read-event}
-use Rattle.records.specs.Gate.Reading.{tree}
-use Rattle.records.specs.Places.{event-places}
-use Rattle.records.specs.Stands.{head-of-goal}
+use Rattle.records.specs.Format.Syntax.{Goal, Ancestor, Bet, Port, Event, Definition}
+use Rattle.records.specs.Format.Syntax.Goal.{truth, failure, equal, conj, disj, atom}
+use Rattle.records.specs.Format.Syntax.Event.{event}
+use Rattle.records.specs.Format.Heads.{goal-head-at}
+use Rattle.records.specs.Format.HeadLaws.{Known}
+use Rattle.records.specs.Gate.Gate.{Reading, Accepted, verdict, program-number, event-number, read-program, read-event}
+use Rattle.records.specs.Gate.Gate.Reading.{tree}
+use Rattle.records.specs.Ends.Places.{event-places}
+use Rattle.records.specs.Ends.Stands.{head-of-goal}
 use Rattle.records.specs.declared.places.Places.{Places}
-use Rattle.terms.specs.Accepted.{frame-of, accepted-atom, atom-moved}
-use Rattle.terms.specs.AcceptedLaws.{program-refused, event-refused, goal-told}
-use Rattle.terms.specs.Body.{body}
-use Rattle.terms.specs.BodyBytes.{AtomAt, Answered}
+use Rattle.terms.specs.Standing.Accepted.{frame-of, accepted-atom, atom-moved}
+use Rattle.terms.specs.Standing.AcceptedLaws.{program-refused, event-refused, goal-told}
+use Rattle.terms.specs.Body.Body.{body}
+use Rattle.terms.specs.Body.BodyBytes.{AtomAt, Answered}
 use Rattle.terms.specs.declared.variables.Frame.{Frame}
 use Rattle.terms.specs.declared.body.BodyAnswer.{BodyAnswer}
 use Rattle.terms_cases.specs.Kinds.{kind-of}

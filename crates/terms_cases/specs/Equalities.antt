@@ -2,15 +2,15 @@
 use mathlib.Core.Path.{_≡_}
 use mathlib.Core.List.{List}
 use Prim.Native.Nat.{ℕ}
-use Rattle.records.specs.Syntax.{Term, Goal, Ancestor, Bet, Port, Event}
-use Rattle.records.specs.Syntax.Goal.{truth, failure, equal, conj, disj, atom}
-use Rattle.records.specs.Syntax.Event.{event}
-use Rattle.records.specs.Gate.{Reading, read-event}
-use Rattle.records.specs.Gate.Reading.{refused, tree}
-use Rattle.records.specs.Question.{Question, number}
-use Rattle.records.specs.Question.Question.{of-event}
-use Rattle.terms.specs.Outcome.{Unified, unified-under}
-use Rattle.terms.specs.Equality.{Answered}
+use Rattle.records.specs.Format.Syntax.{Term, Goal, Ancestor, Bet, Port, Event}
+use Rattle.records.specs.Format.Syntax.Goal.{truth, failure, equal, conj, disj, atom}
+use Rattle.records.specs.Format.Syntax.Event.{event}
+use Rattle.records.specs.Gate.Gate.{Reading, read-event}
+use Rattle.records.specs.Gate.Gate.Reading.{refused, tree}
+use Rattle.records.specs.Gate.Question.{Question, number}
+use Rattle.records.specs.Gate.Question.Question.{of-event}
+use Rattle.terms.specs.Theory.Outcome.{Unified, unified-under}
+use Rattle.terms.specs.Unifier.Equality.{Answered}
 use Rattle.terms.specs.declared.equality.UnifierAnswer.{UnifierAnswer}
 use Rattle.terms_cases.specs.declared.unify.Unifying.{Unifying}
 use Rattle.terms_cases.specs.declared.unify.Unifying.the-variants.{Refused, NoEquality, Answered as TheAnswer}

@@ -4,26 +4,26 @@ use mathlib.Core.List.{List}
 use native.Mathlib.Omega.{arith}
 use Prim.Native.Nat.{ℕ, _+_, _≤_}
 use lib.ListN.{length}
-use Rattle.records.specs.Syntax.{Goal, Ancestor, Bet, Port, Event}
-use Rattle.records.specs.Syntax.Goal.{truth, failure, equal, conj, disj, atom}
-use Rattle.records.specs.Syntax.Event.{event}
-use Rattle.records.specs.Encode.{term-bytes}
-use Rattle.records.specs.Heads.{goal-head-at}
-use Rattle.records.specs.HeadLaws.{Known, bytes-all}
-use Rattle.records.specs.Gate.{Reading, Accepted, verdict, event-number, read-event}
-use Rattle.records.specs.Gate.Reading.{tree}
-use Rattle.records.specs.GateLaws.{event-tree}
-use Rattle.records.specs.Places.{goal-end, event-places}
-use Rattle.records.specs.Stands.{head-of-goal}
-use Rattle.records.specs.Walk.{end-at}
+use Rattle.records.specs.Format.Syntax.{Goal, Ancestor, Bet, Port, Event}
+use Rattle.records.specs.Format.Syntax.Goal.{truth, failure, equal, conj, disj, atom}
+use Rattle.records.specs.Format.Syntax.Event.{event}
+use Rattle.records.specs.Format.Encode.{term-bytes}
+use Rattle.records.specs.Format.Heads.{goal-head-at}
+use Rattle.records.specs.Format.HeadLaws.{Known, bytes-all}
+use Rattle.records.specs.Gate.Gate.{Reading, Accepted, verdict, event-number, read-event}
+use Rattle.records.specs.Gate.Gate.Reading.{tree}
+use Rattle.records.specs.Gate.GateLaws.{event-tree}
+use Rattle.records.specs.Ends.Places.{goal-end, event-places}
+use Rattle.records.specs.Ends.Stands.{head-of-goal}
+use Rattle.records.specs.Ends.Walk.{end-at}
 use Rattle.records.specs.declared.ends.Found.the-variants.{At, Nothing}
 use Rattle.records.specs.declared.places.Places.{Places}
-use Rattle.terms.specs.Accepted.{bets-at, accepted-bets, left-side, right-side, bets-moved, term-moved}
-use Rattle.terms.specs.AcceptedLaws.{event-refused, goal-told, left-ends}
-use Rattle.terms.specs.Applied.{TermAt}
-use Rattle.terms.specs.BetRow.{Bets}
-use Rattle.terms.specs.Outcome.{unified-under}
-use Rattle.terms.specs.Equality.{Answered}
+use Rattle.terms.specs.Standing.Accepted.{bets-at, accepted-bets, left-side, right-side, bets-moved, term-moved}
+use Rattle.terms.specs.Standing.AcceptedLaws.{event-refused, goal-told, left-ends}
+use Rattle.terms.specs.Values.Applied.{TermAt}
+use Rattle.terms.specs.Standing.BetRow.{Bets}
+use Rattle.terms.specs.Theory.Outcome.{unified-under}
+use Rattle.terms.specs.Unifier.Equality.{Answered}
 use Rattle.terms.specs.declared.equality.UnifierAnswer.{UnifierAnswer}
 use Rattle.terms_cases.specs.Kinds.{kind-of}
 use Rattle.terms_cases.specs.Equalities.{other, goal-equality, equality-of, EqualityAt, equality-event, Replied}

@@ -10,10 +10,10 @@ use records::places::event_places;
 use terms::body::BodyAnswer;
 use terms::body::atom_body;
 use terms::variables::Frame;
-ghost use Rattle.records.specs.Gate.{read-program, read-event};
-ghost use Rattle.terms.specs.Definitions.{ProgramAt};
-ghost use Rattle.terms.specs.Body.{body};
-ghost use Rattle.terms.specs.BodyBytes.{Answered};
+ghost use Rattle.records.specs.Gate.Gate.{read-program, read-event};
+ghost use Rattle.terms.specs.Body.Definitions.{ProgramAt};
+ghost use Rattle.terms.specs.Body.Body.{body};
+ghost use Rattle.terms.specs.Body.BodyBytes.{Answered};
 ghost use Rattle.terms_cases.specs.Bodies.{AtomGoal, Replied, body-case};
 
 // The number that refuses a record; the event's goal is no atom; or the answer.

@@ -10,7 +10,7 @@ use records::places::event_places;
 use records::put::Range;
 use terms::equality::UnifierAnswer;
 use terms::equality::unifier_under;
-ghost use Rattle.records.specs.Gate.{read-event};
+ghost use Rattle.records.specs.Gate.Gate.{read-event};
 ghost use Rattle.terms_cases.specs.Equalities.{EqualityAt, Replied, equality-of};
 
 // The number that refuses the event; its goal is no equality; or the answer.

@@ -7,9 +7,9 @@ use native.Mathlib.Omega.{arith}
 use native.Mathlib.Decide.{decLe}
 use lib.ListN.{length, take, drop}
 use lib.Seq.{take-take}
-use Rattle.records.specs.Question.{Asked}
-use Rattle.records.specs.Gate.{refused, read-program}
-use Rattle.stepper.specs.Services.{reading}
+use Rattle.records.specs.Gate.Question.{Asked}
+use Rattle.records.specs.Gate.Gate.{refused, read-program}
+use Rattle.stepper.specs.Services.Services.{reading}
 use Rattle.walk_text.specs.Input.{bytes-named, taken}
 use Rattle.walk_text.specs.InputLaws.{named-field, taken-length, taken-front}
 use Rattle.walk_text.specs.Text.{text, printed}

@@ -4,8 +4,8 @@ use mathlib.Core.Path.{_≡_}
 use mathlib.Core.List.{List}
 use Prim.Native.Nat.{ℕ, _+_, _≤_}
 use lib.ListN.{length, take}
-use Rattle.records.specs.Question.{Asked}
-use Rattle.records.specs.Gate.{refused, Accepted, read-program}
+use Rattle.records.specs.Gate.Question.{Asked}
+use Rattle.records.specs.Gate.Gate.{refused, Accepted, read-program}
 use Rattle.walk_text.specs.Input.{bytes-named}
 
 -- a call that may read `most` bytes answered n. All that holds of such a count is its bound, so a program that makes one up meets a contract as well:

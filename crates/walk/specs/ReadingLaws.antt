@@ -6,10 +6,10 @@ use Prim.Native.Nat.{ℕ, _+_, _≤_}
 use native.Mathlib.Omega.{arith}
 use lib.ListN.{take}
 use lib.Seq.{take-take}
-use Rattle.records.specs.Syntax.{Definition}
-use Rattle.records.specs.Question.{Asked}
-use Rattle.records.specs.Gate.{Reading, refused, tree, read-program, verdict, program-number}
-use Rattle.terms.specs.AcceptedLaws.{program-refused, program-passed}
+use Rattle.records.specs.Format.Syntax.{Definition}
+use Rattle.records.specs.Gate.Question.{Asked}
+use Rattle.records.specs.Gate.Gate.{Reading, refused, tree, read-program, verdict, program-number}
+use Rattle.terms.specs.Standing.AcceptedLaws.{program-refused, program-passed}
 use Rattle.walk_text.specs.Input.{bytes-named}
 use Rattle.walk_text.specs.InputLaws.{named-most}
 use Rattle.walk.specs.Reading.{delivered-most, PartRead, RecordRead, QueryRead}

@@ -8,21 +8,21 @@ use native.Mathlib.Omega.{arith}
 use lib.Dec.{eqb}
 use lib.ListN.{take}
 use borrow.Author.Tests.{ne-eqb}
-use Rattle.records.specs.Syntax.{Event}
-use Rattle.records.specs.Encode.{event-record}
-use Rattle.records.specs.HeadLaws.{Known, bytes-all}
-use Rattle.records.specs.Gate.{tree, read-event}
+use Rattle.records.specs.Format.Syntax.{Event}
+use Rattle.records.specs.Format.Encode.{event-record}
+use Rattle.records.specs.Format.HeadLaws.{Known, bytes-all}
+use Rattle.records.specs.Gate.Gate.{tree, read-event}
 use Rattle.records.specs.declared.places.PartEnds.{PartEnds}
 use Rattle.stepper.specs.declared.emit.Moved.{Moved}
-use Rattle.stepper.specs.Machine.{Machine, Answer, refused, gives}
-use Rattle.stepper.specs.Rules.{step-forward, step}
-use Rattle.stepper.specs.Walk.{forward}
-use Rattle.stepper.specs.Services.{machine, reply}
-use Rattle.stepper.specs.ServiceLaws.{Recordable, limit-fits, number-positive}
-use Rattle.stepper.specs.Desk.{layers, lawful}
-use Rattle.stepper.specs.Stepped.{Passed}
-use Rattle.stepper.specs.Running.{Turned}
-use Rattle.stepper.specs.RunningLaws.{bytes-take, next-recordable}
+use Rattle.stepper.specs.Rules.Machine.{Machine, Answer, refused, gives}
+use Rattle.stepper.specs.Rules.Rules.{step-forward, step}
+use Rattle.stepper.specs.Walks.Walk.{forward}
+use Rattle.stepper.specs.Services.Services.{machine, reply}
+use Rattle.stepper.specs.Services.ServiceLaws.{Recordable, limit-fits, number-positive}
+use Rattle.stepper.specs.Services.Desk.{layers, lawful}
+use Rattle.stepper.specs.Step.Stepped.{Passed}
+use Rattle.stepper.specs.Run.Running.{Turned}
+use Rattle.stepper.specs.Run.RunningLaws.{bytes-take, next-recordable}
 use Rattle.walk_text.specs.Walked.{step-limit}
 use Rattle.walk_text.specs.WalkedLaws.{after-last, after-refused, after-given}
 use Rattle.walk_text.specs.Page.{Onward, Advanced}

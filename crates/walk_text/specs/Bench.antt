@@ -6,22 +6,22 @@ use native.Mathlib.Decide.{ℕ-discrete, decLt}
 use Prim.Native.Nat.{ℕ, _≤_}
 use lib.ListN.{length, drop}
 use borrow.Author.Tests.{le-ltb}
-use Rattle.records.specs.Syntax.{Term, var, app, nil, cons, Goal, truth, equal, conj, disj, atom, first, second, in-conj, in-disj, called, bind, unifier, or, by, exit, fail, redo, Event, event, goal?, definition}
-use Rattle.records.specs.Encode.{record-of, event-record, program-record, clauses-record}
-use Rattle.records.specs.RecordRules.{unifier-rules, event-rules, program-rules}
-use Rattle.records.specs.Reader.{read}
-use Rattle.records.specs.Items.{many, read-counted, read-goal, read-ancestor, read-binding, read-bet, read-definition, read-stacks, read-frame, read-event-bytes}
-use Rattle.records.specs.Gate.{framed, of-version, read-record}
-use Rattle.terms.specs.Substitution.{apply}
-use Rattle.terms.specs.Unify.{unify}
-use Rattle.terms.specs.Outcome.{value-under, unified-under}
-use Rattle.terms.specs.Body.{next-variable, definition-of, body}
-use Rattle.stepper.specs.Rules.{first-event}
-use Rattle.stepper.specs.Walk.{Direction, forward, back}
-use Rattle.stepper.specs.Services.{Reply, first-record, step-record, record-limit}
-use Rattle.stepper.specs.Run.{RunReply, run-record}
-use Rattle.stepper.specs.Desk.{layers}
-use Rattle.canonical.specs.Bench.{q-clauses, q-body, canonical-bytes, bench-bytes}
+use Rattle.records.specs.Format.Syntax.{Term, var, app, nil, cons, Goal, truth, equal, conj, disj, atom, first, second, in-conj, in-disj, called, bind, unifier, or, by, exit, fail, redo, Event, event, goal?, definition}
+use Rattle.records.specs.Format.Encode.{record-of, event-record, program-record, clauses-record}
+use Rattle.records.specs.Gate.RecordRules.{unifier-rules, event-rules, program-rules}
+use Rattle.records.specs.Format.Reader.{read}
+use Rattle.records.specs.Format.Items.{many, read-counted, read-goal, read-ancestor, read-binding, read-bet, read-definition, read-stacks, read-frame, read-event-bytes}
+use Rattle.records.specs.Gate.Gate.{framed, of-version, read-record}
+use Rattle.terms.specs.Theory.Substitution.{apply}
+use Rattle.terms.specs.Theory.Unify.{unify}
+use Rattle.terms.specs.Theory.Outcome.{value-under, unified-under}
+use Rattle.terms.specs.Body.Body.{next-variable, definition-of, body}
+use Rattle.stepper.specs.Rules.Rules.{first-event}
+use Rattle.stepper.specs.Walks.Walk.{Direction, forward, back}
+use Rattle.stepper.specs.Services.Services.{Reply, first-record, step-record, record-limit}
+use Rattle.stepper.specs.Run.Run.{RunReply, run-record}
+use Rattle.stepper.specs.Services.Desk.{layers}
+use Rattle.canonical.specs.Form.Bench.{q-clauses, q-body, canonical-bytes, bench-bytes}
 
 -- the bytes that a service writes, and those after them as they were
 abbrev written : List ℕ → List ℕ → List ℕ

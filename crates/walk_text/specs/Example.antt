@@ -3,19 +3,19 @@ use mathlib.Core.Path.{_≡_, refl}
 use mathlib.Core.List.{List, [], _∷_, _++_}
 use native.Mathlib.Decide.{ℕ-discrete, decLt}
 use Prim.Native.Nat.{ℕ}
-use Rattle.records.specs.Question.{number}
-use Rattle.records.specs.Syntax.{nil, truth, called, redo, event, goal?}
-use Rattle.records.specs.Encode.{record-of}
-use Rattle.records.specs.RecordRules.{unifier-rules, program-rules}
-use Rattle.records.specs.Reader.{read}
-use Rattle.records.specs.Items.{many, read-counted, read-goal, read-definition}
-use Rattle.records.specs.Gate.{framed, of-version, read-record}
-use Rattle.terms.specs.Substitution.{apply}
-use Rattle.terms.specs.Unify.{unify}
-use Rattle.terms.specs.Outcome.{value-under, unified-under}
-use Rattle.terms.specs.Body.{next-variable, definition-of, body}
-use Rattle.stepper.specs.Rules.{fitting, first-event, on-room}
-use Rattle.stepper.specs.Services.{record-limit, reading, first-answer}
+use Rattle.records.specs.Gate.Question.{number}
+use Rattle.records.specs.Format.Syntax.{nil, truth, called, redo, event, goal?}
+use Rattle.records.specs.Format.Encode.{record-of}
+use Rattle.records.specs.Gate.RecordRules.{unifier-rules, program-rules}
+use Rattle.records.specs.Format.Reader.{read}
+use Rattle.records.specs.Format.Items.{many, read-counted, read-goal, read-definition}
+use Rattle.records.specs.Gate.Gate.{framed, of-version, read-record}
+use Rattle.terms.specs.Theory.Substitution.{apply}
+use Rattle.terms.specs.Theory.Unify.{unify}
+use Rattle.terms.specs.Theory.Outcome.{value-under, unified-under}
+use Rattle.terms.specs.Body.Body.{next-variable, definition-of, body}
+use Rattle.stepper.specs.Rules.Rules.{fitting, first-event, on-room}
+use Rattle.stepper.specs.Services.Services.{record-limit, reading, first-answer}
 use Rattle.walk_text.specs.Walked.{after-line}
 use Rattle.walk_text.specs.Input.{bytes-named, taken}
 use Rattle.walk_text.specs.Text.{text, printed}

@@ -5,7 +5,7 @@ use mathlib.Core.List.{List, [], _∷_}
 use Prim.Native.Nat.{ℕ, _+_}
 use lib.Dec.{ltb}
 use lib.ListN.{take}
-use Rattle.records.specs.Heads.{joined}
+use Rattle.records.specs.Format.Heads.{joined}
 
 -- how many bytes follow the length field at an input's front: none where the input ends within it, or where it names more than a record has
 unfoldable pub bytes-named : List ℕ → ℕ

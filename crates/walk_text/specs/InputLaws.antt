@@ -7,7 +7,7 @@ use native.Mathlib.Omega.{arith}
 use borrow.Author.Tests.{lt-ltb, le-ltb, ltb-false}
 use lib.Dec.{ltb}
 use lib.ListN.{length, take, length-take}
-use Rattle.records.specs.Heads.{joined, word-at}
+use Rattle.records.specs.Format.Heads.{joined, word-at}
 use Rattle.records.specs.declared.heads.Word.{Word}
 use Rattle.records.specs.declared.heads.Word.the-variants.{Number, Short}
 use Rattle.walk_text.specs.Input.{bytes-named, taken}

@@ -5,7 +5,7 @@ use mathlib.Core.List.{List, [], _∷_, _++_}
 use Prim.Native.Nat.{ℕ, zero, suc, _+_, _/_, _%_}
 use lib.Dec.{ltb}
 use lib.ListN.{length}
-use Rattle.records.specs.Syntax.{Port, call, exit, fail, redo, Event, event}
+use Rattle.records.specs.Format.Syntax.{Port, call, exit, fail, redo, Event, event}
 
 -- what stands between fields
 abbrev pub blank : ℕ

@@ -4,12 +4,12 @@ use mathlib.Core.List.{List, [], _∷_, _++_}
 use Prim.Native.Nat.{ℕ, _+_}
 use native.Mathlib.Omega.{arith}
 use lib.ListN.{length}
-use Rattle.records.specs.Syntax.{Port, call, exit, fail, redo, Event, event}
-use Rattle.records.specs.Encode.{port-byte}
-use Rattle.records.specs.Items.{port-of}
-use Rattle.records.specs.Reader.{found}
-use Rattle.records.specs.Patched.{Put, put-then}
-use Rattle.records.specs.Places.{event-places}
+use Rattle.records.specs.Format.Syntax.{Port, call, exit, fail, redo, Event, event}
+use Rattle.records.specs.Format.Encode.{port-byte}
+use Rattle.records.specs.Format.Items.{port-of}
+use Rattle.records.specs.Format.Reader.{found}
+use Rattle.records.specs.Writing.Patched.{Put, put-then}
+use Rattle.records.specs.Ends.Places.{event-places}
 use Rattle.records.specs.declared.places.Places.{Places}
 use Rattle.io.specs.Digits.{digits, Fewest}
 use Rattle.walk_text.specs.Line.{decimal, blank, field, line-feed, port-word, line-bytes}

@@ -4,13 +4,13 @@ use mathlib.Core.Bool.{true, false}
 use mathlib.Core.List.{List, _++_}
 use Prim.Native.Nat.{ℕ, _+_, _*_, _≤_, _<_}
 use lib.ListN.{length, take}
-use Rattle.records.specs.Syntax.{Event}
-use Rattle.records.specs.Gate.{tree, read-event}
-use Rattle.records.specs.Patched.{Put}
-use Rattle.records.specs.Places.{part-ends}
+use Rattle.records.specs.Format.Syntax.{Event}
+use Rattle.records.specs.Gate.Gate.{tree, read-event}
+use Rattle.records.specs.Writing.Patched.{Put}
+use Rattle.records.specs.Ends.Places.{part-ends}
 use Rattle.records.specs.declared.places.PartEnds.{PartEnds}
-use Rattle.stepper.specs.Machine.{Machine}
-use Rattle.stepper.specs.Stepped.{Passed}
+use Rattle.stepper.specs.Rules.Machine.{Machine}
+use Rattle.stepper.specs.Step.Stepped.{Passed}
 use Rattle.walk_text.specs.Line.{stop-bytes}
 use Rattle.walk_text.specs.Walked.{step-limit, rest-of-text, text-from}
 use Rattle.walk_text.specs.declared.page.Next.{Next}

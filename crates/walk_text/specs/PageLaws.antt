@@ -5,14 +5,14 @@ use mathlib.Core.List.{List, [], _++_, append-assoc}
 use Prim.Native.Nat.{ℕ, _+_, _*_, _≤_, _<_}
 use native.Mathlib.Omega.{arith}
 use lib.ListN.{length, take}
-use Rattle.records.specs.Syntax.{Event}
-use Rattle.records.specs.Gate.{Accepted, tree, read-event}
-use Rattle.records.specs.Patched.{Put, put-none, put-then}
-use Rattle.stepper.specs.Machine.{Machine}
+use Rattle.records.specs.Format.Syntax.{Event}
+use Rattle.records.specs.Gate.Gate.{Accepted, tree, read-event}
+use Rattle.records.specs.Writing.Patched.{Put, put-none, put-then}
+use Rattle.stepper.specs.Rules.Machine.{Machine}
 use Rattle.records.specs.declared.places.PartEnds.{PartEnds}
-use Rattle.stepper.specs.Stepped.{Passed}
-use Rattle.stepper.specs.View.{EndsOf}
-use Rattle.stepper.specs.ViewLaws.{ends-known}
+use Rattle.stepper.specs.Step.Stepped.{Passed}
+use Rattle.stepper.specs.Plans.View.{EndsOf}
+use Rattle.stepper.specs.Plans.ViewLaws.{ends-known}
 use Rattle.walk_text.specs.Line.{line-bytes}
 use Rattle.walk_text.specs.Walked.{step-limit, rest-of-text, text-from}
 use Rattle.walk_text.specs.Page.{Walking, Onward, PageFilling, Filled}

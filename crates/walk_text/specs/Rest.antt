@@ -4,11 +4,11 @@ use mathlib.Core.Bool.{Bool, true, false}
 use mathlib.Core.List.{List, [], _++_}
 use Prim.Native.Nat.{ℕ, suc, _-_, _≤_, _<_, min}
 use lib.ListN.{length, take}
-use Rattle.records.specs.Question.{of-program, of-event}
-use Rattle.records.specs.Gate.{read-program, read-event}
-use Rattle.records.specs.Patched.{Put}
-use Rattle.stepper.specs.Services.{machine, reading}
-use Rattle.stepper.specs.Desk.{layers}
+use Rattle.records.specs.Gate.Question.{of-program, of-event}
+use Rattle.records.specs.Gate.Gate.{read-program, read-event}
+use Rattle.records.specs.Writing.Patched.{Put}
+use Rattle.stepper.specs.Services.Services.{machine, reading}
+use Rattle.stepper.specs.Services.Desk.{layers}
 use Rattle.walk_text.specs.Walked.{step-limit, text-from}
 use Rattle.walk_text.specs.Text.{refused-text, text}
 use Rattle.walk_text.specs.declared.text.Stage.{Stage}

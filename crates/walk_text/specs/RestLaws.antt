@@ -6,16 +6,16 @@ use Prim.Native.Nat.{ℕ, suc, _+_, _-_, _≤_, _<_, min}
 use native.Mathlib.Nat.{zero-add}
 use native.Mathlib.Omega.{arith}
 use lib.ListN.{length, take}
-use Rattle.records.specs.Syntax.{Event, Definition}
-use Rattle.records.specs.Question.{number}
-use Rattle.records.specs.Gate.{Reading, tree, read-program, read-event, verdict, program-number}
-use Rattle.records.specs.Patched.{Put, part-patched, put-none, put-length}
-use Rattle.terms.specs.AcceptedLaws.{program-refused}
-use Rattle.stepper.specs.Machine.{Answer, refused, gives}
-use Rattle.stepper.specs.Services.{machine, reading, reply, first-answer, first-record}
-use Rattle.stepper.specs.Desk.{layers}
-use Rattle.stepper.specs.Replied.{Replied}
-use Rattle.stepper.specs.Stepped.{Passed, gate-number}
+use Rattle.records.specs.Format.Syntax.{Event, Definition}
+use Rattle.records.specs.Gate.Question.{number}
+use Rattle.records.specs.Gate.Gate.{Reading, tree, read-program, read-event, verdict, program-number}
+use Rattle.records.specs.Writing.Patched.{Put, part-patched, put-none, put-length}
+use Rattle.terms.specs.Standing.AcceptedLaws.{program-refused}
+use Rattle.stepper.specs.Rules.Machine.{Answer, refused, gives}
+use Rattle.stepper.specs.Services.Services.{machine, reading, reply, first-answer, first-record}
+use Rattle.stepper.specs.Services.Desk.{layers}
+use Rattle.stepper.specs.Services.Replied.{Replied}
+use Rattle.stepper.specs.Step.Stepped.{Passed, gate-number}
 use Rattle.walk_text.specs.Line.{stop-bytes}
 use Rattle.walk_text.specs.Walked.{step-limit, text-from}
 use Rattle.walk_text.specs.Page.{Filled}

@@ -5,13 +5,13 @@ use mathlib.Core.List.{List, [], _++_, append-nil, append-assoc}
 use mathlib.Core.Option.{Option, none, some}
 use Prim.Native.Nat.{ℕ, zero, suc, _+_}
 use native.Mathlib.Nat.{add-zero, zero-add, add-suc, suc-add}
-use Rattle.records.specs.Syntax.{Event}
-use Rattle.records.specs.Question.{Question}
-use Rattle.stepper.specs.Machine.{Machine, Answer, refused, gives}
-use Rattle.stepper.specs.Rules.{step, step-forward}
-use Rattle.stepper.specs.Run.{Ran, run, stop-number}
-use Rattle.stepper.specs.RunLaws.{later, run-start, run-step, run-stop, run-end}
-use Rattle.stepper.specs.Walk.{forward}
+use Rattle.records.specs.Format.Syntax.{Event}
+use Rattle.records.specs.Gate.Question.{Question}
+use Rattle.stepper.specs.Rules.Machine.{Machine, Answer, refused, gives}
+use Rattle.stepper.specs.Rules.Rules.{step, step-forward}
+use Rattle.stepper.specs.Run.Run.{Ran, run, stop-number}
+use Rattle.stepper.specs.Run.RunLaws.{later, run-start, run-step, run-stop, run-end}
+use Rattle.stepper.specs.Walks.Walk.{forward}
 use Rattle.walk_text.specs.Line.{line-bytes, stop-bytes}
 use Rattle.walk_text.specs.Walked.{step-limit, after-line, text-from}
 use Rattle.walk_text.specs.WalkedLaws.{after-last, after-refused, after-given}

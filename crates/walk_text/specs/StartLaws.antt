@@ -7,20 +7,20 @@ use native.Mathlib.Omega.{arith}
 use lib.Dec.{ltb}
 use lib.ListN.{length, take, drop, length-append}
 use lib.Seq.{take-at}
-use Rattle.records.specs.Syntax.{Goal, Definition}
-use Rattle.records.specs.Encode.{goal-bytes, event-bytes, record-of, event-record}
-use Rattle.records.specs.HeadLaws.{Known, bytes-all}
-use Rattle.records.specs.Gate.{tree, read-program, read-query, read-event}
-use Rattle.records.specs.GateLaws.{query-tree}
-use Rattle.records.specs.Emitted.{length-record-of}
-use Rattle.stepper.specs.Machine.{gives}
-use Rattle.stepper.specs.Rules.{fitting, first-event, on-room}
-use Rattle.stepper.specs.Answers.{fitting-put, room-gives}
-use Rattle.stepper.specs.Services.{Start, record-limit, reply, reading, first-answer, first-record}
-use Rattle.stepper.specs.ServiceLaws.{Recordable, limit-fits, done-gives, done-reads, start-record}
-use Rattle.stepper.specs.Desk.{layers, lawful}
-use Rattle.stepper.specs.Replied.{Replied}
-use Rattle.stepper.specs.Stepped.{Passed}
+use Rattle.records.specs.Format.Syntax.{Goal, Definition}
+use Rattle.records.specs.Format.Encode.{goal-bytes, event-bytes, record-of, event-record}
+use Rattle.records.specs.Format.HeadLaws.{Known, bytes-all}
+use Rattle.records.specs.Gate.Gate.{tree, read-program, read-query, read-event}
+use Rattle.records.specs.Gate.GateLaws.{query-tree}
+use Rattle.records.specs.Writing.Emitted.{length-record-of}
+use Rattle.stepper.specs.Rules.Machine.{gives}
+use Rattle.stepper.specs.Rules.Rules.{fitting, first-event, on-room}
+use Rattle.stepper.specs.Rules.Answers.{fitting-put, room-gives}
+use Rattle.stepper.specs.Services.Services.{Start, record-limit, reply, reading, first-answer, first-record}
+use Rattle.stepper.specs.Services.ServiceLaws.{Recordable, limit-fits, done-gives, done-reads, start-record}
+use Rattle.stepper.specs.Services.Desk.{layers, lawful}
+use Rattle.stepper.specs.Services.Replied.{Replied}
+use Rattle.stepper.specs.Step.Stepped.{Passed}
 
 -- the first bytes of an output read as the first event of a query
 pub record Begun (query : List ℕ) (room : ℕ) (after : List ℕ) : Type 0 where

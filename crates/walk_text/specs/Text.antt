@@ -3,10 +3,10 @@
 use mathlib.Core.List.{List}
 use Prim.Native.Nat.{ℕ}
 use lib.ListN.{length, drop}
-use Rattle.records.specs.Question.{Question, of-program, number}
-use Rattle.records.specs.Gate.{read-program}
-use Rattle.stepper.specs.Services.{machine, reading, first-answer}
-use Rattle.stepper.specs.Desk.{layers}
+use Rattle.records.specs.Gate.Question.{Question, of-program, number}
+use Rattle.records.specs.Gate.Gate.{read-program}
+use Rattle.stepper.specs.Services.Services.{machine, reading, first-answer}
+use Rattle.stepper.specs.Services.Desk.{layers}
 use Rattle.walk_text.specs.Line.{stop-bytes}
 use Rattle.walk_text.specs.Walked.{answer-text, text-from}
 use Rattle.walk_text.specs.Input.{taken}

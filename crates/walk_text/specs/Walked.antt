@@ -1,10 +1,10 @@
 -- What the walk program prints of a walk: "a line per event", at most 100,000 steps, "then "stop" and the number (0 at 100,000)" (document 01).
 use mathlib.Core.List.{List, _++_}
 use Prim.Native.Nat.{ℕ, zero, suc, _-_}
-use Rattle.records.specs.Syntax.{Event}
-use Rattle.records.specs.Question.{number}
-use Rattle.stepper.specs.Machine.{Machine, Answer, refused, gives}
-use Rattle.stepper.specs.Rules.{step-forward}
+use Rattle.records.specs.Format.Syntax.{Event}
+use Rattle.records.specs.Gate.Question.{number}
+use Rattle.stepper.specs.Rules.Machine.{Machine, Answer, refused, gives}
+use Rattle.stepper.specs.Rules.Rules.{step-forward}
 use Rattle.walk_text.specs.Line.{line-bytes, stop-bytes}
 
 -- a walk makes at most so many steps

@@ -2,10 +2,10 @@
 use mathlib.Core.Path.{_≡_, refl}
 use mathlib.Core.List.{List, _++_}
 use Prim.Native.Nat.{ℕ, zero, suc}
-use Rattle.records.specs.Syntax.{Event}
-use Rattle.records.specs.Question.{Question, number}
-use Rattle.stepper.specs.Machine.{Machine, refused, gives}
-use Rattle.stepper.specs.Rules.{step-forward}
+use Rattle.records.specs.Format.Syntax.{Event}
+use Rattle.records.specs.Gate.Question.{Question, number}
+use Rattle.stepper.specs.Rules.Machine.{Machine, refused, gives}
+use Rattle.stepper.specs.Rules.Rules.{step-forward}
 use Rattle.walk_text.specs.Line.{line-bytes, stop-bytes}
 use Rattle.walk_text.specs.Walked.{after-line}
 

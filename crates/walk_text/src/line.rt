@@ -10,11 +10,11 @@ ghost use mathlib.Core.Path.{_≡_};
 ghost use mathlib.Core.List.{[], _∷_, _++_};
 ghost use Prim.Native.Nat.{_+_, _≤_};
 ghost use lib.ListN.{length};
-ghost use Rattle.records.specs.Syntax.{Port, Event};
-ghost use Rattle.records.specs.Encode.{port-byte};
-ghost use Rattle.records.specs.Gate.{Accepted, tree, read-event};
-ghost use Rattle.records.specs.Patched.{Put};
-ghost use Rattle.stepper.specs.View.{EndsOf};
+ghost use Rattle.records.specs.Format.Syntax.{Port, Event};
+ghost use Rattle.records.specs.Format.Encode.{port-byte};
+ghost use Rattle.records.specs.Gate.Gate.{Accepted, tree, read-event};
+ghost use Rattle.records.specs.Writing.Patched.{Put};
+ghost use Rattle.stepper.specs.Plans.View.{EndsOf};
 ghost use Rattle.walk_text.specs.Line.{decimal, field, line-feed, port-word, line-bytes, stop-bytes};
 
 // A number in decimal; one of 64 bits has 20 digits at most.

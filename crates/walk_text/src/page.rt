@@ -6,10 +6,10 @@ use records::places::part_ends;
 use stepper::run::turn;
 ghost use Prim.Native.Nat.{_≤_};
 ghost use lib.ListN.{length, take};
-ghost use Rattle.stepper.specs.Services.{machine};
-ghost use Rattle.stepper.specs.Desk.{layers};
-ghost use Rattle.stepper.specs.Stepped.{Passed};
-ghost use Rattle.stepper.specs.View.{EndsOf};
+ghost use Rattle.stepper.specs.Services.Services.{machine};
+ghost use Rattle.stepper.specs.Services.Desk.{layers};
+ghost use Rattle.stepper.specs.Step.Stepped.{Passed};
+ghost use Rattle.stepper.specs.Plans.View.{EndsOf};
 ghost use Rattle.walk_text.specs.Walked.{step-limit};
 ghost use Rattle.walk_text.specs.Page.{Ready, Advanced, Filled};
 

@@ -1,12 +1,12 @@
 -- `put_branch`: the equations before x are written; after the last one the goal is left.
 use native.Mathlib.Omega.{arith}
 use Prim.Native.Nat.{_-_}
-use Rattle.records.specs.Encode.{goal-bytes}
-use Rattle.records.specs.Patched.{put-length}
-use Rattle.canonical.specs.Canonical.{branch}
-use Rattle.canonical.specs.Clauses.{clause-at}
-use Rattle.canonical.specs.ClausesLaws.{clause-within, head-read, head-unread}
-use Rattle.canonical.specs.BranchLaws.{Equating, equating-start, equating-on, equating-room, equating-next, goal-on, goal-room, equating-end}
+use Rattle.records.specs.Format.Encode.{goal-bytes}
+use Rattle.records.specs.Writing.Patched.{put-length}
+use Rattle.canonical.specs.Form.Canonical.{branch}
+use Rattle.canonical.specs.Sorting.Clauses.{clause-at}
+use Rattle.canonical.specs.Sorting.ClausesLaws.{clause-within, head-read, head-unread}
+use Rattle.canonical.specs.Writing.BranchLaws.{Equating, equating-start, equating-on, equating-room, equating-next, goal-on, goal-room, equating-end}
 use borrow.Author.Needs.{needs}
 use Rattle.canonical.proofs.branch.put_branch.Statement.{statement}
 use Rattle.canonical.proofs.branch.put_branch.Tie as tie

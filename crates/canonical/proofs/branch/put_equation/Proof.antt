@@ -1,9 +1,9 @@
 -- `put_equation`: two kind bytes, the variable and the term, one after the other.
 use native.Mathlib.Omega.{arith}
-use Rattle.canonical.specs.RenamingLaws.{equation-length, equation-passes}
-use Rattle.records.specs.Patched.{put-length}
-use Rattle.canonical.specs.Renaming.{renamed}
-use Rattle.records.specs.Walk.{walk}
+use Rattle.canonical.specs.Writing.RenamingLaws.{equation-length, equation-passes}
+use Rattle.records.specs.Writing.Patched.{put-length}
+use Rattle.canonical.specs.Writing.Renaming.{renamed}
+use Rattle.records.specs.Ends.Walk.{walk}
 use borrow.Author.Needs.{needs}
 use Rattle.canonical.proofs.branch.put_equation.Statement.{statement}
 use Rattle.canonical.proofs.branch.put_equation.Tie as tie

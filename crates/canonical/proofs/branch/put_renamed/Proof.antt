@@ -2,9 +2,9 @@
 use native.Mathlib.Omega.{arith}
 use Prim.Native.Nat.{_-_}
 use lib.ListN.{length}
-use Rattle.records.specs.Steps.{walk-from}
-use Rattle.canonical.specs.Filling.{filling-length}
-use Rattle.canonical.specs.RenamingLaws.{Renaming, renaming-start, renaming-variable, variable-room, variable-less, renaming-other, other-inside, other-room, other-less, renaming-done}
+use Rattle.records.specs.Ends.Steps.{walk-from}
+use Rattle.canonical.specs.Writing.Filling.{filling-length}
+use Rattle.canonical.specs.Writing.RenamingLaws.{Renaming, renaming-start, renaming-variable, variable-room, variable-less, renaming-other, other-inside, other-room, other-less, renaming-done}
 use borrow.Author.Needs.{needs}
 use Rattle.canonical.proofs.branch.put_renamed.Statement.{statement}
 use Rattle.canonical.proofs.branch.put_renamed.Tie as tie

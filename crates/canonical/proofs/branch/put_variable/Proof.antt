@@ -1,5 +1,5 @@
 -- `put_variable`: the kind byte, and then the number.
-use Rattle.records.specs.Patched.{put-then}
+use Rattle.records.specs.Writing.Patched.{put-then}
 use borrow.Author.Needs.{needs}
 use Rattle.canonical.proofs.branch.put_variable.Statement.{statement}
 use Rattle.canonical.proofs.branch.put_variable.Tie as tie

@@ -1,6 +1,6 @@
 -- `clause_size`: the clause's head and its end say how long its branch is.
 use native.Mathlib.Omega.{arith}
-use Rattle.canonical.specs.ClausesLaws.{clause-small, clause-within, head-read, head-unread, end-read, end-unread}
+use Rattle.canonical.specs.Sorting.ClausesLaws.{clause-small, clause-within, head-read, head-unread, end-read, end-unread}
 use borrow.Author.Needs.{needs}
 use Rattle.canonical.proofs.definition.clause_size.Statement.{statement}
 use Rattle.canonical.proofs.definition.clause_size.Tie as tie

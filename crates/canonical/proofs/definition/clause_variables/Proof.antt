@@ -1,5 +1,5 @@
 -- `clause_variables`: the clause's head says it.
-use Rattle.canonical.specs.ClausesLaws.{head-read, head-unread}
+use Rattle.canonical.specs.Sorting.ClausesLaws.{head-read, head-unread}
 use borrow.Author.Needs.{needs}
 use Rattle.canonical.proofs.definition.clause_variables.Statement.{statement}
 use Rattle.canonical.proofs.definition.clause_variables.Tie as tie

@@ -2,11 +2,11 @@
 use native.Mathlib.Omega.{arith}
 use Prim.Native.Nat.{_-_}
 use lib.ListN.{length}
-use Rattle.canonical.specs.Clauses.{clauses-in}
-use Rattle.canonical.specs.ClausesLaws.{run-clause}
-use Rattle.canonical.specs.Filling.{filling-length}
-use Rattle.canonical.specs.Joining.{branches-bytes}
-use Rattle.canonical.specs.JoiningLaws.{Branching, branching-start, branching-next, branching-room, branching-numbers, branching-end}
+use Rattle.canonical.specs.Sorting.Clauses.{clauses-in}
+use Rattle.canonical.specs.Sorting.ClausesLaws.{run-clause}
+use Rattle.canonical.specs.Writing.Filling.{filling-length}
+use Rattle.canonical.specs.Writing.Joining.{branches-bytes}
+use Rattle.canonical.specs.Writing.JoiningLaws.{Branching, branching-start, branching-next, branching-room, branching-numbers, branching-end}
 use borrow.Author.Needs.{needs}
 use Rattle.canonical.proofs.definition.put_branches.Statement.{statement}
 use Rattle.canonical.proofs.definition.put_branches.Tie as tie

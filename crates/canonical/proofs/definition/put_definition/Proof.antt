@@ -1,8 +1,8 @@
 -- `put_definition`: the first clause's head, the totals and the branches are the definition's parts.
 use native.Mathlib.Omega.{arith}
-use Rattle.records.specs.Patched.{put-length}
-use Rattle.canonical.specs.ClausesLaws.{run-clause, head-unread}
-use Rattle.canonical.specs.JoiningLaws.{arity-small, definition-size, definition-put}
+use Rattle.records.specs.Writing.Patched.{put-length}
+use Rattle.canonical.specs.Sorting.ClausesLaws.{run-clause, head-unread}
+use Rattle.canonical.specs.Writing.JoiningLaws.{arity-small, definition-size, definition-put}
 use borrow.Author.Needs.{needs}
 use Rattle.canonical.proofs.definition.put_definition.Statement.{statement}
 use Rattle.canonical.proofs.definition.put_definition.Tie as tie

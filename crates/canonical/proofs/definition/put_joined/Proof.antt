@@ -1,8 +1,8 @@
 -- `put_joined`: the flag says whether the joining byte is there.
 use native.Mathlib.Omega.{arith}
-use Rattle.records.specs.Patched.{put-then, put-length}
+use Rattle.records.specs.Writing.Patched.{put-then, put-length}
 use borrow.Author.Tests.{not-true, not-false}
-use Rattle.canonical.specs.JoiningLaws.{joined-last, joined-more}
+use Rattle.canonical.specs.Writing.JoiningLaws.{joined-last, joined-more}
 use borrow.Author.Needs.{needs}
 use Rattle.canonical.proofs.definition.put_joined.Statement.{statement}
 use Rattle.canonical.proofs.definition.put_joined.Tie as tie

@@ -2,8 +2,8 @@
 use native.Mathlib.Omega.{arith}
 use Prim.Native.Nat.{_-_}
 use lib.ListN.{length}
-use Rattle.canonical.specs.ClausesLaws.{run-clause}
-use Rattle.canonical.specs.SummingLaws.{Summing, summing-start, summing-next, summing-locals, summing-size, summing-end}
+use Rattle.canonical.specs.Sorting.ClausesLaws.{run-clause}
+use Rattle.canonical.specs.Writing.SummingLaws.{Summing, summing-start, summing-next, summing-locals, summing-size, summing-end}
 use borrow.Author.Needs.{needs}
 use Rattle.canonical.proofs.definition.run_totals.Statement.{statement}
 use Rattle.canonical.proofs.definition.run_totals.Tie as tie

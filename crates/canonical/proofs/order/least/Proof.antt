@@ -2,8 +2,8 @@ use Prim.Native.Nat.{_-_}
 use native.Mathlib.Omega.{arith}
 use lib.ListN.{length}
 use borrow.Author.Needs.{needs}
-use Rattle.canonical.specs.Entries.{top, least}
-use Rattle.canonical.specs.EntryLaws.{Scanning, scanning-start, scanning-next, scanning-end}
+use Rattle.canonical.specs.Sorting.Entries.{top, least}
+use Rattle.canonical.specs.Sorting.EntryLaws.{Scanning, scanning-start, scanning-next, scanning-end}
 use Rattle.canonical.proofs.order.least.Statement.{statement}
 use Rattle.canonical.proofs.order.least.Tie as tie
 

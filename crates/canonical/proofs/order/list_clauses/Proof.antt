@@ -3,8 +3,8 @@ use Prim.Native.Nat.{_-_}
 use native.Mathlib.Omega.{arith}
 use lib.ListN.{length, length-set}
 use borrow.Author.Needs.{needs}
-use Rattle.canonical.specs.Listing.{ClausesAt, entries, Listing}
-use Rattle.canonical.specs.ListingLaws.{listing-start, no-clause, no-end, listing-bound, listing-on, listing-end}
+use Rattle.canonical.specs.Sorting.Listing.{ClausesAt, entries, Listing}
+use Rattle.canonical.specs.Sorting.ListingLaws.{listing-start, no-clause, no-end, listing-bound, listing-on, listing-end}
 use Rattle.canonical.proofs.order.list_clauses.Statement.{statement}
 use Rattle.canonical.proofs.order.list_clauses.Tie as tie
 

@@ -2,8 +2,8 @@ use Prim.Native.Nat.{_+_, _-_}
 use native.Mathlib.Omega.{arith}
 use lib.ListN.{length, getD, drop}
 use borrow.Author.Needs.{needs}
-use Rattle.canonical.specs.Runs.{key-of, run-length}
-use Rattle.canonical.specs.RunLaws.{Running, running-start, running-next, running-other, running-end}
+use Rattle.canonical.specs.Sorting.Runs.{key-of, run-length}
+use Rattle.canonical.specs.Sorting.RunLaws.{Running, running-start, running-next, running-other, running-end}
 use Rattle.canonical.proofs.order.run_end.Statement.{statement}
 use Rattle.canonical.proofs.order.run_end.Tie as tie
 

@@ -3,8 +3,8 @@ use Prim.Native.Nat.{_-_}
 use native.Mathlib.Omega.{arith}
 use lib.ListN.{length}
 use borrow.Author.Needs.{needs}
-use Rattle.canonical.specs.Entries.{picked}
-use Rattle.canonical.specs.EntryLaws.{Picking, picking-start, picking-next, picking-end, pick-bound}
+use Rattle.canonical.specs.Sorting.Entries.{picked}
+use Rattle.canonical.specs.Sorting.EntryLaws.{Picking, picking-start, picking-next, picking-end, pick-bound}
 use Rattle.canonical.proofs.order.sort.Statement.{statement}
 use Rattle.canonical.proofs.order.sort.Tie as tie
 

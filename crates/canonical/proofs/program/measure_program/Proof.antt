@@ -2,8 +2,8 @@
 use native.Mathlib.Omega.{arith}
 use Prim.Native.Nat.{_-_}
 use lib.ListN.{length}
-use Rattle.canonical.specs.Remaining.{program-of}
-use Rattle.canonical.specs.SurveyLaws.{Surveying, surveying-start, surveying-run, surveying-bound, surveying-many, surveying-next, surveying-end}
+use Rattle.canonical.specs.Sorting.Remaining.{program-of}
+use Rattle.canonical.specs.Writing.SurveyLaws.{Surveying, surveying-start, surveying-run, surveying-bound, surveying-many, surveying-next, surveying-end}
 use borrow.Author.Needs.{needs}
 use Rattle.canonical.proofs.program.measure_program.Statement.{statement}
 use Rattle.canonical.proofs.program.measure_program.Tie as tie

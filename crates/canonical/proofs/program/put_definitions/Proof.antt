@@ -2,10 +2,10 @@
 use native.Mathlib.Omega.{arith}
 use Prim.Native.Nat.{_-_}
 use lib.ListN.{length}
-use Rattle.records.specs.Encode.{each, definition-bytes}
-use Rattle.canonical.specs.Filling.{filling-length}
-use Rattle.canonical.specs.Remaining.{program-of}
-use Rattle.canonical.specs.DefiningLaws.{Defining, defining-start, defining-run, defining-locals, defining-room, defining-next, defining-end}
+use Rattle.records.specs.Format.Encode.{each, definition-bytes}
+use Rattle.canonical.specs.Writing.Filling.{filling-length}
+use Rattle.canonical.specs.Sorting.Remaining.{program-of}
+use Rattle.canonical.specs.Writing.DefiningLaws.{Defining, defining-start, defining-run, defining-locals, defining-room, defining-next, defining-end}
 use borrow.Author.Needs.{needs}
 use Rattle.canonical.proofs.program.put_definitions.Statement.{statement}
 use Rattle.canonical.proofs.program.put_definitions.Tie as tie

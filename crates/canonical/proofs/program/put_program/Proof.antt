@@ -1,9 +1,9 @@
 -- `put_program`: what the measuring says of questions 9 and 10.
 use mathlib.Core.Path.{sym, ap, _∙_}
 use native.Mathlib.Omega.{arith}
-use Rattle.records.specs.Patched.{put-length}
-use Rattle.canonical.specs.Survey.{survey-refusal}
-use Rattle.canonical.specs.ReplyLaws.{measured, reply-refused, survey-fits, reply-whole}
+use Rattle.records.specs.Writing.Patched.{put-length}
+use Rattle.canonical.specs.Writing.Survey.{survey-refusal}
+use Rattle.canonical.specs.Writing.ReplyLaws.{measured, reply-refused, survey-fits, reply-whole}
 use borrow.Author.Needs.{needs}
 use Rattle.canonical.proofs.program.put_program.Statement.{statement}
 use Rattle.canonical.proofs.program.put_program.Tie as tie

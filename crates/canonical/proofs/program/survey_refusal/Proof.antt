@@ -1,5 +1,5 @@
 use native.Mathlib.Omega.{arith}
-use Rattle.canonical.specs.ReplyLaws.{survey-long, survey-short}
+use Rattle.canonical.specs.Writing.ReplyLaws.{survey-long, survey-short}
 use borrow.Author.Needs.{needs}
 use Rattle.canonical.proofs.program.survey_refusal.Statement.{statement}
 use Rattle.canonical.proofs.program.survey_refusal.Tie as tie

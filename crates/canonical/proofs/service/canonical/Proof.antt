@@ -1,8 +1,8 @@
 -- `canonical`: questions 1 to 4 by the gate's number, question 5, and then the program.
 use native.Mathlib.Omega.{arith}
 use mathlib.Core.Path.{ap, _∙_}
-use Rattle.records.specs.Gate.{program-number, read-clauses}
-use Rattle.canonical.specs.ReplyLaws.{replied-refused, number-accepted, replied-short, replied-made}
+use Rattle.records.specs.Gate.Gate.{program-number, read-clauses}
+use Rattle.canonical.specs.Writing.ReplyLaws.{replied-refused, number-accepted, replied-short, replied-made}
 use borrow.Author.Needs.{needs}
 use Rattle.canonical.proofs.service.canonical.Statement.{statement}
 use Rattle.canonical.proofs.service.canonical.Tie as tie

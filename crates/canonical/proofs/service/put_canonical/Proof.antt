@@ -1,7 +1,7 @@
 -- `put_canonical`: the record's count is the number of its clauses, and the tables have room for them.
 use native.Mathlib.Omega.{arith}
 use mathlib.Core.Path.{sym, _∙_}
-use Rattle.canonical.specs.AcceptedLaws.{clauses-few, count-read, count-unread, front-length}
+use Rattle.canonical.specs.Sorting.AcceptedLaws.{clauses-few, count-read, count-unread, front-length}
 use borrow.Author.Needs.{needs}
 use Rattle.canonical.proofs.service.put_canonical.Statement.{statement}
 use Rattle.canonical.proofs.service.put_canonical.Tie as tie

@@ -1,5 +1,5 @@
 -- `put_sorted`: the clauses' entries, listed and then sorted, have the whole program to make.
-use Rattle.canonical.specs.AcceptedLaws.{clauses-stand, ordered-remaining}
+use Rattle.canonical.specs.Sorting.AcceptedLaws.{clauses-stand, ordered-remaining}
 use borrow.Author.Needs.{needs}
 use Rattle.canonical.proofs.service.put_sorted.Statement.{statement}
 use Rattle.canonical.proofs.service.put_sorted.Tie as tie

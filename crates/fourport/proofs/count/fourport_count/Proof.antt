@@ -41,8 +41,8 @@ use denote.Triple.Table.{entered, cited}
 use denote.Triple.Walked.{says, Stays, stay-ref, stay-none-slice, walkOf, AllGo, goes-ref, goes-none-slice, Walks, ends-at, walked, walk-meets}
 use denote.Triple.Clauses.{ensured, lasts}
 use denote.Exit.{yes}
-use Rattle.stepper.specs.Counts.{count-record}
-use Rattle.stepper.specs.PortCounts.{counts-of, reply-of}
+use Rattle.stepper.specs.Services.Counts.{count-record}
+use Rattle.stepper.specs.Services.PortCounts.{counts-of, reply-of}
 use Rattle.stepper.specs.declared.counts.Counts.{Counts}
 use Rattle.stepper.specs.declared.counts.Counted.{Counted}
 use Rattle.stepper.proofs.counts.Counts as T

@@ -1,7 +1,7 @@
 -- `fourport_value` hands on what `value` answers; a value's length fits four bytes.
 use native.Mathlib.Omega.{arith}
 use lib.ListN.{length}
-use Rattle.records.specs.Gate.{read-event}
+use Rattle.records.specs.Gate.Gate.{read-event}
 use Rattle.fourport.specs.AnswerLaws.{value-short}
 use borrow.Author.Needs.{needs}
 use Rattle.fourport.proofs.look.fourport_value.Statement.{statement}

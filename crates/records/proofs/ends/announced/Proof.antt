@@ -1,5 +1,5 @@
 use mathlib.Core.Path.{sym, ap}
-use Rattle.records.specs.EndLaws.{announced}
+use Rattle.records.specs.Ends.EndLaws.{announced}
 use borrow.Author.Needs.{needs}
 use Rattle.records.proofs.ends.announced.Statement.{statement}
 use Rattle.records.proofs.ends.announced.Tie as tie

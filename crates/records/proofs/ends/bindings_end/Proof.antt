@@ -1,6 +1,6 @@
-use Rattle.records.specs.ItemEnds.{none-ends, more-ends, never-ends}
-use Rattle.records.specs.Walk.{end-of}
-use Rattle.records.specs.Items.{many, read-binding}
+use Rattle.records.specs.Ends.ItemEnds.{none-ends, more-ends, never-ends}
+use Rattle.records.specs.Ends.Walk.{end-of}
+use Rattle.records.specs.Format.Items.{many, read-binding}
 use mathlib.Core.Path.{_≡_, refl, sym, _∙_}
 use native.Mathlib.Omega.{arith}
 use borrow.Author.Needs.{needs}

@@ -1,6 +1,6 @@
 use Rattle.records.proofs.EndSteps.{no-goals}
-use Rattle.records.specs.EndLaws.{next-bound, next-on, next-off}
-use Rattle.records.specs.Walk.{end-at}
+use Rattle.records.specs.Ends.EndLaws.{next-bound, next-on, next-off}
+use Rattle.records.specs.Ends.Walk.{end-at}
 use lib.ListN.{length}
 use mathlib.Core.Path.{_≡_, refl, sym, _∙_}
 use native.Mathlib.Omega.{arith}

@@ -1,4 +1,4 @@
-use Rattle.records.specs.ItemEnds.{ancestor-item, bet-item, definition-item, clause-item}
+use Rattle.records.specs.Ends.ItemEnds.{ancestor-item, bet-item, definition-item, clause-item}
 use borrow.Author.Needs.{needs}
 use Rattle.records.proofs.ends.item_end.Statement.{statement}
 use Rattle.records.proofs.ends.item_end.Tie as tie

@@ -1,6 +1,6 @@
-use Rattle.records.specs.Rows.{ends-at}
-use Rattle.records.specs.GateEnds.{unframed, other-version, framed-length}
-use Rattle.records.specs.CountedEnds.{clauses-unread, clauses-judged}
+use Rattle.records.specs.Gate.Rows.{ends-at}
+use Rattle.records.specs.Gate.GateEnds.{unframed, other-version, framed-length}
+use Rattle.records.specs.Gate.CountedEnds.{clauses-unread, clauses-judged}
 use borrow.Author.Tests.{not-true, not-false}
 use mathlib.Core.Path.{sym, _∙_}
 use borrow.Author.Needs.{needs}

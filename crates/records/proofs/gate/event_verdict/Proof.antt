@@ -1,5 +1,5 @@
-use Rattle.records.specs.GateEnds.{unframed, other-version, framed-length}
-use Rattle.records.specs.EventEnds.{event-unread, event-judged}
+use Rattle.records.specs.Gate.GateEnds.{unframed, other-version, framed-length}
+use Rattle.records.specs.Gate.EventEnds.{event-unread, event-judged}
 use borrow.Author.Tests.{not-true, not-false}
 use mathlib.Core.Path.{sym, _∙_}
 use borrow.Author.Needs.{needs}

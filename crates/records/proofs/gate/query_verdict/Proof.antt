@@ -1,6 +1,6 @@
 use native.Mathlib.Omega.{arith}
-use Rattle.records.specs.GateEnds.{unframed, other-version, framed-length}
-use Rattle.records.specs.CountedEnds.{query-unread, query-judged}
+use Rattle.records.specs.Gate.GateEnds.{unframed, other-version, framed-length}
+use Rattle.records.specs.Gate.CountedEnds.{query-unread, query-judged}
 use borrow.Author.Tests.{not-true, not-false}
 use mathlib.Core.Path.{sym, _∙_}
 use borrow.Author.Needs.{needs}

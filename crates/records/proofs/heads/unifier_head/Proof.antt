@@ -1,5 +1,5 @@
 use mathlib.Core.Path.{sym, ap}
-use Rattle.records.specs.Heads.{unifier-head}
+use Rattle.records.specs.Format.Heads.{unifier-head}
 use borrow.Author.Needs.{needs}
 use Rattle.records.proofs.heads.unifier_head.Statement.{statement}
 use Rattle.records.proofs.heads.unifier_head.Tie as tie

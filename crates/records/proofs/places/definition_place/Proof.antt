@@ -1,6 +1,6 @@
 use Rattle.records.specs.declared.heads.Signature.the-variants.{Predicate}
-use Rattle.records.specs.Places.{definition-is, definition-none}
-use Rattle.records.specs.HeadRoom.{definition-room}
+use Rattle.records.specs.Ends.Places.{definition-is, definition-none}
+use Rattle.records.specs.Ends.HeadRoom.{definition-room}
 use native.Mathlib.Omega.{arith}
 use borrow.Author.Needs.{needs}
 use Rattle.records.proofs.places.definition_place.Statement.{statement}

@@ -1,6 +1,6 @@
-use Rattle.records.specs.Plan.{planned}
-use Rattle.records.specs.PlanLaws.{limited-long, limited-whole}
-use Rattle.records.specs.Emitted.{emitted-short, emitted-long, emitted-whole, put-record}
+use Rattle.records.specs.Writing.Plan.{planned}
+use Rattle.records.specs.Writing.PlanLaws.{limited-long, limited-whole}
+use Rattle.records.specs.Writing.Emitted.{emitted-short, emitted-long, emitted-whole, put-record}
 use borrow.Author.Needs.{needs}
 use Rattle.records.proofs.plan.emit_plan.Statement.{statement}
 use Rattle.records.proofs.plan.emit_plan.Tie as tie

@@ -1,5 +1,5 @@
 use native.Mathlib.Omega.{arith}
-use Rattle.records.specs.Range.{size}
+use Rattle.records.specs.Ends.Range.{size}
 use borrow.Author.Needs.{needs}
 use Rattle.records.proofs.plan.measure_range.Statement.{statement}
 use Rattle.records.proofs.plan.measure_range.Tie as tie

@@ -1,4 +1,4 @@
-use Rattle.records.specs.PlanLaws.{ends-measured}
+use Rattle.records.specs.Writing.PlanLaws.{ends-measured}
 use borrow.Author.Needs.{needs}
 use Rattle.records.proofs.plan.plan_ends.Statement.{statement}
 use Rattle.records.proofs.plan.plan_ends.Tie as tie

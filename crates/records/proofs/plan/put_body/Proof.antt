@@ -1,8 +1,8 @@
 use native.Mathlib.Omega.{arith}
 use lib.ListN.{length-append}
-use Rattle.records.specs.Patched.{put-then, put-room}
-use Rattle.records.specs.Plan.{planned-body, stack-bytes, stack-length}
-use Rattle.records.specs.PlanLaws.{length-piece, length-stack}
+use Rattle.records.specs.Writing.Patched.{put-then, put-room}
+use Rattle.records.specs.Writing.Plan.{planned-body, stack-bytes, stack-length}
+use Rattle.records.specs.Writing.PlanLaws.{length-piece, length-stack}
 use borrow.Author.Needs.{needs}
 use Rattle.records.proofs.plan.put_body.Statement.{statement}
 use Rattle.records.proofs.plan.put_body.Tie as tie

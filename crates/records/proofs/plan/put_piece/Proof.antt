@@ -1,6 +1,6 @@
-use Rattle.records.specs.Patched.{put-then}
-use Rattle.records.specs.Range.{size}
-use Rattle.records.specs.Plan.{piece-bytes}
+use Rattle.records.specs.Writing.Patched.{put-then}
+use Rattle.records.specs.Ends.Range.{size}
+use Rattle.records.specs.Writing.Plan.{piece-bytes}
 use borrow.Author.Needs.{needs}
 use Rattle.records.proofs.plan.put_piece.Statement.{statement}
 use Rattle.records.proofs.plan.put_piece.Tie as tie

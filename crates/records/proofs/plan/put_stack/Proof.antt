@@ -1,8 +1,8 @@
 use native.Mathlib.Omega.{arith}
-use Rattle.records.specs.Patched.{put-then}
-use Rattle.records.specs.Range.{size}
-use Rattle.records.specs.Plan.{stack-bytes}
-use Rattle.records.specs.PlanLaws.{length-piece}
+use Rattle.records.specs.Writing.Patched.{put-then}
+use Rattle.records.specs.Ends.Range.{size}
+use Rattle.records.specs.Writing.Plan.{stack-bytes}
+use Rattle.records.specs.Writing.PlanLaws.{length-piece}
 use borrow.Author.Needs.{needs}
 use Rattle.records.proofs.plan.put_stack.Statement.{statement}
 use Rattle.records.proofs.plan.put_stack.Tie as tie

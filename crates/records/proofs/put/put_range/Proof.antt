@@ -1,5 +1,5 @@
 use borrow.Author.Needs.{needs}
-use Rattle.records.specs.Range.{size, cut}
+use Rattle.records.specs.Ends.Range.{size, cut}
 use Rattle.records.proofs.put.put_range.Statement.{statement}
 use Rattle.records.proofs.put.put_range.Tie as tie
 

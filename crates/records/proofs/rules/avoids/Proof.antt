@@ -1,6 +1,6 @@
 use Rattle.records.proofs.RuleArms.{unmarked, met-marked, met-unmarked}
-use Rattle.records.specs.Steps.{On, met, walk-from, to-variable, to-other, to-end}
-use Rattle.records.specs.Sets.{is-marked}
+use Rattle.records.specs.Ends.Steps.{On, met, walk-from, to-variable, to-other, to-end}
+use Rattle.records.specs.Gate.Sets.{is-marked}
 use lib.ListN.{length}
 use mathlib.Core.Path.{_≡_, refl, sym, ap, _∙_}
 use native.Mathlib.Omega.{arith}

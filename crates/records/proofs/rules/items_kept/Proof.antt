@@ -1,7 +1,7 @@
 use Rattle.records.proofs.ItemArms.{items-first, items-break, items-rest, items-more, items-broken, items-none}
-use Rattle.records.specs.ItemsKept.{items-kept}
-use Rattle.records.specs.ItemEnds.{items-end}
-use Rattle.records.specs.Rows.{Ends}
+use Rattle.records.specs.Gate.ItemsKept.{items-kept}
+use Rattle.records.specs.Ends.ItemEnds.{items-end}
+use Rattle.records.specs.Gate.Rows.{Ends}
 use borrow.Author.Tests.{not-true, not-false}
 use mathlib.Core.Path.{_≡_, refl, sym, _∙_}
 use native.Mathlib.Omega.{arith}

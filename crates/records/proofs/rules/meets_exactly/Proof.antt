@@ -1,7 +1,7 @@
-use Rattle.records.specs.Steps.{On, met, walk-from, to-variable, to-other, to-end}
-use Rattle.records.specs.SetLaws.{exactly-start, exactly-next, exactly-not, exactly-end}
-use Rattle.records.specs.Sets.{exactly-from}
-use Rattle.records.specs.RecordRules.{exactly}
+use Rattle.records.specs.Ends.Steps.{On, met, walk-from, to-variable, to-other, to-end}
+use Rattle.records.specs.Gate.SetLaws.{exactly-start, exactly-next, exactly-not, exactly-end}
+use Rattle.records.specs.Gate.Sets.{exactly-from}
+use Rattle.records.specs.Gate.RecordRules.{exactly}
 use lib.ListN.{length}
 use mathlib.Core.Path.{_≡_, sym, ap, _∙_}
 use native.Mathlib.Omega.{arith}

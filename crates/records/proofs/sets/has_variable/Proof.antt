@@ -1,5 +1,5 @@
 use borrow.Author.Needs.{needs}
-use Rattle.records.specs.Sets.{has-variable}
+use Rattle.records.specs.Gate.Sets.{has-variable}
 use Rattle.records.proofs.sets.has_variable.Statement.{statement}
 use Rattle.records.proofs.sets.has_variable.Tie as tie
 

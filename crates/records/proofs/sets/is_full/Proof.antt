@@ -4,7 +4,7 @@ use native.Mathlib.Omega.{arith}
 use lib.Dec.{eqb}
 use lib.Pow.{pow-pos}
 use borrow.Author.Needs.{needs}
-use Rattle.records.specs.SetLaws.{one-shl}
+use Rattle.records.specs.Gate.SetLaws.{one-shl}
 use Rattle.records.proofs.sets.is_full.Statement.{statement}
 use Rattle.records.proofs.sets.is_full.Tie as tie
 

@@ -1,5 +1,5 @@
 use borrow.Author.Needs.{needs}
-use Rattle.records.specs.Sets.{is-marked}
+use Rattle.records.specs.Gate.Sets.{is-marked}
 use Rattle.records.proofs.sets.is_marked.Statement.{statement}
 use Rattle.records.proofs.sets.is_marked.Tie as tie
 

@@ -2,7 +2,7 @@ use mathlib.Core.Path.{ap}
 use Prim.Native.Nat.{_/_}
 use lib.ListN.{set}
 use borrow.Author.Needs.{needs}
-use Rattle.records.specs.Sets.{marked}
+use Rattle.records.specs.Gate.Sets.{marked}
 use Rattle.records.proofs.sets.mark.Statement.{statement}
 use Rattle.records.proofs.sets.mark.Tie as tie
 

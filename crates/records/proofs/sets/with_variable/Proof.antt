@@ -1,8 +1,8 @@
 use mathlib.Core.Path.{ap}
 use lib.Bits.{bitOr}
 use borrow.Author.Needs.{needs}
-use Rattle.records.specs.Sets.{with-variable}
-use Rattle.records.specs.SetLaws.{one-shl}
+use Rattle.records.specs.Gate.Sets.{with-variable}
+use Rattle.records.specs.Gate.SetLaws.{one-shl}
 use Rattle.records.proofs.sets.with_variable.Statement.{statement}
 use Rattle.records.proofs.sets.with_variable.Tie as tie
 

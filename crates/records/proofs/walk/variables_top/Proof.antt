@@ -1,4 +1,4 @@
-use Rattle.records.specs.Steps.{Underway, raised, walk-from, underway-start, underway-variable, underway-other, underway-done, to-variable, to-other}
+use Rattle.records.specs.Ends.Steps.{Underway, raised, walk-from, underway-start, underway-variable, underway-other, underway-done, to-variable, to-other}
 use lib.ListN.{length}
 use mathlib.Core.Path.{sym}
 use native.Mathlib.Omega.{arith}

@@ -1,9 +1,9 @@
 use mathlib.Core.Path.{_∙_}
 use native.Mathlib.Omega.{arith}
-use Rattle.records.specs.Patched.{put-then, put-length}
-use Rattle.records.specs.Range.{size, length-cut}
-use Rattle.stepper.specs.Completed.{body-front, body-back}
-use Rattle.stepper.specs.CompletedLaws.{completed, atom-inside, stacks-inside}
+use Rattle.records.specs.Writing.Patched.{put-then, put-length}
+use Rattle.records.specs.Ends.Range.{size, length-cut}
+use Rattle.stepper.specs.Step.Completed.{body-front, body-back}
+use Rattle.stepper.specs.Step.CompletedLaws.{completed, atom-inside, stacks-inside}
 use borrow.Author.Needs.{needs}
 use Rattle.stepper.proofs.around.with_body.Statement.{statement}
 use Rattle.stepper.proofs.around.with_body.Tie as tie

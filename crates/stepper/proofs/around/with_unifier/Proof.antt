@@ -1,8 +1,8 @@
 use native.Mathlib.Omega.{arith}
-use Rattle.records.specs.Patched.{put-then, put-length}
-use Rattle.records.specs.Range.{size, length-cut}
-use Rattle.stepper.specs.Completed.{unifier-front, unifier-back}
-use Rattle.stepper.specs.CompletedLaws.{completed, ahead-inside, behind-inside}
+use Rattle.records.specs.Writing.Patched.{put-then, put-length}
+use Rattle.records.specs.Ends.Range.{size, length-cut}
+use Rattle.stepper.specs.Step.Completed.{unifier-front, unifier-back}
+use Rattle.stepper.specs.Step.CompletedLaws.{completed, ahead-inside, behind-inside}
 use borrow.Author.Needs.{needs}
 use Rattle.stepper.proofs.around.with_unifier.Statement.{statement}
 use Rattle.stepper.proofs.around.with_unifier.Tie as tie

@@ -1,5 +1,5 @@
 use borrow.Author.Tests.{ne-eqb}
-use Rattle.stepper.specs.RulePlans.{back-plan}
+use Rattle.stepper.specs.Plans.RulePlans.{back-plan}
 use Rattle.stepper.proofs.back.back_plan.Statement.{statement}
 use Rattle.stepper.proofs.back.back_plan.Tie as tie
 

@@ -1,6 +1,6 @@
 use mathlib.Core.Path.{refl}
 use borrow.Author.Tests.{ne-eqb}
-use Rattle.stepper.specs.Numbers.{back-rule}
+use Rattle.stepper.specs.Plans.Numbers.{back-rule}
 use Rattle.stepper.proofs.back.back_rule.Statement.{statement}
 use Rattle.stepper.proofs.back.back_rule.Tie as tie
 

@@ -1,6 +1,6 @@
 use mathlib.Core.Path.{refl}
 use borrow.Author.Tests.{ne-eqb}
-use Rattle.stepper.specs.Numbers.{call-source}
+use Rattle.stepper.specs.Plans.Numbers.{call-source}
 use Rattle.stepper.proofs.back.call_source.Statement.{statement}
 use Rattle.stepper.proofs.back.call_source.Tie as tie
 

@@ -1,6 +1,6 @@
 use mathlib.Core.Path.{refl}
 use borrow.Author.Tests.{ne-eqb}
-use Rattle.stepper.specs.Numbers.{redo-source}
+use Rattle.stepper.specs.Plans.Numbers.{redo-source}
 use Rattle.stepper.proofs.back.redo_source.Statement.{statement}
 use Rattle.stepper.proofs.back.redo_source.Tie as tie
 

@@ -1,7 +1,7 @@
 -- `count` asks the gate, and adds the port of an accepted event.
 use native.Mathlib.Omega.{arith}
-use Rattle.stepper.specs.VerdictLaws.{event-accepted}
-use Rattle.stepper.specs.PortCountsLaws.{count-refused, count-added}
+use Rattle.stepper.specs.Services.VerdictLaws.{event-accepted}
+use Rattle.stepper.specs.Services.PortCountsLaws.{count-refused, count-added}
 use borrow.Author.Needs.{needs}
 use Rattle.stepper.proofs.counts.count.Statement.{statement}
 use Rattle.stepper.proofs.counts.count.Tie as tie

@@ -1,7 +1,7 @@
 -- `one_more` stays at 4,294,967,295.
 use native.Mathlib.Numerals.{add-one}
 use borrow.Author.Tests.{lt-ltb, le-ltb}
-use Rattle.stepper.specs.Counts.{one-more}
+use Rattle.stepper.specs.Services.Counts.{one-more}
 use borrow.Author.Needs.{needs}
 use Rattle.stepper.proofs.counts.one_more.Statement.{statement}
 use Rattle.stepper.proofs.counts.one_more.Tie as tie

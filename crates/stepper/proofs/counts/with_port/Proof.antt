@@ -1,6 +1,6 @@
 -- `with_port` changes the count of one port.
 use native.Mathlib.Omega.{arith}
-use Rattle.stepper.specs.PortCountsLaws.{one-called, one-exited, one-failed, one-redone}
+use Rattle.stepper.specs.Services.PortCountsLaws.{one-called, one-exited, one-failed, one-redone}
 use borrow.Author.Needs.{needs}
 use Rattle.stepper.proofs.counts.with_port.Statement.{statement}
 use Rattle.stepper.proofs.counts.with_port.Tie as tie

@@ -1,5 +1,5 @@
 use native.Mathlib.Omega.{arith}
-use Rattle.stepper.specs.FirstLaws.{first-within, first-refused, first-emitted}
+use Rattle.stepper.specs.Services.FirstLaws.{first-within, first-refused, first-emitted}
 use borrow.Author.Needs.{needs}
 use Rattle.stepper.proofs.first.first_event.Statement.{statement}
 use Rattle.stepper.proofs.first.first_event.Tie as tie

@@ -1,6 +1,6 @@
 use mathlib.Core.Path.{refl}
 use borrow.Author.Tests.{ne-eqb}
-use Rattle.stepper.specs.Numbers.{call-rule}
+use Rattle.stepper.specs.Plans.Numbers.{call-rule}
 use Rattle.stepper.proofs.forward.call_rule.Statement.{statement}
 use Rattle.stepper.proofs.forward.call_rule.Tie as tie
 

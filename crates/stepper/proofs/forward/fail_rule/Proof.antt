@@ -1,6 +1,6 @@
 use mathlib.Core.Path.{refl}
 use borrow.Author.Tests.{ne-eqb}
-use Rattle.stepper.specs.Numbers.{fail-rule}
+use Rattle.stepper.specs.Plans.Numbers.{fail-rule}
 use Rattle.stepper.proofs.forward.fail_rule.Statement.{statement}
 use Rattle.stepper.proofs.forward.fail_rule.Tie as tie
 

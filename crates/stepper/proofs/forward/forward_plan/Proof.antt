@@ -1,5 +1,5 @@
 use borrow.Author.Tests.{ne-eqb}
-use Rattle.stepper.specs.RulePlans.{forward-plan}
+use Rattle.stepper.specs.Plans.RulePlans.{forward-plan}
 use Rattle.stepper.proofs.forward.forward_plan.Statement.{statement}
 use Rattle.stepper.proofs.forward.forward_plan.Tie as tie
 

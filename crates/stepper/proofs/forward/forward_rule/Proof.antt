@@ -1,6 +1,6 @@
 use mathlib.Core.Path.{refl}
 use borrow.Author.Tests.{ne-eqb}
-use Rattle.stepper.specs.Numbers.{forward-rule}
+use Rattle.stepper.specs.Plans.Numbers.{forward-rule}
 use Rattle.stepper.proofs.forward.forward_rule.Statement.{statement}
 use Rattle.stepper.proofs.forward.forward_rule.Tie as tie
 

@@ -1,6 +1,6 @@
 use mathlib.Core.Path.{refl}
 use borrow.Author.Tests.{ne-eqb}
-use Rattle.stepper.specs.Numbers.{redo-rule}
+use Rattle.stepper.specs.Plans.Numbers.{redo-rule}
 use Rattle.stepper.proofs.forward.redo_rule.Statement.{statement}
 use Rattle.stepper.proofs.forward.redo_rule.Tie as tie
 

@@ -1,4 +1,4 @@
-use Rattle.stepper.specs.Halves.{is-half}
+use Rattle.stepper.specs.Step.Halves.{is-half}
 use borrow.Author.Tests.{eq-eqb, ne-eqb}
 use Rattle.stepper.proofs.half.is_half.Statement.{statement}
 use Rattle.stepper.proofs.half.is_half.Tie as tie

@@ -1,4 +1,4 @@
-use Rattle.stepper.specs.Halves.{unlike-number}
+use Rattle.stepper.specs.Step.Halves.{unlike-number}
 use borrow.Author.Tests.{not-true, not-false}
 use mathlib.Core.Path.{refl, sym, _∙_}
 use borrow.Author.Needs.{needs}

@@ -1,5 +1,5 @@
 use borrow.Author.Tests.{eq-eqb, ne-eqb}
-use Rattle.stepper.specs.Layouts.{chosen}
+use Rattle.stepper.specs.Plans.Layouts.{chosen}
 use Rattle.stepper.proofs.layouts.chosen.Statement.{statement}
 use Rattle.stepper.proofs.layouts.chosen.Tie as tie
 

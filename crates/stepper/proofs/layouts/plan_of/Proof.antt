@@ -1,5 +1,5 @@
 use mathlib.Core.Path.{refl}
-use Rattle.stepper.specs.Layouts.{plan-of}
+use Rattle.stepper.specs.Plans.Layouts.{plan-of}
 use Rattle.stepper.proofs.layouts.plan_of.Statement.{statement}
 use Rattle.stepper.proofs.layouts.plan_of.Tie as tie
 

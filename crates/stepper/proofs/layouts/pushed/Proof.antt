@@ -1,5 +1,5 @@
 use mathlib.Core.Path.{refl}
-use Rattle.stepper.specs.Layouts.{pushed}
+use Rattle.stepper.specs.Plans.Layouts.{pushed}
 use Rattle.stepper.proofs.layouts.pushed.Statement.{statement}
 use Rattle.stepper.proofs.layouts.pushed.Tie as tie
 

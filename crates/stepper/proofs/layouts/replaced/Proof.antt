@@ -1,5 +1,5 @@
 use mathlib.Core.Path.{refl}
-use Rattle.stepper.specs.Layouts.{replaced}
+use Rattle.stepper.specs.Plans.Layouts.{replaced}
 use Rattle.stepper.proofs.layouts.replaced.Statement.{statement}
 use Rattle.stepper.proofs.layouts.replaced.Tie as tie
 

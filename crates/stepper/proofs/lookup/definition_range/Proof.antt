@@ -1,5 +1,5 @@
 -- `definition_range` gives the range of the definition that the search finds.
-use Rattle.stepper.specs.DefinitionRangeLaws.{has-definitions, range-absent, range-present}
+use Rattle.stepper.specs.Services.DefinitionRangeLaws.{has-definitions, range-absent, range-present}
 use borrow.Author.Needs.{needs}
 use Rattle.stepper.proofs.lookup.definition_range.Statement.{statement}
 use Rattle.stepper.proofs.lookup.definition_range.Tie as tie

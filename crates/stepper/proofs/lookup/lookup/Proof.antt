@@ -1,6 +1,6 @@
 -- `lookup` hands back the program's part from the start of the range to its end.
 use mathlib.Core.Path.{refl}
-use Rattle.stepper.specs.LookupRangeLaws.{range-inside, looked-up}
+use Rattle.stepper.specs.Services.LookupRangeLaws.{range-inside, looked-up}
 use borrow.Author.Needs.{needs}
 use Rattle.stepper.proofs.lookup.lookup.Statement.{statement}
 use Rattle.stepper.proofs.lookup.lookup.Tie as tie

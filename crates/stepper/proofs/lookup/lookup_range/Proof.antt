@@ -1,7 +1,7 @@
 -- `lookup_range` asks the gate, the program first, and then for what the goal names.
 use native.Mathlib.Omega.{arith}
-use Rattle.stepper.specs.VerdictLaws.{program-accepted, event-accepted}
-use Rattle.stepper.specs.LookupRangeLaws.{no-program, no-event, both-accepted}
+use Rattle.stepper.specs.Services.VerdictLaws.{program-accepted, event-accepted}
+use Rattle.stepper.specs.Services.LookupRangeLaws.{no-program, no-event, both-accepted}
 use borrow.Author.Needs.{needs}
 use Rattle.stepper.proofs.lookup.lookup_range.Statement.{statement}
 use Rattle.stepper.proofs.lookup.lookup_range.Tie as tie

@@ -3,7 +3,7 @@ use mathlib.Core.Logic.{_⊎_, ⊎-elim}
 use mathlib.Core.Path.{_≡_}
 use Prim.Native.Nat.{ℕ}
 use native.Mathlib.Omega.{arith}
-use Rattle.stepper.specs.LookupRangeLaws.{none-named, atom-named}
+use Rattle.stepper.specs.Services.LookupRangeLaws.{none-named, atom-named}
 use borrow.Author.Needs.{needs}
 use Rattle.stepper.proofs.lookup.named_range.Statement.{statement}
 use Rattle.stepper.proofs.lookup.named_range.Tie as tie

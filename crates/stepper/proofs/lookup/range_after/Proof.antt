@@ -1,5 +1,5 @@
 -- `range_after` goes to the end of so many definitions, and from there to the end of one more.
-use Rattle.stepper.specs.DefinitionRangeLaws.{after-found, after-endless, after-nothing}
+use Rattle.stepper.specs.Services.DefinitionRangeLaws.{after-found, after-endless, after-nothing}
 use borrow.Author.Needs.{needs}
 use Rattle.stepper.proofs.lookup.range_after.Statement.{statement}
 use Rattle.stepper.proofs.lookup.range_after.Tie as tie

@@ -1,7 +1,7 @@
-use Rattle.stepper.specs.RunReplies.{run-gate-refused, whole-range, moved-passed, moved-ends, moved-inside, reached-range, run-written}
-use Rattle.stepper.specs.Running.{direction}
-use Rattle.stepper.specs.SettledLaws.{event-short}
-use Rattle.stepper.specs.SteppedLaws.{gate-passed}
+use Rattle.stepper.specs.Run.RunReplies.{run-gate-refused, whole-range, moved-passed, moved-ends, moved-inside, reached-range, run-written}
+use Rattle.stepper.specs.Run.Running.{direction}
+use Rattle.stepper.specs.Step.SettledLaws.{event-short}
+use Rattle.stepper.specs.Step.SteppedLaws.{gate-passed}
 use mathlib.Core.Path.{sym, _∙_}
 use native.Mathlib.Omega.{arith}
 use borrow.Author.Needs.{needs}

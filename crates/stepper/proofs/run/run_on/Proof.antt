@@ -1,8 +1,8 @@
-use Rattle.stepper.specs.RunLoop.{Midway, midway-start, midway-passed, midway-ends, midway-stopped, midway-on, midway-done}
-use Rattle.stepper.specs.Running.{direction}
-use Rattle.stepper.specs.Stepped.{Passed}
-use Rattle.stepper.specs.Desk.{layers}
-use Rattle.stepper.specs.Services.{machine}
+use Rattle.stepper.specs.Run.RunLoop.{Midway, midway-start, midway-passed, midway-ends, midway-stopped, midway-on, midway-done}
+use Rattle.stepper.specs.Run.Running.{direction}
+use Rattle.stepper.specs.Step.Stepped.{Passed}
+use Rattle.stepper.specs.Services.Desk.{layers}
+use Rattle.stepper.specs.Services.Services.{machine}
 use borrow.Author.Needs.{needs}
 use lib.ListN.{length, take}
 use Prim.Native.Nat.{_-_, _≤_}

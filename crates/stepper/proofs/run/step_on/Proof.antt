@@ -1,4 +1,4 @@
-use Rattle.stepper.specs.Rules.{step}
+use Rattle.stepper.specs.Rules.Rules.{step}
 use borrow.Author.Needs.{needs}
 use Rattle.stepper.proofs.run.step_on.Statement.{statement}
 use Rattle.stepper.proofs.run.step_on.Tie as tie

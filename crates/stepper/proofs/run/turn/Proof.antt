@@ -1,6 +1,6 @@
-use Rattle.stepper.specs.RunningLaws.{bytes-take, next-recordable, turn-refused, turn-range, turn-moved}
-use Rattle.stepper.specs.ServiceLaws.{limit-fits}
-use Rattle.records.specs.HeadLaws.{bytes-all}
+use Rattle.stepper.specs.Run.RunningLaws.{bytes-take, next-recordable, turn-refused, turn-range, turn-moved}
+use Rattle.stepper.specs.Services.ServiceLaws.{limit-fits}
+use Rattle.records.specs.Format.HeadLaws.{bytes-all}
 use lib.Seq.{length-take-le}
 use mathlib.Core.Path.{sym}
 use native.Mathlib.Omega.{arith}

@@ -1,7 +1,7 @@
-use Rattle.stepper.specs.SameLaws.{under-atom, whole-goal, body-beyond, body-missing, body-same, body-long}
-use Rattle.stepper.specs.SettledLaws.{body-told-as}
-use Rattle.stepper.specs.LayoutLaws.{put-cuts}
-use Rattle.terms.specs.Accepted.{accepted-program}
+use Rattle.stepper.specs.Step.SameLaws.{under-atom, whole-goal, body-beyond, body-missing, body-same, body-long}
+use Rattle.stepper.specs.Step.SettledLaws.{body-told-as}
+use Rattle.stepper.specs.Plans.LayoutLaws.{put-cuts}
+use Rattle.terms.specs.Standing.Accepted.{accepted-program}
 use borrow.Author.Needs.{needs}
 use Rattle.stepper.proofs.same.same_body.Statement.{statement}
 use Rattle.stepper.proofs.same.same_body.Tie as tie

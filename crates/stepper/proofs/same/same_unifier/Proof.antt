@@ -1,6 +1,6 @@
-use Rattle.stepper.specs.SameLaws.{rest-bets, unifier-left, unifier-right, top-unifier, unifier-large, unifier-clash, unifier-same, unifier-long}
-use Rattle.stepper.specs.SettledLaws.{told-as, event-short}
-use Rattle.stepper.specs.LayoutLaws.{put-cuts}
+use Rattle.stepper.specs.Step.SameLaws.{rest-bets, unifier-left, unifier-right, top-unifier, unifier-large, unifier-clash, unifier-same, unifier-long}
+use Rattle.stepper.specs.Step.SettledLaws.{told-as, event-short}
+use Rattle.stepper.specs.Plans.LayoutLaws.{put-cuts}
 use borrow.Author.Needs.{needs}
 use Rattle.stepper.proofs.same.same_unifier.Statement.{statement}
 use Rattle.stepper.proofs.same.same_unifier.Tie as tie

@@ -1,5 +1,5 @@
-use Rattle.stepper.specs.GateNumbers.{gate-program, gate-event, gate-short, gate-open}
-use Rattle.records.specs.Gate.{program-number, event-number}
+use Rattle.stepper.specs.Services.GateNumbers.{gate-program, gate-event, gate-short, gate-open}
+use Rattle.records.specs.Gate.Gate.{program-number, event-number}
 use native.Mathlib.Omega.{arith}
 use mathlib.Core.Path.{ap, _∙_}
 use borrow.Author.Needs.{needs}

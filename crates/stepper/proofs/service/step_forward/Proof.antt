@@ -1,6 +1,6 @@
-use Rattle.stepper.specs.Rules.{step}
-use Rattle.stepper.specs.SteppedLaws.{gate-passed, gate-refused, stepped-replied}
-use Rattle.stepper.specs.Walk.{forward}
+use Rattle.stepper.specs.Rules.Rules.{step}
+use Rattle.stepper.specs.Step.SteppedLaws.{gate-passed, gate-refused, stepped-replied}
+use Rattle.stepper.specs.Walks.Walk.{forward}
 use mathlib.Core.Path.{sym, _∙_}
 use native.Mathlib.Omega.{arith}
 use borrow.Author.Needs.{needs}

@@ -1,8 +1,8 @@
 use native.Mathlib.Omega.{arith}
-use Rattle.terms.specs.Accepted.{accepted-program}
-use Rattle.stepper.specs.CompletedLaws.{lent-kept, handed-room}
-use Rattle.stepper.specs.SettledAtom.{goal-atom, undefined-within, atom-order, atom-beyond, atom-undefined, body-room, atom-defined, atom-long}
-use Rattle.stepper.specs.SettledLaws.{body-told-as}
+use Rattle.terms.specs.Standing.Accepted.{accepted-program}
+use Rattle.stepper.specs.Step.CompletedLaws.{lent-kept, handed-room}
+use Rattle.stepper.specs.Step.SettledAtom.{goal-atom, undefined-within, atom-order, atom-beyond, atom-undefined, body-room, atom-defined, atom-long}
+use Rattle.stepper.specs.Step.SettledLaws.{body-told-as}
 use borrow.Author.Needs.{needs}
 use Rattle.stepper.proofs.settle.settle_atom.Statement.{statement}
 use Rattle.stepper.proofs.settle.settle_atom.Tie as tie

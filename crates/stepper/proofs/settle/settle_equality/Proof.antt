@@ -1,7 +1,7 @@
 use native.Mathlib.Omega.{arith}
-use Rattle.stepper.specs.CompletedLaws.{lent-kept, handed-room}
-use Rattle.stepper.specs.SettledEquality.{equality-bets, equality-left, equality-right, clash-within, equality-order, equality-large, equality-clash, unifier-room, equality-found, equality-long}
-use Rattle.stepper.specs.SettledLaws.{told-as, event-short}
+use Rattle.stepper.specs.Step.CompletedLaws.{lent-kept, handed-room}
+use Rattle.stepper.specs.Step.SettledEquality.{equality-bets, equality-left, equality-right, clash-within, equality-order, equality-large, equality-clash, unifier-room, equality-found, equality-long}
+use Rattle.stepper.specs.Step.SettledLaws.{told-as, event-short}
 use borrow.Author.Needs.{needs}
 use Rattle.stepper.proofs.settle.settle_equality.Statement.{statement}
 use Rattle.stepper.proofs.settle.settle_equality.Tie as tie

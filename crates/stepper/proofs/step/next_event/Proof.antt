@@ -1,9 +1,9 @@
-use Rattle.stepper.specs.StepArms.{forward-equality, forward-atom}
-use Rattle.stepper.specs.SettledStepLaws.{program-read, equality-viewed, atom-viewed}
-use Rattle.stepper.specs.StepLaws.{view-halves, forward-nothing, forward-within, forward-parts}
-use Rattle.stepper.specs.KindLaws.{calls-equality, calls-atom}
-use Rattle.stepper.specs.Numbers.{forward-rule}
-use Rattle.records.specs.Syntax.{call, exit, fail}
+use Rattle.stepper.specs.Step.StepArms.{forward-equality, forward-atom}
+use Rattle.stepper.specs.Step.SettledStepLaws.{program-read, equality-viewed, atom-viewed}
+use Rattle.stepper.specs.Step.StepLaws.{view-halves, forward-nothing, forward-within, forward-parts}
+use Rattle.stepper.specs.Step.KindLaws.{calls-equality, calls-atom}
+use Rattle.stepper.specs.Plans.Numbers.{forward-rule}
+use Rattle.records.specs.Format.Syntax.{call, exit, fail}
 use mathlib.Core.Path.{refl, sym, ap, _∙_}
 use borrow.Author.Needs.{needs}
 use Rattle.stepper.proofs.step.next_event.Statement.{statement}

@@ -1,4 +1,4 @@
-use Rattle.stepper.specs.NoRuleNumbers.{no-rule-number}
+use Rattle.stepper.specs.Step.NoRuleNumbers.{no-rule-number}
 use borrow.Author.Tests.{ne-eqb}
 use mathlib.Core.Path.{refl}
 use Rattle.stepper.proofs.step.no_rule.Statement.{statement}

@@ -1,4 +1,4 @@
-use Rattle.stepper.specs.NoRuleNumbers.{no-source-number}
+use Rattle.stepper.specs.Step.NoRuleNumbers.{no-source-number}
 use borrow.Author.Tests.{eq-eqb, ne-eqb}
 use mathlib.Core.Path.{refl}
 use Rattle.stepper.proofs.step.no_source.Statement.{statement}

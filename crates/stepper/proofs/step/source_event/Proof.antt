@@ -1,9 +1,9 @@
-use Rattle.stepper.specs.StepArms.{back-equality, back-atom, exit-plans, called-plans, back-exit, back-called}
-use Rattle.stepper.specs.SettledStepLaws.{program-read, equality-viewed, atom-viewed, unifier-viewed, body-viewed}
-use Rattle.stepper.specs.StepLaws.{view-halves, back-nothing, back-within, back-parts}
-use Rattle.stepper.specs.KindLaws.{exits-equality, fails-equality, calls-body, fails-atom}
-use Rattle.stepper.specs.Numbers.{back-rule}
-use Rattle.records.specs.Syntax.{call, fail, redo}
+use Rattle.stepper.specs.Step.StepArms.{back-equality, back-atom, exit-plans, called-plans, back-exit, back-called}
+use Rattle.stepper.specs.Step.SettledStepLaws.{program-read, equality-viewed, atom-viewed, unifier-viewed, body-viewed}
+use Rattle.stepper.specs.Step.StepLaws.{view-halves, back-nothing, back-within, back-parts}
+use Rattle.stepper.specs.Step.KindLaws.{exits-equality, fails-equality, calls-body, fails-atom}
+use Rattle.stepper.specs.Plans.Numbers.{back-rule}
+use Rattle.records.specs.Format.Syntax.{call, fail, redo}
 use mathlib.Core.Path.{refl, sym, ap, _∙_}
 use borrow.Author.Needs.{needs}
 use Rattle.stepper.proofs.step.source_event.Statement.{statement}

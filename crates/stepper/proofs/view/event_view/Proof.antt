@@ -1,4 +1,4 @@
-use Rattle.stepper.specs.ViewLaws.{accepted-room, view-is}
+use Rattle.stepper.specs.Plans.ViewLaws.{accepted-room, view-is}
 use borrow.Author.Needs.{needs}
 use Rattle.stepper.proofs.view.event_view.Statement.{statement}
 use Rattle.stepper.proofs.view.event_view.Tie as tie

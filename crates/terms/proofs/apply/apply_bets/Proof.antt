@@ -1,5 +1,5 @@
-use Rattle.terms.specs.Answered.{answered}
-use Rattle.terms.specs.Applied.{term-on}
+use Rattle.terms.specs.Values.Answered.{answered}
+use Rattle.terms.specs.Values.Applied.{term-on}
 use borrow.Author.Needs.{needs}
 use Rattle.terms.proofs.apply.apply_bets.Statement.{statement}
 use Rattle.terms.proofs.apply.apply_bets.Tie as tie

@@ -3,8 +3,8 @@ use mathlib.Core.Path.{_≡_, refl}
 use Prim.Native.Nat.{_-_}
 use native.Mathlib.Omega.{arith}
 use lib.ListN.{length}
-use Rattle.terms.specs.Arguments.{ArgumentsAt, term-places}
-use Rattle.terms.specs.ArgumentLaws.{Listing, listing-start, listing-next, listing-end}
+use Rattle.terms.specs.Body.Arguments.{ArgumentsAt, term-places}
+use Rattle.terms.specs.Body.ArgumentLaws.{Listing, listing-start, listing-next, listing-end}
 use borrow.Author.Needs.{needs}
 use Rattle.terms.proofs.arguments.list_arguments.Statement.{statement}
 use Rattle.terms.proofs.arguments.list_arguments.Tie as tie

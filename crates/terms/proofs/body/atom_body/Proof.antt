@@ -3,7 +3,7 @@ use mathlib.Core.Logic.{_⊎_, ⊎-elim}
 use mathlib.Core.Path.{_≡_}
 use Prim.Native.Nat.{ℕ}
 use native.Mathlib.Omega.{arith}
-use Rattle.terms.specs.AnswerLaws.{atom-is, atom-head, body-undefined, place-goal, body-defined}
+use Rattle.terms.specs.Body.AnswerLaws.{atom-is, atom-head, body-undefined, place-goal, body-defined}
 use borrow.Author.Needs.{needs}
 use Rattle.terms.proofs.body.atom_body.Statement.{statement}
 use Rattle.terms.proofs.body.atom_body.Tie as tie

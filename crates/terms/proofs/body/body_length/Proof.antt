@@ -2,13 +2,13 @@
 use Prim.Native.Nat.{ℕ, _-_}
 use native.Mathlib.Omega.{arith}
 use lib.ListN.{length}
-use Rattle.records.specs.Encode.{goal-bytes}
-use Rattle.terms.specs.Arguments.{TermTable}
-use Rattle.terms.specs.Body.{numbered}
-use Rattle.terms.specs.Frames.{GoalAt}
-use Rattle.terms.specs.BodyBytes.{numbered-goal}
-use Rattle.terms.specs.Ahead.{ahead-on, ahead-less, ahead-less-other}
-use Rattle.terms.specs.WritingLaws.{Counting, counting-start, counting-variable, counting-other, counting-full, counting-done}
+use Rattle.records.specs.Format.Encode.{goal-bytes}
+use Rattle.terms.specs.Body.Arguments.{TermTable}
+use Rattle.terms.specs.Body.Body.{numbered}
+use Rattle.terms.specs.Standing.Frames.{GoalAt}
+use Rattle.terms.specs.Body.BodyBytes.{numbered-goal}
+use Rattle.terms.specs.Values.Ahead.{ahead-on, ahead-less, ahead-less-other}
+use Rattle.terms.specs.Body.WritingLaws.{Counting, counting-start, counting-variable, counting-other, counting-full, counting-done}
 use borrow.Author.Needs.{needs}
 use Rattle.terms.proofs.body.body_length.Statement.{statement}
 use Rattle.terms.proofs.body.body_length.Tie as tie

@@ -1,6 +1,6 @@
 -- `body_with` puts question 9, makes the table of the arguments, and then the body.
 use native.Mathlib.Omega.{arith}
-use Rattle.terms.specs.AnswerLaws.{atom-arguments, atom-few, atom-table, atom-room, first-new-small, body-too-many, body-answered}
+use Rattle.terms.specs.Body.AnswerLaws.{atom-arguments, atom-few, atom-table, atom-room, first-new-small, body-too-many, body-answered}
 use borrow.Author.Needs.{needs}
 use Rattle.terms.proofs.body.body_with.Statement.{statement}
 use Rattle.terms.proofs.body.body_with.Tie as tie

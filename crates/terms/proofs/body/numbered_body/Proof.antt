@@ -1,6 +1,6 @@
 -- `numbered_body` measures, refuses, and then writes.
 use native.Mathlib.Omega.{arith}
-use Rattle.terms.specs.AnswerLaws.{written-answer, long-answer}
+use Rattle.terms.specs.Body.AnswerLaws.{written-answer, long-answer}
 use borrow.Author.Needs.{needs}
 use Rattle.terms.proofs.body.numbered_body.Statement.{statement}
 use Rattle.terms.proofs.body.numbered_body.Tie as tie

@@ -1,6 +1,6 @@
 -- `numbered_length` reads the table, or knows a variable's three bytes.
 use native.Mathlib.Omega.{arith}
-use Rattle.terms.specs.ArgumentLaws.{table-room, argument-ends, numbered-behind}
+use Rattle.terms.specs.Body.ArgumentLaws.{table-room, argument-ends, numbered-behind}
 use Rattle.terms.proofs.body.numbered_length.Statement.{statement}
 use Rattle.terms.proofs.body.numbered_length.Tie as tie
 

@@ -2,14 +2,14 @@
 use Prim.Native.Nat.{_-_}
 use native.Mathlib.Omega.{arith}
 use lib.ListN.{length}
-use Rattle.records.specs.Encode.{goal-bytes}
-use Rattle.records.specs.Patched.{put-length}
-use Rattle.terms.specs.Arguments.{ArgumentTable}
-use Rattle.terms.specs.Body.{numbered}
-use Rattle.terms.specs.Frames.{GoalAt}
-use Rattle.terms.specs.BodyBytes.{numbered-goal}
-use Rattle.terms.specs.Ahead.{ahead-on, ahead-less, ahead-less-other}
-use Rattle.terms.specs.WritingLaws.{Writing, writing-start, node-inside, variable-room, writing-variable, other-room, writing-other, writing-done}
+use Rattle.records.specs.Format.Encode.{goal-bytes}
+use Rattle.records.specs.Writing.Patched.{put-length}
+use Rattle.terms.specs.Body.Arguments.{ArgumentTable}
+use Rattle.terms.specs.Body.Body.{numbered}
+use Rattle.terms.specs.Standing.Frames.{GoalAt}
+use Rattle.terms.specs.Body.BodyBytes.{numbered-goal}
+use Rattle.terms.specs.Values.Ahead.{ahead-on, ahead-less, ahead-less-other}
+use Rattle.terms.specs.Body.WritingLaws.{Writing, writing-start, node-inside, variable-room, writing-variable, other-room, writing-other, writing-done}
 use borrow.Author.Needs.{needs}
 use Rattle.terms.proofs.body.write_body.Statement.{statement}
 use Rattle.terms.proofs.body.write_body.Tie as tie

@@ -1,6 +1,6 @@
 -- `write_numbered` writes an argument or a new variable.
 use native.Mathlib.Omega.{arith}
-use Rattle.terms.specs.ArgumentLaws.{table-room, argument-ends, argument-inside, argument-cut, numbered-behind}
+use Rattle.terms.specs.Body.ArgumentLaws.{table-room, argument-ends, argument-inside, argument-cut, numbered-behind}
 use borrow.Author.Needs.{needs}
 use Rattle.terms.proofs.body.write_numbered.Statement.{statement}
 use Rattle.terms.proofs.body.write_numbered.Tie as tie

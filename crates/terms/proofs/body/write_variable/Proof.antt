@@ -1,5 +1,5 @@
 -- `write_variable` writes a kind byte and a number.
-use Rattle.records.specs.Patched.{put-then}
+use Rattle.records.specs.Writing.Patched.{put-then}
 use borrow.Author.Needs.{needs}
 use Rattle.terms.proofs.body.write_variable.Statement.{statement}
 use Rattle.terms.proofs.body.write_variable.Tie as tie

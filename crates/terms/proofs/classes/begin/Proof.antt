@@ -1,5 +1,5 @@
 -- `begin` puts s and t into one class.
-use Rattle.terms.specs.BeginLaws.{begin-unitable, begin-same, begin-other}
+use Rattle.terms.specs.Classes.BeginLaws.{begin-unitable, begin-same, begin-other}
 use borrow.Author.Needs.{needs}
 use Rattle.terms.proofs.classes.begin.Statement.{statement}
 use Rattle.terms.proofs.classes.begin.Tie as tie

@@ -1,8 +1,8 @@
 -- `close` goes over the nodes until each agrees with its representative.
 use mathlib.Core.Path.{sym, _∙_}
 use lib.ListN.{length}
-use Rattle.terms.specs.Nodes.{nodes}
-use Rattle.terms.specs.CloseLaws.{
+use Rattle.terms.specs.Classes.Nodes.{nodes}
+use Rattle.terms.specs.Classes.CloseLaws.{
   Closing,
   closing-left,
   closing-start,

@@ -1,6 +1,6 @@
 -- `compare` compares the children of two symbols.
 use Prim.Native.Nat.{_-_}
-use Rattle.terms.specs.CompareLaws.{
+use Rattle.terms.specs.Classes.CompareLaws.{
   other-numbers,
   Comparing,
   comparing-start,

@@ -1,8 +1,8 @@
 -- `first` finds the first node of a node's variable.
 use Prim.Native.Nat.{_-_}
 use mathlib.Core.Logic.{⊎-elim}
-use Rattle.terms.specs.Nodes.{nodes}
-use Rattle.terms.specs.BeginLaws.{first-itself, Seeking, seeking-start, seeking-next, seeking-found, seeking-end}
+use Rattle.terms.specs.Classes.Nodes.{nodes}
+use Rattle.terms.specs.Classes.BeginLaws.{first-itself, Seeking, seeking-start, seeking-next, seeking-found, seeking-end}
 use borrow.Author.Needs.{needs}
 use Rattle.terms.proofs.classes.first.Statement.{statement}
 use Rattle.terms.proofs.classes.first.Tie as tie

@@ -1,6 +1,6 @@
 -- `preferred` prefers a symbol, and of variables the lower.
 use native.Mathlib.Omega.{arith}
-use Rattle.terms.specs.CloseLaws.{preferred-left, preferred-right, preferred-lower}
+use Rattle.terms.specs.Classes.CloseLaws.{preferred-left, preferred-right, preferred-lower}
 use borrow.Author.Needs.{needs}
 use Rattle.terms.proofs.classes.preferred.Statement.{statement}
 use Rattle.terms.proofs.classes.preferred.Tie as tie

@@ -2,7 +2,7 @@
 use Prim.Native.Nat.{_-_}
 use mathlib.Core.Logic.{⊎-elim}
 use lib.ListN.{length}
-use Rattle.terms.specs.RelabelLaws.{Relabelling, relabelling-start, relabelling-set, relabelling-keep, relabelling-end}
+use Rattle.terms.specs.Classes.RelabelLaws.{Relabelling, relabelling-start, relabelling-set, relabelling-keep, relabelling-end}
 use borrow.Author.Needs.{needs}
 use Rattle.terms.proofs.classes.relabel.Statement.{statement}
 use Rattle.terms.proofs.classes.relabel.Tie as tie

@@ -3,9 +3,9 @@ use mathlib.Core.Path.{sym, _∙_}
 use native.Mathlib.Omega.{arith}
 use Prim.Native.Nat.{_-_}
 use lib.ListN.{length}
-use Rattle.terms.specs.Nodes.{nodes}
-use Rattle.terms.specs.ClassState.{Firsts}
-use Rattle.terms.specs.BeginLaws.{firsts-start, firsts-more, firsts-end}
+use Rattle.terms.specs.Classes.Nodes.{nodes}
+use Rattle.terms.specs.Classes.ClassState.{Firsts}
+use Rattle.terms.specs.Classes.BeginLaws.{firsts-start, firsts-more, firsts-end}
 use Rattle.terms.proofs.classes.separate.Statement.{statement}
 use Rattle.terms.proofs.classes.separate.Tie as tie
 

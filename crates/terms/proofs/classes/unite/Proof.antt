@@ -1,5 +1,5 @@
 -- `unite` makes one class of two.
-use Rattle.terms.specs.CloseLaws.{united-left, united-right}
+use Rattle.terms.specs.Classes.CloseLaws.{united-left, united-right}
 use borrow.Author.Needs.{needs}
 use Rattle.terms.proofs.classes.unite.Statement.{statement}
 use Rattle.terms.proofs.classes.unite.Tie as tie

@@ -1,6 +1,6 @@
 -- `visit` compares a symbol with its representative, and unites the classes of the first children that differ.
 use native.Mathlib.Omega.{arith}
-use Rattle.terms.specs.CloseLaws.{state-comparable, turned-variable, turned-stuck, turned-fine, differ-unitable, turned-joined}
+use Rattle.terms.specs.Classes.CloseLaws.{state-comparable, turned-variable, turned-stuck, turned-fine, differ-unitable, turned-joined}
 use borrow.Author.Needs.{needs}
 use Rattle.terms.proofs.classes.visit.Statement.{statement}
 use Rattle.terms.proofs.classes.visit.Tie as tie

@@ -1,5 +1,5 @@
 -- `among`: none of the definitions passed is the one looked for.
-use Rattle.terms.specs.DefinitionLaws.{Searched, searched-start, searched-item, searched-next, searched-found, searched-none, entry-room}
+use Rattle.terms.specs.Body.DefinitionLaws.{Searched, searched-start, searched-item, searched-next, searched-found, searched-none, entry-room}
 use native.Mathlib.Omega.{arith}
 use Prim.Native.Nat.{_-_}
 use borrow.Author.Needs.{needs}

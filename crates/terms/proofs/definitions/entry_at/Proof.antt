@@ -1,5 +1,5 @@
 -- `entry_at` reads the definition that stands there.
-use Rattle.terms.specs.DefinitionLaws.{entry-is, entry-headed, entry-ended}
+use Rattle.terms.specs.Body.DefinitionLaws.{entry-is, entry-headed, entry-ended}
 use borrow.Author.Needs.{needs}
 use Rattle.terms.proofs.definitions.entry_at.Statement.{statement}
 use Rattle.terms.proofs.definitions.entry_at.Tie as tie

@@ -1,5 +1,5 @@
 -- `find_definition` searches behind the count.
-use Rattle.terms.specs.DefinitionLaws.{program-row, program-located, program-counted}
+use Rattle.terms.specs.Body.DefinitionLaws.{program-row, program-located, program-counted}
 use borrow.Author.Needs.{needs}
 use Rattle.terms.proofs.definitions.find_definition.Statement.{statement}
 use Rattle.terms.proofs.definitions.find_definition.Tie as tie

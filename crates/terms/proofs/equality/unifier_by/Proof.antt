@@ -1,5 +1,5 @@
-use Rattle.terms.specs.EqualityLaws.{value-length, one-value, left-large, left-within}
-use Rattle.terms.specs.LayLaws.{part-length}
+use Rattle.terms.specs.Unifier.EqualityLaws.{value-length, one-value, left-large, left-within}
+use Rattle.terms.specs.Classes.LayLaws.{part-length}
 use mathlib.Core.Path.{sym}
 use borrow.Author.Needs.{needs}
 use Rattle.terms.proofs.equality.unifier_by.Statement.{statement}

@@ -1,4 +1,4 @@
-use Rattle.terms.specs.EqualityLaws.{clashed, beyond-record, beyond-output, has-room, written}
+use Rattle.terms.specs.Unifier.EqualityLaws.{clashed, beyond-record, beyond-output, has-room, written}
 use borrow.Author.Tests.{not-true, not-false}
 use native.Mathlib.Omega.{arith}
 use borrow.Author.Needs.{needs}

@@ -2,8 +2,8 @@
 use Prim.Native.Nat.{_-_}
 use mathlib.Core.Logic.{⊎-elim}
 use lib.ListN.{length}
-use Rattle.terms.specs.Nodes.{nodes}
-use Rattle.terms.specs.MeasureLaws.{Checking, checking-start, checking-next, checking-found, checking-end}
+use Rattle.terms.specs.Classes.Nodes.{nodes}
+use Rattle.terms.specs.Classes.MeasureLaws.{Checking, checking-start, checking-next, checking-found, checking-end}
 use borrow.Author.Needs.{needs}
 use Rattle.terms.proofs.lengths.complete.Statement.{statement}
 use Rattle.terms.proofs.lengths.complete.Tie as tie

@@ -2,9 +2,9 @@
 use mathlib.Core.Path.{sym, _∙_}
 use native.Mathlib.Omega.{arith}
 use lib.ListN.{length}
-use Rattle.terms.specs.Nodes.{nodes}
-use Rattle.terms.specs.Lengths.{Measuring}
-use Rattle.terms.specs.MeasureLaws.{
+use Rattle.terms.specs.Classes.Nodes.{nodes}
+use Rattle.terms.specs.Classes.Lengths.{Measuring}
+use Rattle.terms.specs.Classes.MeasureLaws.{
   state-weighable,
   measuring-left,
   measuring-start,

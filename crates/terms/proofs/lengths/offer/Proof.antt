@@ -1,5 +1,5 @@
 -- `offer` weighs a class whose length is not known.
-use Rattle.terms.specs.MeasureLaws.{offered-other, offered-known, offered-weighed}
+use Rattle.terms.specs.Classes.MeasureLaws.{offered-other, offered-known, offered-weighed}
 use borrow.Author.Needs.{needs}
 use Rattle.terms.proofs.lengths.offer.Statement.{statement}
 use Rattle.terms.proofs.lengths.offer.Tie as tie

@@ -1,7 +1,7 @@
 -- `weigh` adds up the lengths of the children's classes.
 use Prim.Native.Nat.{_-_}
 use native.Mathlib.Omega.{arith}
-use Rattle.terms.specs.WeighLaws.{
+use Rattle.terms.specs.Classes.WeighLaws.{
   variable-weighed,
   Weighing,
   weighing-start,

@@ -1,5 +1,5 @@
 -- `behind` goes over the children of a node.
-use Rattle.terms.specs.LinkLaws.{Passes, passes-start, passes-in, passes-step, passes-end}
+use Rattle.terms.specs.Classes.LinkLaws.{Passes, passes-start, passes-in, passes-step, passes-end}
 use native.Mathlib.Omega.{arith}
 use borrow.Author.Needs.{needs}
 use Rattle.terms.proofs.load.behind.Statement.{statement}

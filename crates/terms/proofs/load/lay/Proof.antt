@@ -1,5 +1,5 @@
 -- `lay` puts two terms into one table.
-use Rattle.terms.specs.LayLaws.{second-room, count-fits, part-lengths, pair-linkable, pair-laid}
+use Rattle.terms.specs.Classes.LayLaws.{second-room, count-fits, part-lengths, pair-linkable, pair-laid}
 use mathlib.Core.Path.{_∙_, sym}
 use native.Mathlib.Omega.{arith}
 use borrow.Author.Needs.{needs}

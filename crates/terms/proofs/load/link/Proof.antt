@@ -1,5 +1,5 @@
 -- `link` fills in where each subtree ends.
-use Rattle.terms.specs.LinkLaws.{Linking, linking-start, linking-node, linking-step}
+use Rattle.terms.specs.Classes.LinkLaws.{Linking, linking-start, linking-node, linking-step}
 use native.Mathlib.Omega.{arith}
 use borrow.Author.Needs.{needs}
 use Rattle.terms.proofs.load.link.Statement.{statement}

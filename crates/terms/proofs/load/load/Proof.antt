@@ -1,5 +1,5 @@
 -- `load` writes the kinds and numbers of a term.
-use Rattle.terms.specs.LoadLaws.{LoadLoop, load-start, load-room, load-step, load-end}
+use Rattle.terms.specs.Classes.LoadLaws.{LoadLoop, load-start, load-room, load-step, load-end}
 use lib.ListN.{length}
 use Prim.Native.Nat.{_-_}
 use native.Mathlib.Omega.{arith}

@@ -1,7 +1,7 @@
 -- `list_bet`: the pairs of a bet stand behind its kind and its count.
 use native.Mathlib.Omega.{arith}
-use Rattle.terms.specs.BetRow.{pairs-here}
-use Rattle.terms.specs.ListingLaws.{filled-no-pairs, filled-pairs}
+use Rattle.terms.specs.Standing.BetRow.{pairs-here}
+use Rattle.terms.specs.Values.ListingLaws.{filled-no-pairs, filled-pairs}
 use borrow.Author.Needs.{needs}
 use Rattle.terms.proofs.pairs.list_bet.Statement.{statement}
 use Rattle.terms.proofs.pairs.list_bet.Tie as tie

@@ -2,8 +2,8 @@
 use mathlib.Core.Path.{_≡_, refl}
 use native.Mathlib.Omega.{arith}
 use lib.ListN.{length}
-use Rattle.terms.specs.BetRow.{Bets}
-use Rattle.terms.specs.ListingLaws.{BetsListing, bets-start, bets-end, bets-here, bets-room, bets-next}
+use Rattle.terms.specs.Standing.BetRow.{Bets}
+use Rattle.terms.specs.Values.ListingLaws.{BetsListing, bets-start, bets-end, bets-here, bets-room, bets-next}
 use borrow.Author.Needs.{needs}
 use Rattle.terms.proofs.pairs.list_bets.Statement.{statement}
 use Rattle.terms.proofs.pairs.list_bets.Tie as tie

@@ -3,8 +3,8 @@ use mathlib.Core.Path.{_≡_, refl}
 use Prim.Native.Nat.{_-_}
 use native.Mathlib.Omega.{arith}
 use lib.ListN.{length}
-use Rattle.terms.specs.Pairs.{Pairs}
-use Rattle.terms.specs.ListingLaws.{Filling, filling-start, filling-end, filling-room, filling-next}
+use Rattle.terms.specs.Standing.Pairs.{Pairs}
+use Rattle.terms.specs.Values.ListingLaws.{Filling, filling-start, filling-end, filling-room, filling-next}
 use borrow.Author.Needs.{needs}
 use Rattle.terms.proofs.pairs.list_pairs.Statement.{statement}
 use Rattle.terms.proofs.pairs.list_pairs.Tie as tie

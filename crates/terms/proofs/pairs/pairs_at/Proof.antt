@@ -1,4 +1,4 @@
-use Rattle.terms.specs.BetRow.{head-pairs}
+use Rattle.terms.specs.Standing.BetRow.{head-pairs}
 use mathlib.Core.Path.{sym, ap, _∙_}
 use borrow.Author.Needs.{needs}
 use Rattle.terms.proofs.pairs.pairs_at.Statement.{statement}

@@ -1,6 +1,6 @@
 -- `solve` closes the classes and measures them.
 use borrow.Author.Tests.{not-true, not-false}
-use Rattle.terms.specs.SolveLaws.{ended-state, ended-solved, checked-solved}
+use Rattle.terms.specs.Classes.SolveLaws.{ended-state, ended-solved, checked-solved}
 use borrow.Author.Needs.{needs}
 use Rattle.terms.proofs.solve.solve.Statement.{statement}
 use Rattle.terms.proofs.solve.solve.Tie as tie

@@ -1,15 +1,15 @@
 -- `put_under` and `put_variable` write what a table of pairs makes of a term and of a variable; the pairs that are left fall.
-use Rattle.terms.specs.Entries.{PairTable, under}
-use Rattle.terms.specs.UnderLaws.{unbound, found-within, found-fewer, found-table, found-room, found-on, found-bytes}
-use Rattle.terms.specs.Pairs.{term-inside}
-use Rattle.terms.specs.NodeBytes.{node-at}
-use Rattle.terms.specs.Fitted.{Writing, writing-start, writing-more, writing-large, writing-room, writing-kept, writing-done, fitted-stands}
+use Rattle.terms.specs.Values.Entries.{PairTable, under}
+use Rattle.terms.specs.Values.UnderLaws.{unbound, found-within, found-fewer, found-table, found-room, found-on, found-bytes}
+use Rattle.terms.specs.Standing.Pairs.{term-inside}
+use Rattle.terms.specs.Values.NodeBytes.{node-at}
+use Rattle.terms.specs.Values.Fitted.{Writing, writing-start, writing-more, writing-large, writing-room, writing-kept, writing-done, fitted-stands}
 use Rattle.records.specs.declared.walk.Step.the-variants.{Variable as Met, Other, Done}
-use Rattle.records.specs.Syntax.Term.{var}
-use Rattle.records.specs.Walk.Node.{variable, other}
-use Rattle.records.specs.Walk.{walk}
-use Rattle.records.specs.Stands.{stands-within, stands-inside}
-use Rattle.records.specs.Patched.{put-length}
+use Rattle.records.specs.Format.Syntax.Term.{var}
+use Rattle.records.specs.Ends.Walk.Node.{variable, other}
+use Rattle.records.specs.Ends.Walk.{walk}
+use Rattle.records.specs.Ends.Stands.{stands-within, stands-inside}
+use Rattle.records.specs.Writing.Patched.{put-length}
 use native.Mathlib.Omega.{arith}
 use lib.ListN.{length}
 use borrow.Author.Needs.{needs}

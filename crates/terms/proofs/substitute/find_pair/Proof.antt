@@ -1,5 +1,5 @@
-use Rattle.terms.specs.Entries.{PairTable, entries}
-use Rattle.terms.specs.EntryLaws.{Searching, find-start, find-none, find-number, find-found, find-next}
+use Rattle.terms.specs.Values.Entries.{PairTable, entries}
+use Rattle.terms.specs.Values.EntryLaws.{Searching, find-start, find-none, find-number, find-found, find-next}
 use mathlib.Core.List.{List, []}
 use Prim.Native.Nat.{ℕ, _≤_}
 use native.Mathlib.Omega.{arith}

@@ -1,5 +1,5 @@
 -- `better` chooses one of two nodes.
-use Rattle.terms.specs.LeastLaws.{tested-bound, tested-free, chosen-skip, chosen-old, chosen-new}
+use Rattle.terms.specs.Unifier.LeastLaws.{tested-bound, tested-free, chosen-skip, chosen-old, chosen-new}
 use borrow.Author.Tests.{not-true, not-false}
 use native.Mathlib.Omega.{arith}
 use Rattle.terms.proofs.unifier.better.Statement.{statement}

@@ -1,5 +1,5 @@
 -- `clear` makes every number 0.
-use Rattle.terms.specs.LeastLaws.{Clearing, clearing-step}
+use Rattle.terms.specs.Unifier.LeastLaws.{Clearing, clearing-step}
 use mathlib.Core.Path.{refl}
 use lib.ListN.{length, length-set}
 use Prim.Native.Nat.{_-_}

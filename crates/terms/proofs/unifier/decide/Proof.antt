@@ -1,5 +1,5 @@
 -- `decide` closes the classes of two terms and measures their unifier.
-use Rattle.terms.specs.UnifierAnswerLaws.{cleared-blank, decidable-table, decidable-inside, decides-none, decided-classes, decides-found}
+use Rattle.terms.specs.Unifier.UnifierAnswerLaws.{cleared-blank, decidable-table, decidable-inside, decides-none, decided-classes, decides-found}
 use borrow.Author.Tests.{not-true, not-false}
 use mathlib.Core.Path.{_∙_}
 use Rattle.terms.proofs.unifier.decide.Statement.{statement}

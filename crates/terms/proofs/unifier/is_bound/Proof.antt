@@ -1,5 +1,5 @@
 -- `is_bound` tests a node.
-use Rattle.terms.specs.LeastLaws.{tested-symbol, tested-term, tested-variable}
+use Rattle.terms.specs.Unifier.LeastLaws.{tested-symbol, tested-term, tested-variable}
 use native.Mathlib.Omega.{arith}
 use Rattle.terms.proofs.unifier.is_bound.Statement.{statement}
 use Rattle.terms.proofs.unifier.is_bound.Tie as tie

@@ -1,7 +1,7 @@
 -- `least` finds the least bound variable.
-use Rattle.terms.specs.LeastLaws.{least-start}
-use Rattle.terms.specs.UnifierAnswer.{Least}
-use Rattle.terms.specs.Nodes.{nodes}
+use Rattle.terms.specs.Unifier.LeastLaws.{least-start}
+use Rattle.terms.specs.Unifier.UnifierAnswer.{Least}
+use Rattle.terms.specs.Classes.Nodes.{nodes}
 use lib.ListN.{length}
 use Prim.Native.Nat.{_-_, _≤_}
 use native.Mathlib.Omega.{arith}

@@ -1,5 +1,5 @@
 -- `put_pair` writes one pair.
-use Rattle.terms.specs.LeastLaws.{pair-place, pair-term, pair-put}
+use Rattle.terms.specs.Unifier.LeastLaws.{pair-place, pair-term, pair-put}
 use native.Mathlib.Nat.{le-refl}
 use native.Mathlib.Omega.{arith}
 use borrow.Author.Needs.{needs}

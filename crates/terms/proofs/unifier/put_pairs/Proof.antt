@@ -1,7 +1,7 @@
 -- `put_pairs` writes the pairs in order.
-use Rattle.terms.specs.GivesLaws.{Writing, writing-start, writing-few, writing-fits, writing-step, writing-end}
-use Rattle.terms.specs.LeastLaws.{table-classed}
-use Rattle.terms.specs.Nodes.{nodes}
+use Rattle.terms.specs.Unifier.GivesLaws.{Writing, writing-start, writing-few, writing-fits, writing-step, writing-end}
+use Rattle.terms.specs.Unifier.LeastLaws.{table-classed}
+use Rattle.terms.specs.Classes.Nodes.{nodes}
 use Prim.Native.Nat.{_-_}
 use native.Mathlib.Omega.{arith}
 use Rattle.terms.proofs.unifier.put_pairs.Statement.{statement}

@@ -1,6 +1,6 @@
 -- `put_unifier` writes the pairs and then their count in front.
-use Rattle.terms.specs.LayLaws.{part-length}
-use Rattle.terms.specs.UnifierAnswerLaws.{pairs-fit, word-fits, unifier-put}
+use Rattle.terms.specs.Classes.LayLaws.{part-length}
+use Rattle.terms.specs.Unifier.UnifierAnswerLaws.{pairs-fit, word-fits, unifier-put}
 use mathlib.Core.Path.{_∙_, sym}
 use native.Mathlib.Omega.{arith}
 use Rattle.terms.proofs.unifier.put_unifier.Statement.{statement}

@@ -1,7 +1,7 @@
 -- `unifier_length` adds up the pairs.
-use Rattle.terms.specs.GivesLaws.{Sizing, sizing-start, sizing-step, sizing-end}
-use Rattle.terms.specs.LeastLaws.{table-classed}
-use Rattle.terms.specs.Nodes.{nodes}
+use Rattle.terms.specs.Unifier.GivesLaws.{Sizing, sizing-start, sizing-step, sizing-end}
+use Rattle.terms.specs.Unifier.LeastLaws.{table-classed}
+use Rattle.terms.specs.Classes.Nodes.{nodes}
 use Prim.Native.Nat.{_-_}
 use native.Mathlib.Omega.{arith}
 use Rattle.terms.proofs.unifier.unifier_length.Statement.{statement}

@@ -1,6 +1,6 @@
 -- `unify_values` lays two values and decides.
-use Rattle.terms.specs.LayLaws.{part-length}
-use Rattle.terms.specs.UnifierAnswerLaws.{count-within, laid-decidable, decided-unification}
+use Rattle.terms.specs.Classes.LayLaws.{part-length}
+use Rattle.terms.specs.Unifier.UnifierAnswerLaws.{count-within, laid-decidable, decided-unification}
 use mathlib.Core.Path.{sym}
 use borrow.Author.Needs.{needs}
 use Rattle.terms.proofs.unifier.unify_values.Statement.{statement}

@@ -1,4 +1,4 @@
-use Rattle.terms.specs.ValueService.{replied-short, replied-large, replied-value, value-inside, value-room}
+use Rattle.terms.specs.Values.ValueService.{replied-short, replied-large, replied-value, value-inside, value-room}
 use native.Mathlib.Omega.{arith}
 use borrow.Author.Needs.{needs}
 use Rattle.terms.proofs.value.put_value.Statement.{statement}

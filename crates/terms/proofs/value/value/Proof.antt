@@ -1,5 +1,5 @@
-use Rattle.terms.specs.ValueLaws.{replied-refused, passed-tree, passed-accepted, event-bets, replied-event}
-use Rattle.records.specs.Gate.{read-event, event-number}
+use Rattle.terms.specs.Values.ValueLaws.{replied-refused, passed-tree, passed-accepted, event-bets, replied-event}
+use Rattle.records.specs.Gate.Gate.{read-event, event-number}
 use native.Mathlib.Omega.{arith}
 use mathlib.Core.Path.{ap, _∙_}
 use borrow.Author.Needs.{needs}

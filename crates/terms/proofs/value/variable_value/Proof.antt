@@ -1,4 +1,4 @@
-use Rattle.terms.specs.Answered.{variable-at}
+use Rattle.terms.specs.Values.Answered.{variable-at}
 use native.Mathlib.Omega.{arith}
 use borrow.Author.Needs.{needs}
 use Rattle.terms.proofs.value.variable_value.Statement.{statement}

@@ -1,7 +1,7 @@
 -- `ancestor_top` walks over what an ancestor's head announces.
 use Rattle.records.specs.declared.heads.AncestorHead.the-variants.{Called, InConj, InDisj}
-use Rattle.records.specs.HeadRoom.{ancestor-room}
-use Rattle.terms.specs.TopLaws.{ancestor-on, ancestor-tops, ancestor-never}
+use Rattle.records.specs.Ends.HeadRoom.{ancestor-room}
+use Rattle.terms.specs.Body.TopLaws.{ancestor-on, ancestor-tops, ancestor-never}
 use native.Mathlib.Omega.{arith}
 use borrow.Author.Needs.{needs}
 use Rattle.terms.proofs.variables.ancestor_top.Statement.{statement}

@@ -1,5 +1,5 @@
 -- `ancestors_top`: the ancestors passed are gathered, the others stand from pos on.
-use Rattle.terms.specs.TopLaws.{Gathered, gathered-start, gathered-item, gathered-next, gathered-end}
+use Rattle.terms.specs.Body.TopLaws.{Gathered, gathered-start, gathered-item, gathered-next, gathered-end}
 use native.Mathlib.Omega.{arith}
 use borrow.Author.Needs.{needs}
 use Rattle.terms.proofs.variables.ancestors_top.Statement.{statement}

@@ -1,5 +1,5 @@
 -- `next_variable` is above the goal's variables and the ancestors'.
-use Rattle.terms.specs.TopLaws.{goal-on, goal-top, next-is}
+use Rattle.terms.specs.Body.TopLaws.{goal-on, goal-top, next-is}
 use Rattle.terms.proofs.variables.next_variable.Statement.{statement}
 use Rattle.terms.proofs.variables.next_variable.Tie as tie
 

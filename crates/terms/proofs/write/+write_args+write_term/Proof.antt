@@ -1,6 +1,6 @@
 -- `write_term` and `write_args` write the terms of classes; the lengths of the classes fall.
-use Rattle.terms.specs.ClassTermsLaws.{head-fits, wrote-variable, symbol-left, symbol-rest, wrote-symbol, wrotes-end, child-in, child-left, child-fits, rest-next, wrotes-more}
-use Rattle.terms.specs.Nodes.{at}
+use Rattle.terms.specs.Unifier.ClassTermsLaws.{head-fits, wrote-variable, symbol-left, symbol-rest, wrote-symbol, wrotes-end, child-in, child-left, child-fits, rest-next, wrotes-more}
+use Rattle.terms.specs.Classes.Nodes.{at}
 use native.Mathlib.Nat.{le-refl}
 use Prim.Native.Nat.{ℕ, _+_, _*_, _<_}
 use native.Mathlib.Omega.{arith}

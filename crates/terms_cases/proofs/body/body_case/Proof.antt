@@ -1,10 +1,10 @@
 -- `body_case` puts the questions to both records, and then asks for the body of the atom.
 use mathlib.Core.Path.{_≡_, sym, ap, _∙_}
 use native.Mathlib.Omega.{arith}
-use Rattle.records.specs.Gate.{read-program, read-event, program-number, event-number}
-use Rattle.terms.specs.Accepted.{accepted-program}
-use Rattle.terms.specs.AcceptedLaws.{program-passed}
-use Rattle.terms.specs.ValueLaws.{passed-tree}
+use Rattle.records.specs.Gate.Gate.{read-program, read-event, program-number, event-number}
+use Rattle.terms.specs.Standing.Accepted.{accepted-program}
+use Rattle.terms.specs.Standing.AcceptedLaws.{program-passed}
+use Rattle.terms.specs.Values.ValueLaws.{passed-tree}
 use Rattle.terms_cases.specs.Kinds.{kind-of}
 use Rattle.terms_cases.specs.BodyLaws.{program-replied, event-replied, other-replied, atom-found, body-replied}
 use borrow.Author.Needs.{needs}

@@ -1,8 +1,8 @@
 -- `unify_case` questions the event, and then unifies the sides of its goal.
 use mathlib.Core.Path.{sym, ap, _∙_}
 use native.Mathlib.Omega.{arith}
-use Rattle.records.specs.Gate.{read-event, event-number}
-use Rattle.terms.specs.ValueLaws.{passed-tree}
+use Rattle.records.specs.Gate.Gate.{read-event, event-number}
+use Rattle.terms.specs.Values.ValueLaws.{passed-tree}
 use Rattle.terms_cases.specs.Kinds.{kind-of}
 use Rattle.terms_cases.specs.EqualityLaws.{refused-replied, other-replied, equality-found}
 use borrow.Author.Needs.{needs}

@@ -1,6 +1,6 @@
 use mathlib.Core.Path.{ap, _∙_}
 use borrow.Author.Needs.{needs}
-use Rattle.records.specs.Gate.{program-number}
+use Rattle.records.specs.Gate.Gate.{program-number}
 use Rattle.walk.specs.ReadingLaws.{query-unread, query-told}
 use Rattle.walk.proofs.input.read_query.Statement.{statement}
 use Rattle.walk.proofs.input.read_query.Tie as tie

@@ -1,5 +1,5 @@
 use native.Mathlib.Omega.{arith}
-use Rattle.records.specs.Syntax.{call, exit, fail}
+use Rattle.records.specs.Format.Syntax.{call, exit, fail}
 use Rattle.walk_text.specs.Line.{port-word}
 use Rattle.walk_text.specs.LineLaws.{put-word, put-last-word}
 use borrow.Author.Needs.{needs}

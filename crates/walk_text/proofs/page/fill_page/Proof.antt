@@ -5,10 +5,10 @@ use native.Mathlib.Omega.{arith}
 use lib.ListN.{length, take}
 use lib.Seq.{length-take-le}
 use borrow.Author.Needs.{needs}
-use Rattle.records.specs.Patched.{put-length}
-use Rattle.stepper.specs.Services.{machine}
-use Rattle.stepper.specs.Desk.{layers}
-use Rattle.stepper.specs.Stepped.{Passed}
+use Rattle.records.specs.Writing.Patched.{put-length}
+use Rattle.stepper.specs.Services.Services.{machine}
+use Rattle.stepper.specs.Services.Desk.{layers}
+use Rattle.stepper.specs.Step.Stepped.{Passed}
 use Rattle.walk_text.specs.Page.{PageFilling}
 use Rattle.walk_text.specs.PageLaws.{passed-at, accepted-event, filling-start, filling-ends, filling-line, filled-done, filled-full}
 use Rattle.walk_text.proofs.page.fill_page.Statement.{statement}

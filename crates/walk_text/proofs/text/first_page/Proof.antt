@@ -2,9 +2,9 @@ use mathlib.Core.Path.{_≡_, ap, _∙_}
 use native.Mathlib.Omega.{arith}
 use lib.ListN.{length}
 use borrow.Author.Needs.{needs}
-use Rattle.records.specs.Gate.{read-program, program-number}
-use Rattle.terms.specs.AcceptedLaws.{program-passed}
-use Rattle.stepper.specs.Rules.{first-event}
+use Rattle.records.specs.Gate.Gate.{read-program, program-number}
+use Rattle.terms.specs.Standing.AcceptedLaws.{program-passed}
+use Rattle.stepper.specs.Rules.Rules.{first-event}
 use Rattle.walk_text.specs.StartLaws.{begun, begun-passed}
 use Rattle.walk_text.specs.RestLaws.{program-text, first-text, start-text}
 use Rattle.walk_text.proofs.text.first_page.Statement.{statement}

@@ -3,7 +3,7 @@ use native.Mathlib.Omega.{arith}
 use lib.ListN.{length}
 use lib.Seq.{length-take-le}
 use borrow.Author.Needs.{needs}
-use Rattle.stepper.specs.SteppedLaws.{gate-passed}
+use Rattle.stepper.specs.Step.SteppedLaws.{gate-passed}
 use Rattle.walk_text.specs.RestLaws.{gate-text, gives-later}
 use Rattle.walk_text.proofs.text.later_page.Statement.{statement}
 use Rattle.walk_text.proofs.text.later_page.Tie as tie

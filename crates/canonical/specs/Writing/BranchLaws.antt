@@ -1,0 +1,160 @@
+-- Laws of writing a clause's branch: one equation more, and the goal at the end.
+use mathlib.Core.Path.{_≡_, refl, sym, ap, _∙_}
+use mathlib.Core.List.{List, [], _∷_, _++_, append-assoc, append-nil}
+use Prim.Native.Nat.{ℕ, suc, _+_, _≤_, _<_}
+use native.Mathlib.Numerals.{add-one}
+use native.Mathlib.Omega.{arith}
+use lib.ListN.{length, length-append}
+use Rattle.records.specs.Format.Syntax.{Term, Terms, Goal, Clause, arity}
+use Rattle.records.specs.Format.Syntax.Terms.{nil, cons}
+use Rattle.records.specs.Format.Syntax.Clause.{clause}
+use Rattle.records.specs.Format.Encode.{word, term-bytes, terms-bytes, goal-bytes, clause-bytes}
+use Rattle.records.specs.Format.Formed.{TermsFormed, GoalFormed, ClauseFormed}
+use Rattle.records.specs.Writing.Patched.{Put}
+use Rattle.records.specs.Ends.Walk.{Walk, walk, term-nodes, goal-nodes}
+use Rattle.records.specs.Ends.Walk.Walk.{on}
+use Rattle.records.specs.Ends.Steps.{On, ended}
+use Rattle.records.specs.Ends.Stands.{Stands, stands-first, stands-second, walk-term, walk-goal}
+use Rattle.terms.specs.Theory.Substitution.{substitute}
+use Rattle.terms.specs.Body.Body.{substitute-goal}
+use Rattle.terms.specs.Values.NodeBytes.{substituted-bytes, substituted-goal-bytes}
+use Rattle.canonical.specs.Form.Canonical.{numbered-from, branch-from, branch}
+use Rattle.canonical.specs.Sorting.Clauses.{arity-of, clause-at, ClauseAt}
+use Rattle.canonical.specs.Writing.Filling.{Filling, filling-start, filling-more, filling-end, filling-room}
+use Rattle.canonical.specs.Writing.Renaming.{renamed, equation, Passes}
+use Rattle.canonical.specs.declared.branch.Progress.{Progress}
+
+-- the writing at head variable x of k: the terms to come stand at pos, and the goal after them
+pub record Equating (s : List ℕ) (k base : ℕ) (whole before : List ℕ) (first : ℕ) (after : List ℕ) (at pos x : ℕ) : Type 0 where
+  pub terms : Terms
+  pub goal : Goal
+  pub many : x + arity terms ≡ k
+  pub terms-formed : TermsFormed terms
+  pub goal-formed : GoalFormed goal
+  pub end : ℕ
+  pub stands : Stands s pos (terms-bytes terms ++ goal-bytes goal) end
+  pub filling : Filling before first whole after at (goal-bytes (branch-from x (numbered-from base) terms goal))
+
+equating-clause : {s : List ℕ} {place e : ℕ} (c : Clause) → ClauseFormed c → Stands s place (clause-bytes c) e → (base : ℕ) (before : List ℕ) (first : ℕ)
+    → Equating s (arity-of c) base (goal-bytes (branch base c)) before first before first (place + 4) 0
+equating-clause {s} {place} {e} (clause p v ts g) f w base before first = record {
+  terms = ts;
+  goal = g;
+  many = omega arith;
+  terms-formed = f .3;
+  goal-formed = f .4;
+  end = e;
+  stands = stands-second (word p ++ (arity ts ∷ (v ∷ []))) (terms-bytes ts ++ goal-bytes g) w;
+  filling = filling-start;
+}
+
+pub equating-start : {s : List ℕ} {place k : ℕ} → ClauseAt s place → k ≡ arity-of (clause-at s place) → (base : ℕ) (before : List ℕ) (first : ℕ)
+    → Equating s k base (goal-bytes (branch base (clause-at s place))) before first before first (place + 4) 0
+equating-start {s} {place} w e base before first = rw e (equating-clause (clause-at s place) (w .formed) (w .stands) base before first)
+
+-- a walk over one term or one goal gives its bytes under the numbering
+renamed-term : (base : ℕ) (t : Term) (e : ℕ) (w : Walk) → w ≡ on (term-nodes t) e → renamed base w ≡ term-bytes (substitute (numbered-from base) t)
+unfolding renamed
+renamed-term base t e w q = rw q (substituted-bytes (numbered-from base) t)
+
+renamed-goal : (base : ℕ) (g : Goal) (e : ℕ) (w : Walk) → w ≡ on (goal-nodes g) e → renamed base w ≡ goal-bytes (substitute-goal (numbered-from base) g)
+unfolding renamed
+renamed-goal base g e w q = rw q (substituted-goal-bytes (numbered-from base) g)
+
+-- a branch starts with the equation of its first term
+branch-split : (x base : ℕ) (t : Term) (ts : Terms) (g : Goal) (b : List ℕ) → b ≡ term-bytes (substitute (numbered-from base) t)
+    → goal-bytes (branch-from x (numbered-from base) (cons t ts) g) ≡ equation x b ++ goal-bytes (branch-from (suc x) (numbered-from base) ts g)
+unfolding equation
+branch-split x base t ts g b e = rw e
+
+module _ {s whole before after : List ℕ} {k base first at pos x : ℕ} (u : Equating s k base whole before first after at pos x) where
+  -- the first of the terms to come
+  record Turn : Type 0 where
+    pub term : Term
+    pub others : Terms
+    pub many : suc x + arity others ≡ k
+    pub formed : TermsFormed others
+    pub past : ℕ
+    pub walks : walk s pos 1 0 ≡ on (term-nodes term) past
+    pub stands : Stands s past (terms-bytes others ++ goal-bytes (u .goal)) (u .end)
+    pub split : goal-bytes (branch-from x (numbered-from base) (u .terms) (u .goal))
+        ≡ equation x (renamed base (walk s pos 1 0)) ++ goal-bytes (branch-from (suc x) (numbered-from base) others (u .goal))
+
+  turn : x < k → Turn
+  turn h = go (u .terms) refl (u .many) (u .terms-formed) (u .stands)
+    where
+      go : (ts : Terms) → u .terms ≡ ts → x + arity ts ≡ k → TermsFormed ts → Stands s pos (terms-bytes ts ++ goal-bytes (u .goal)) (u .end) → Turn
+      go nil q m f w = absurd (omega arith)
+      go (cons t ts) q m f w =
+          let v : Stands s pos (term-bytes t ++ (terms-bytes ts ++ goal-bytes (u .goal))) (u .end) =
+          rw (append-assoc (term-bytes t) (terms-bytes ts) (goal-bytes (u .goal))) at w in
+          let y = walk-term t (f .0) (stands-first (term-bytes t) (terms-bytes ts ++ goal-bytes (u .goal)) v) in
+          record {
+            term = t;
+            others = ts;
+            many = omega arith;
+            formed = f .1;
+            past = pos + length (term-bytes t);
+            walks = y;
+            stands = stands-second (term-bytes t) (terms-bytes ts ++ goal-bytes (u .goal)) v;
+            split =
+                ap (λ (l : Terms). goal-bytes (branch-from x (numbered-from base) l (u .goal))) q
+                ∙ branch-split x base t ts (u .goal) (renamed base (walk s pos 1 0)) (renamed-term base t (pos + length (term-bytes t)) (walk s pos 1 0) y);
+          }
+
+  module _ (h : x < k) where
+    pub equating-on : On (walk s pos 1 0)
+    equating-on = rw (turn h .walks) tt
+
+    pub equating-room : first + length whole ≤ length before → at + length (equation x (renamed base (walk s pos 1 0))) ≤ length after
+    equating-room r =
+        omega (
+          arith,
+          filling-room (u .filling) r,
+          ap length (turn h .split),
+          length-append (equation x (renamed base (walk s pos 1 0))) (goal-bytes (branch-from (suc x) (numbered-from base) (turn h .others) (u .goal))),
+        )
+
+    pub equating-next : {later : List ℕ} {p : Progress} → Passes (walk s pos 1 0) after at (equation x (renamed base (walk s pos 1 0))) later p
+        → Equating s k base whole before first later (p .at) (p .pos) (x + 1)
+    equating-next {later} {p} q =
+        let t = turn h in
+        let e : p .pos ≡ t .past = q .end ∙ ap ended (t .walks) in
+        rw (add-one x) (record {
+          terms = t .others;
+          goal = u .goal;
+          many = t .many;
+          terms-formed = t .formed;
+          goal-formed = u .goal-formed;
+          end = u .end;
+          stands = rw e (t .stands);
+          filling = filling-more (u .filling) (equation x (renamed base (walk s pos 1 0))) (t .split) (q .put);
+        })
+
+  -- after the last term the goal is left
+  module _ (h : k ≤ x) where
+    no-terms : u .terms ≡ nil
+    no-terms = go (u .terms) (u .many)
+      where
+        go : (ts : Terms) → x + arity ts ≡ k → ts ≡ nil
+        go nil m = refl
+        go (cons t ts) m = absurd (omega arith)
+
+    goal-walks : walk s pos 0 1 ≡ on (goal-nodes (u .goal)) (u .end)
+    goal-walks = walk-goal (u .goal) (u .goal-formed) (rw no-terms at (u .stands))
+
+    goal-left : goal-bytes (branch-from x (numbered-from base) (u .terms) (u .goal)) ≡ renamed base (walk s pos 0 1)
+    goal-left =
+        ap (λ (l : Terms). goal-bytes (branch-from x (numbered-from base) l (u .goal))) no-terms
+        ∙ sym (renamed-goal base (u .goal) (u .end) (walk s pos 0 1) goal-walks)
+
+    pub goal-on : On (walk s pos 0 1)
+    goal-on = rw goal-walks tt
+
+    pub goal-room : first + length whole ≤ length before → at + length (renamed base (walk s pos 0 1)) ≤ length after
+    goal-room r = omega (arith, filling-room (u .filling) r, ap length goal-left)
+
+    pub equating-end : {later : List ℕ} {p : Progress} → Passes (walk s pos 0 1) after at (renamed base (walk s pos 0 1)) later p
+        → Put before first whole later (p .at)
+    equating-end q =
+        filling-end (filling-more (u .filling) (renamed base (walk s pos 0 1)) (goal-left ∙ sym (append-nil (renamed base (walk s pos 0 1)))) (q .put)) refl

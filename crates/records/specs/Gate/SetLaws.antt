@@ -1,0 +1,166 @@
+-- Laws of a set of variables that is one number: what is in it, and that it is the full set of v bits just where exactly the variables 0 to v - 1 went in.
+use mathlib.Core.Path.{_≡_, refl, sym, ap, _∙_}
+use mathlib.Core.Bool.{Bool, true, false, _&&_, _||_, or-assoc, or-comm, or-false}
+use mathlib.Core.List.{List, [], _∷_, _++_}
+use Prim.Native.Nat.{ℕ, zero, suc, _+_, _-_, _*_, _≤_, _<_, _^_, _/_, _%_, max}
+use native.Mathlib.Nat.{div-one, div-eq-of-lt, div-div-eq-div-mul, pow-suc, pow-succ', one-mul}
+use native.Mathlib.Omega.{arith}
+use lib.Bits.{bitOr, or-shr, or-step, or-lt}
+use lib.Dec.{eqb, ltb, eqb·zero-suc, eqb·suc-zero, eqb·suc-suc, leb·suc-zero, leb·suc-suc}
+use lib.Pow.{pow-pos, pow-lt, ones-lt, shl-exact}
+use borrow.Author.Tests.{eq-eqb, ne-eqb, eqb-true, lt-ltb, le-ltb, ltb-true}
+use Rattle.records.specs.Gate.RecordRules.{every, member, numbers, exactly}
+use Rattle.records.specs.Gate.Bools.{same-truth, and-both, every-append, every-number, each-number}
+use Rattle.records.specs.Gate.Sets.{has-variable, with-variable, gathered, exactly-from}
+
+-- the shift that makes a set of one variable loses nothing
+pub one-shl : (x : ℕ) → x < 64 → (1 * 2 ^ x) % 2 ^ 64 ≡ 2 ^ x
+one-shl x h = shl-exact {a = 1} 1 x 64 (omega arith) (omega arith) ∙ one-mul (2 ^ x)
+
+-- the variable 0 of a set, and its variable x + 1, which is the variable x of its half
+has-first : (s : ℕ) → has-variable s 0 ≡ eqb (s % 2) 1
+unfolding has-variable
+has-first s = rw div-one
+
+has-half : (s x : ℕ) → has-variable s (suc x) ≡ has-variable (s / 2) x
+unfolding has-variable
+has-half s x = rw (div-div-eq-div-mul, ← pow-succ' 2 x)
+
+-- the empty set
+pub has-none : (x : ℕ) → has-variable 0 x ≡ false
+unfolding has-variable
+has-none x = ne-eqb (0 / 2 ^ x % 2) 1 (λ e. omega (arith, div-eq-of-lt {n = 0} {m = 2 ^ x} (pow-pos x)))
+
+-- the set of one variable
+has-one : (y x : ℕ) → has-variable (2 ^ y) x ≡ eqb x y
+has-one zero zero = has-first 1
+has-one zero (suc x) = has-half 1 x ∙ has-none x ∙ sym (eqb·suc-zero x)
+has-one (suc y) zero = has-first (2 ^ suc y) ∙ ne-eqb (2 ^ suc y % 2) 1 (λ e. omega (arith, pow-suc 2 y)) ∙ sym (eqb·zero-suc y)
+has-one (suc y) (suc x) =
+    let half : 2 ^ suc y / 2 ≡ 2 ^ y = omega (arith, pow-suc 2 y) in
+    has-half (2 ^ suc y) x ∙ ap (λ (n : ℕ). has-variable n x) half ∙ has-one y x ∙ sym (eqb·suc-suc x y)
+
+-- the full set of v variables
+pub has-full : (v x : ℕ) → has-variable (2 ^ v - 1) x ≡ ltb x v
+has-full zero x = has-none x ∙ sym (leb·suc-zero x)
+has-full (suc v) zero =
+    has-first (2 ^ suc v - 1) ∙ eq-eqb ((2 ^ suc v - 1) % 2) 1 (omega (arith, pow-suc 2 v, pow-pos v)) ∙ sym (lt-ltb 0 (suc v) (omega arith))
+has-full (suc v) (suc x) =
+    let half : (2 ^ suc v - 1) / 2 ≡ 2 ^ v - 1 = omega (arith, pow-suc 2 v, pow-pos v) in
+    has-half (2 ^ suc v - 1) x ∙ ap (λ (n : ℕ). has-variable n x) half ∙ has-full v x ∙ sym (leb·suc-suc (suc x) v)
+
+-- bits, as numbers and as tests
+either-bit : (p q : ℕ) → p < 2 → q < 2 → eqb (max p q) 1 ≡ (eqb p 1 || eqb q 1)
+either-bit zero zero h k = refl
+either-bit zero (suc zero) h k = refl
+either-bit (suc zero) zero h k = refl
+either-bit (suc zero) (suc zero) h k = refl
+either-bit zero (suc (suc q)) h k = absurd (omega arith)
+either-bit (suc zero) (suc (suc q)) h k = absurd (omega arith)
+either-bit (suc (suc p)) q h k = absurd (omega arith)
+
+same-bit : (p q : ℕ) → p < 2 → q < 2 → eqb p 1 ≡ eqb q 1 → p ≡ q
+same-bit zero zero h k e = refl
+same-bit (suc zero) (suc zero) h k e = refl
+same-bit zero (suc zero) h k e = let z : _≡_ {A = ℕ} 0 1 = cc in absurd (omega arith)
+same-bit (suc zero) zero h k e = let z : _≡_ {A = ℕ} 0 1 = cc in absurd (omega arith)
+same-bit zero (suc (suc q)) h k e = absurd (omega arith)
+same-bit (suc zero) (suc (suc q)) h k e = absurd (omega arith)
+same-bit (suc (suc p)) q h k e = absurd (omega arith)
+
+-- the union of two sets
+has-either : (s t x : ℕ) → has-variable (bitOr s t) x ≡ (has-variable s x || has-variable t x)
+unfolding has-variable
+has-either s t x =
+    let e : bitOr s t / 2 ^ x % 2 ≡ max (s / 2 ^ x % 2) (t / 2 ^ x % 2) = rw (or-shr s t x) (omega (arith, or-step (s / 2 ^ x) (t / 2 ^ x))) in
+    ap (λ (n : ℕ). eqb n 1) e ∙ either-bit (s / 2 ^ x % 2) (t / 2 ^ x % 2) (omega arith) (omega arith)
+
+-- one variable more
+pub has-with : (s y x : ℕ) → has-variable (with-variable s y) x ≡ (eqb x y || has-variable s x)
+unfolding with-variable
+has-with s y x =
+    has-either s (2 ^ y) x ∙ ap (λ (b : Bool). has-variable s x || b) (has-one y x) ∙ or-comm (has-variable s x) (eqb x y)
+
+-- two sets of k bits that have the same variables are equal
+pub same-set : (k s t : ℕ) → s < 2 ^ k → t < 2 ^ k → ((x : ℕ) → x < k → has-variable s x ≡ has-variable t x) → s ≡ t
+same-set zero s t hs ht e = omega arith
+same-set (suc k) s t hs ht e =
+    let halves : s / 2 ≡ t / 2 = same-set k (s / 2) (t / 2) (omega (arith, pow-suc 2 k)) (omega (arith, pow-suc 2 k)) (λ x h. sym (has-half s x) ∙ e (suc x) (omega arith) ∙ has-half t x) in
+    let first : s % 2 ≡ t % 2 = same-bit (s % 2) (t % 2) (omega arith) (omega arith) (sym (has-first s) ∙ e 0 (omega arith) ∙ has-first t) in
+    omega arith
+
+-- what is in a set once a list went in
+pub has-gathered : (s : ℕ) (l : List ℕ) (x : ℕ) → has-variable (gathered s l) x ≡ (member x l || has-variable s x)
+unfolding gathered
+has-gathered s [] x = refl
+has-gathered s (y ∷ l) x =
+    has-gathered (with-variable s y) l x ∙ ap (λ (b : Bool). member x l || b) (has-with s y x) ∙ sym (or-assoc (member x l) (eqb x y) (has-variable s x))
+    ∙ ap (λ (b : Bool). b || has-variable s x) (or-comm (member x l) (eqb x y))
+
+has-gathered-none : (l : List ℕ) (x : ℕ) → has-variable (gathered 0 l) x ≡ member x l
+has-gathered-none l x = has-gathered 0 l x ∙ ap (λ (b : Bool). member x l || b) (has-none x) ∙ or-false (member x l)
+
+-- two lists, one after the other
+pub gathered-append : (s : ℕ) (l k : List ℕ) → gathered s (l ++ k) ≡ gathered (gathered s l) k
+unfolding gathered
+gathered-append s [] k = refl
+gathered-append s (x ∷ l) k = gathered-append (with-variable s x) l k
+
+-- variables below v stay within v bits
+pub gathered-lt : (v s : ℕ) (l : List ℕ) → s < 2 ^ v → every (λ x. ltb x v) l ≡ true → gathered s l < 2 ^ v
+unfolding gathered with-variable
+gathered-lt v s [] h b = h
+gathered-lt v s (x ∷ l) h b =
+    let w = and-both (ltb x v) (every (λ x. ltb x v) l) b in
+    gathered-lt v (bitOr s (2 ^ x)) l (or-lt v s (2 ^ x) h (pow-lt (ltb-true x v (w .0)))) (w .1)
+
+-- a list of variables below v gives the full set just where exactly the variables 0 to v - 1 stand in it
+pub gathered-exactly : (v : ℕ) (l : List ℕ) → every (λ x. ltb x v) l ≡ true → eqb (gathered 0 l) (2 ^ v - 1) ≡ exactly v l
+unfolding exactly
+gathered-exactly v l below = rw below (same-truth (eqb (gathered 0 l) (2 ^ v - 1)) (every (λ x. member x l) (numbers 0 v)) forth back)
+  where
+    forth : eqb (gathered 0 l) (2 ^ v - 1) ≡ true → every (λ x. member x l) (numbers 0 v) ≡ true
+    forth e =
+        each-number (λ x. member x l) 0 v (λ x low high.
+        sym (has-gathered-none l x) ∙ ap (λ (n : ℕ). has-variable n x) (eqb-true (gathered 0 l) (2 ^ v - 1) e) ∙ has-full v x ∙ lt-ltb x v (omega arith))
+
+    back : every (λ x. member x l) (numbers 0 v) ≡ true → eqb (gathered 0 l) (2 ^ v - 1) ≡ true
+    back e =
+        eq-eqb (gathered 0 l) (2 ^ v - 1)
+        (same-set v (gathered 0 l) (2 ^ v - 1) (gathered-lt v 0 l (pow-pos v) below) (ones-lt v)
+        (λ x h. has-gathered-none l x ∙ every-number (λ x. member x l) 0 v e x (omega arith) (omega arith) ∙ sym (has-full v x ∙ lt-ltb x v h)))
+
+-- a variable that is too large
+pub too-large : (v : ℕ) (l : List ℕ) → every (λ x. ltb x v) l ≡ false → exactly v l ≡ false
+unfolding exactly
+too-large v l e = rw e
+
+-- a loop over the variables, one by one
+pub exactly-start : (v : ℕ) (l : List ℕ) → exactly-from v 0 l ≡ exactly v l
+unfolding exactly-from
+exactly-start v l = go (every (λ x. ltb x v) l) refl
+  where
+    go : (b : Bool) → every (λ x. ltb x v) l ≡ b → (b && eqb (gathered 0 l) (2 ^ v - 1)) ≡ exactly v l
+    go true e = gathered-exactly v l e
+    go false e = sym (too-large v l e)
+
+pub exactly-next : (v met x : ℕ) (l : List ℕ) → x < v → exactly-from v met (x ∷ l) ≡ exactly-from v (with-variable met x) l
+unfolding exactly-from gathered
+exactly-next v met x l h = rw (lt-ltb x v h)
+
+pub exactly-not : (v met x : ℕ) (l : List ℕ) → v ≤ x → exactly-from v met (x ∷ l) ≡ false
+unfolding exactly-from
+exactly-not v met x l h = rw (le-ltb x v h)
+
+pub exactly-end : (v met : ℕ) → exactly-from v met [] ≡ eqb met (2 ^ v - 1)
+unfolding exactly-from gathered
+exactly-end v met = refl
+
+-- a loop over lists of variables, one by one
+pub exactly-append : (v met : ℕ) (l k : List ℕ) → every (λ x. ltb x v) l ≡ true → exactly-from v met (l ++ k) ≡ exactly-from v (gathered met l) k
+unfolding exactly-from
+exactly-append v met l k e = rw (every-append (λ x. ltb x v) l k, e, gathered-append met l k)
+
+pub exactly-append-not : (v met : ℕ) (l k : List ℕ) → every (λ x. ltb x v) l ≡ false → exactly-from v met (l ++ k) ≡ false
+unfolding exactly-from
+exactly-append-not v met l k e = rw (every-append (λ x. ltb x v) l k, e)

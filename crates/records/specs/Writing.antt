@@ -1,0 +1,5 @@
+-- Writing: bytes put into an output, and records written from plans.
+pub mod Patched
+pub mod Plan
+pub mod PlanLaws
+pub mod Emitted

@@ -1,0 +1,39 @@
+-- The counter (document 01): it "adds an event's port to the walk's four counts; a count at 4,294,967,295 stays, and a refused event changes none".
+use mathlib.Core.Bool.{cond}
+use mathlib.Core.List.{List}
+use Prim.Native.Nat.{ℕ, suc}
+use lib.Dec.{ltb}
+use Rattle.records.specs.Format.Syntax.{call, exit, fail, redo, Event, event}
+use Rattle.records.specs.Gate.Question.{of-event, number as question-number}
+use Rattle.records.specs.Gate.Gate.{read-event}
+use Rattle.stepper.specs.Services.Services.{reading}
+
+-- how many events of each port a walk passed
+pub record Counts : Type 0 where
+  pub calls : ℕ
+  pub exits : ℕ
+  pub fails : ℕ
+  pub redos : ℕ
+
+-- one more, up to 4,294,967,295
+unfoldable pub one-more : ℕ → ℕ
+one-more n = cond (ltb n 4294967295) (suc n) n
+
+-- an event's port is added
+unfoldable pub with-event : Counts → Event → Counts
+unfolding one-more
+with-event c (event call g u s) = record { calls = one-more (c .calls); exits = c .exits; fails = c .fails; redos = c .redos }
+with-event c (event exit g u s) = record { calls = c .calls; exits = one-more (c .exits); fails = c .fails; redos = c .redos }
+with-event c (event fail g u s) = record { calls = c .calls; exits = c .exits; fails = one-more (c .fails); redos = c .redos }
+with-event c (event redo g u s) = record { calls = c .calls; exits = c .exits; fails = c .fails; redos = one-more (c .redos) }
+
+-- a number, 0 if it is done, and the counts afterwards
+pub record CountReply : Type 0 where
+  pub number : ℕ
+  pub counts : Counts
+
+-- 11 to 14 of the event
+unfoldable pub count-record : List ℕ → Counts → CountReply
+unfolding reading with-event question-number
+count-record s c =
+    reading (λ a. record { number = question-number (of-event a); counts = c }) (read-event s) (λ e. record { number = 0; counts = with-event c e })

@@ -1,0 +1,230 @@
+-- Laws of the services on bytes: they answer for an event's record as the rules answer for the event.
+use mathlib.Core.Path.{_≡_, refl, sym, _∙_, ap, subst}
+use mathlib.Core.Bool.{Bool, true, false, true≢false}
+use mathlib.Core.List.{List, [], _∷_, _++_}
+use mathlib.Core.Option.{Option, none, some, Option·none-ne-some, Option·some-injective, Option·map}
+use Prim.Native.Nat.{ℕ, zero, suc, _≤_, _<_}
+use native.Mathlib.Omega.{arith}
+use lib.Dec.{ltb}
+use lib.ListN.{length, length-append}
+use borrow.Author.Tests.{ltb-false, le-ltb}
+use Rattle.records.specs.Format.Syntax.{Goal, Ancestor, called, in-conj, in-disj, Bet, unifier, or, by, Port, Event, event, Definition}
+use Rattle.records.specs.Format.Encode.{each, ancestor-bytes, bet-bytes, event-bytes, record-of, event-record}
+use Rattle.records.specs.Gate.RecordRules.{event-rules}
+use Rattle.records.specs.Gate.Question.{Question, of-program, of-event, output, possible, matches, values, locals, fits, framing, version, grammar, rules, number as question-number}
+use Rattle.records.specs.Format.HeadLaws.{Bytes}
+use Rattle.records.specs.Gate.Gate.{Reading, tree}
+use Rattle.records.specs.Gate.GateLaws.{front, front-record}
+use Rattle.records.specs.Format.Written.{event-written}
+use Rattle.stepper.specs.Services.Layers.{Layers, ProgramSound, Lawful}
+use Rattle.stepper.specs.Rules.Machine.{Answer, refused, gives}
+use Rattle.stepper.specs.Rules.Rules.{fitting, step, first-event, accepted, on-room, Lent, attempt}
+use Rattle.stepper.specs.Rules.Formed.{EventSound, Sound}
+use Rattle.stepper.specs.Rules.Answers.{Given, fitting-put, room-gives, accepted-gives}
+use Rattle.stepper.specs.Walks.Walk.{Direction, encoded, walk}
+use Rattle.stepper.specs.Walks.WalkLaws.{walk-encoded}
+use Rattle.stepper.specs.Rules.FormedLaws.{step-formed}
+use Rattle.stepper.specs.Walks.Reached.{attempted, steps}
+use Rattle.stepper.specs.Walks.ReachedLaws.{attempt-steps}
+use Rattle.stepper.specs.Services.Services.{too-long, record-limit, machine, reply, reading, no-event, first-answer, first-record, step-answer, step-record, next-record, Move, serve, Program, rules-of, Start, start, served}
+
+-- an event that has a record
+abbrev pub Recordable : Event → Type 0
+Recordable e = EventSound e × (record-limit e ≡ none)
+
+-- question 10 says yes exactly when the record is at most 32,768 bytes
+pub limit-fits : (e : Event) → record-limit e ≡ none → length (event-record e) ≤ 32768
+unfolding record-limit too-long
+limit-fits e h = go (ltb 32768 (length (event-record e))) refl h
+  where
+    go : (b : Bool) → ltb 32768 (length (event-record e)) ≡ b → too-long b ≡ none → length (event-record e) ≤ 32768
+    go true k h = absurd (Option·none-ne-some fits (sym h))
+    go false k h = ltb-false 32768 _ k
+
+pub fits-limit : (e : Event) → length (event-record e) ≤ 32768 → record-limit e ≡ none
+unfolding record-limit too-long
+fits-limit e h = ap too-long (le-ltb 32768 (length (event-record e)) h)
+
+-- the front of a buffer that begins with an event's record is that record
+pub front-event : (e : Event) (rest : List ℕ) → record-limit e ≡ none → front (event-record e ++ rest) ≡ event-record e
+unfolding record-of
+front-event e rest h = front-record (event-bytes e) rest (omega (arith, limit-fits e h))
+
+-- each part takes a byte or more, so a record has no more parts than bytes
+each-long : {A : Type 0} (f : A → List ℕ) → ((x : A) → 1 ≤ length (f x)) → (l : List A) → length l ≤ length (each f l)
+each-long f h [] = omega arith
+each-long f h (x ∷ l) = simp length-append (omega (arith, h x, each-long f h l))
+
+ancestor-long : (a : Ancestor) → 1 ≤ length (ancestor-bytes a)
+ancestor-long (called p ts) = omega arith
+ancestor-long (in-conj n a b) = omega arith
+ancestor-long (in-disj n a b) = omega arith
+
+bet-long : (b : Bet) → 1 ≤ length (bet-bytes b)
+bet-long (unifier m) = omega arith
+bet-long (or n) = omega arith
+bet-long (by g) = omega arith
+
+counts-fit : (p : Port) (g : Goal) (u : List Ancestor) (s : List Bet) → record-limit (event p g u s) ≡ none → (length u < 65536) × (length s < 65536)
+unfolding record-of
+counts-fit p g u s h =
+    let k = simp length-append at (limit-fits (event p g u s) h) in
+    (omega (arith, k, each-long ancestor-bytes ancestor-long u), omega (arith, k, each-long bet-bytes bet-long s))
+
+-- the events that are read are those that have records
+pub read-recordable : (L : Layers) → Lawful L → (s : List ℕ) → Bytes s → (e : Event) → L .read-event s ≡ tree e → Recordable e
+read-recordable L laws s b e h =
+    let r = laws .event-read s b e h in
+    (r .1, fits-limit e (subst (λ x. length x ≤ 32768) (r .0) (r .2)))
+
+-- a machine of lawful layers keeps events sound
+pub machine-sound : (L : Layers) → Lawful L → (P : List Definition) → ProgramSound P → Sound (machine L P)
+unfolding record-limit record-of
+machine-sound L laws P f = record {
+  unifier-sound = laws .unifier-sound;
+  body-formed = λ p ts u s g. laws .body-formed P p ts u s g f;
+  counts-fit = counts-fit;
+  ignores-port = λ g u s. refl;
+}
+
+-- no refusal has the number 0
+pub number-positive : (q : Question) → question-number q ≡ 0 → ⊥
+unfolding question-number
+number-positive (of-program framing) h = omega (arith, h)
+number-positive (of-program version) h = omega (arith, h)
+number-positive (of-program grammar) h = omega (arith, h)
+number-positive (of-program rules) h = omega (arith, h)
+number-positive (of-event framing) h = omega (arith, h)
+number-positive (of-event version) h = omega (arith, h)
+number-positive (of-event grammar) h = omega (arith, h)
+number-positive (of-event rules) h = omega (arith, h)
+number-positive output h = omega (arith, h)
+number-positive possible h = omega (arith, h)
+number-positive matches h = omega (arith, h)
+number-positive values h = omega (arith, h)
+number-positive locals h = omega (arith, h)
+number-positive fits h = omega (arith, h)
+
+-- a service is done exactly when it gives an event
+pub done-gives : (out : List ℕ) (a : Answer) → reply out a .number ≡ 0 → (e : Event) × (a ≡ gives e)
+unfolding reply
+done-gives out (refused q) h = absurd (number-positive q h)
+done-gives out (gives e) h = (e, refl)
+
+-- a refusal leaves the output untouched
+pub refused-untouched : (out : List ℕ) (a : Answer) → (reply out a .number ≡ 0 → ⊥) → reply out a .output ≡ out
+unfolding reply
+refused-untouched out (refused q) h = refl
+refused-untouched out (gives e) h = absurd (h refl)
+
+not-done : (n : ℕ) (out : List ℕ) → (n ≡ 0 → ⊥) → next-record n out ≡ none
+unfolding next-record
+not-done zero out h = absurd (h refl)
+not-done (suc n) out h = refl
+
+-- what the next step gets is the record of the event that the answer gives
+next-reply : (out : List ℕ) (a : Answer) → Given Recordable a
+    → next-record (reply out a .number) (reply out a .output) ≡ Option·map event-record (accepted a)
+unfolding next-record reply accepted
+next-reply out (refused q) f = not-done (question-number q) out (number-positive q)
+next-reply out (gives e) f = ap {B = Option (List ℕ)} some (front-event e _ (f .1))
+
+abbrev pub lent : Move → Lent
+lent m = record { direction = m .direction; room = length (m .buffer) }
+
+-- a query for which the query service gives 0 reads as a goal, so every such query is a start
+pub done-reads : (L : Layers) (query out : List ℕ) → first-record L query out .number ≡ 0 → (g : Goal) × (L .read-query query ≡ tree g)
+unfolding first-record first-answer reading
+done-reads L query out h = go (L .read-query query) refl (done-gives out (first-answer L query (length out)) h .1)
+  where
+    go : (r : Reading Goal) → L .read-query query ≡ r → {e : Event}
+        → reading no-event r (λ q. on-room (ltb (length out) 32768) (fitting false (record-limit (first-event q)) (gives (first-event q)))) ≡ gives e
+        → (g : Goal) × (L .read-query query ≡ tree g)
+    go (Reading.refused a) k j = absurd (true≢false cc)
+    go (tree g) k j = (g, k)
+
+-- a list starts from the record of its query's first event, which has one
+pub start-record : (L : Layers) → Lawful L → (q : Start L)
+    → (start q ≡ event-record (first-event (q .goal))) × Recordable (first-event (q .goal))
+unfolding first-record first-answer reading first-event reply event-rules
+start-record L laws q =
+    let e = first-event (q .goal) in
+    let n = length (q .buffer) in
+    let answer : first-answer L (q .query) n ≡ on-room (ltb n 32768) (fitting false (record-limit e) (gives e)) = rw (q .reads) in
+    let given = done-gives (q .buffer) (first-answer L (q .query) n) (q .done) in
+    let r = fitting-put (record-limit e) (gives e) (given .0) (room-gives (ltb n 32768) _ (given .0) (sym answer ∙ given .1)) in
+    let formed = laws .query-read (q .query) (q .bytes) (q .goal) (q .reads) in (
+      ap (λ a. front (reply (q .buffer) a .output)) (given .1 ∙ sym (r .1)) ∙ front-event e _ (r .0),
+      (((formed, (omega arith, tt), (omega arith, tt)), refl), r .0),
+    )
+
+module _ (L : Layers) (laws : Lawful L) (c : Program L) where
+  pub rules-sound : Sound (rules-of c)
+  rules-sound = machine-sound L laws (c .definitions) (laws .program-read (c .program) (c .bytes) (c .definitions) (c .reads))
+
+  -- a step on an event's record answers as the rules do for the event
+  pub step-of-record : (l : Lent) (e : Event) → Recordable e → step-answer L (c .program) l (event-record e) ≡ attempt (rules-of c) l e
+  unfolding step-answer reading
+  step-of-record l e f = rw (c .reads, laws .event-back e (f .0) (limit-fits e (f .1)))
+
+  -- an accepted step gives an event that has a record
+  pub step-recordable : (s : Direction) (d e : Event) → Recordable d → step (rules-of c) s d ≡ gives e → Recordable e
+  step-recordable s d e f h =
+      step-formed (rules-of c) rules-sound s d e (f .0) (f .1) h
+
+  pub attempt-recordable : (l : Lent) (d e : Event) → Recordable d → attempt (rules-of c) l d ≡ gives e → Recordable e
+  attempt-recordable l d e f h = step-recordable (l .direction) d e f (attempt-steps (rules-of c) l d e h)
+
+  given-recordable : (l : Lent) (d : Event) → Recordable d → Given Recordable (attempt (rules-of c) l d)
+  given-recordable l d f = go (attempt (rules-of c) l d) refl
+    where
+      go : (a : Answer) → attempt (rules-of c) l d ≡ a → Given Recordable a
+      go (refused q) h = tt
+      go (gives e) h = attempt-recordable l d e f h
+
+  -- a step of a list, on bytes, is the step on the event
+  pub serve-agrees : (m : Move) (e : Event) → Recordable e
+      → serve L (c .program) m (event-record e) ≡ Option·map event-record (attempted (rules-of c) (lent m) e)
+  unfolding serve step-record
+  serve-agrees m e f =
+      ap (λ a. next-record (reply (m .buffer) a .number) (reply (m .buffer) a .output)) (step-of-record (lent m) e f)
+      ∙ next-reply (m .buffer) (attempt (rules-of c) (lent m) e) (given-recordable (lent m) e f)
+
+  -- a list of steps on the records of events walks as the list on the events does
+  pub served-from : (e : Event) (ms : List Move) → Recordable e
+      → (walk (λ m. m .direction) (serve L (c .program)) (event-record e) ms
+      ≡ encoded event-record (walk (λ m. m .direction) (λ m. attempted (rules-of c) (lent m)) e ms))
+      × Recordable (walk (λ m. m .direction) (λ m. attempted (rules-of c) (lent m)) e ms .event)
+  served-from =
+      walk-encoded (λ m. m .direction) (λ m. attempted (rules-of c) (lent m)) Recordable
+      (λ m d e f h. attempt-recordable (lent m) d e f (accepted-gives _ e h)) event-record (serve L (c .program)) serve-agrees
+
+  pub served-steps : (q : Start L) (ms : List Move)
+      → (served c q ms ≡ encoded event-record (steps (rules-of c) lent (q .goal) ms))
+      × Recordable (steps (rules-of c) lent (q .goal) ms .event)
+  served-steps q ms =
+      let s = start-record L laws q in
+      let w = served-from (first-event (q .goal)) ms (s .1) in
+      (ap (λ r. walk (λ m. m .direction) (serve L (c .program)) r ms) (s .0) ∙ w .0, w .1)
+
+  -- it ends at bytes
+  pub served-bytes : (q : Start L) (ms : List Move) → Bytes (served c q ms .event)
+  unfolding encoded
+  served-bytes q ms =
+      let w = served-steps q ms in
+      subst (λ t. Bytes (t .event)) (sym (w .0)) (event-written (steps (rules-of c) lent (q .goal) ms .event) (w .1 .0 .0))
+
+  -- a step that leads on from an event's record leads to the record of the event that the rules give, and the other way round
+  pub serve-accepts : (m : Move) (e : Event) (r : List ℕ) → Recordable e → serve L (c .program) m (event-record e) ≡ some r
+      → (d : Event) × (r ≡ event-record d) × (attempt (rules-of c) (lent m) e ≡ gives d)
+  unfolding accepted
+  serve-accepts m e r f h = go (attempt (rules-of c) (lent m) e) (sym (serve-agrees m e f) ∙ h)
+    where
+      go : (a : Answer) → Option·map event-record (accepted a) ≡ some r → (d : Event) × (r ≡ event-record d) × (a ≡ gives d)
+      go (refused q) k = absurd (Option·none-ne-some r k)
+      go (gives d) k = (d, sym (Option·some-injective (event-record d) r k), refl)
+
+  pub serve-gives : (m : Move) (e d : Event) → Recordable e → attempt (rules-of c) (lent m) e ≡ gives d
+      → serve L (c .program) m (event-record e) ≡ some (event-record d)
+  unfolding accepted
+  serve-gives m e d f h = serve-agrees m e f ∙ ap (λ a. Option·map event-record (accepted a)) h

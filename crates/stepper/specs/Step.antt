@@ -1,0 +1,22 @@
+-- A step in code: from what the dispatch finds to the step's answer.
+pub mod Stepped
+pub mod SteppedLaws
+pub mod PutLaws
+pub mod NoRuleLaws
+pub mod NoRuleNumbers
+pub mod Halves
+pub mod HalfLaws
+pub mod UnlikeLaws
+pub mod LikeLaws
+pub mod OwnLaws
+pub mod Completed
+pub mod CompletedLaws
+pub mod Settled
+pub mod SettledLaws
+pub mod SettledEquality
+pub mod SettledAtom
+pub mod SettledStepLaws
+pub mod SameLaws
+pub mod KindLaws
+pub mod StepLaws
+pub mod StepArms

@@ -1,0 +1,70 @@
+-- The body of an atom (document 01, "Body"): its definition's goal with the head's variables become the atom's arguments, as they stand and all
+-- at once, and the locals become new variables.
+-- Choices: the first new variable is one definition, which is given the whole call event though release 1 looks at goal and ancestors only.
+use mathlib.Core.List.{List, [], _∷_, _++_}
+use mathlib.Core.Bool.{Bool, _&&_, cond}
+use mathlib.Core.HLevel.{Discrete}
+use mathlib.Core.Option.{Option, none, some}
+use Prim.Native.Nat.{ℕ, zero, suc, _+_}
+use lib.Dec.{eqb, ltb}
+use Rattle.records.specs.Format.Syntax.{Terms, Goal, Ancestor, Bet, Definition, arity}
+use Rattle.records.specs.Format.Syntax.Term.{var}
+use Rattle.records.specs.Format.Syntax.Terms.{nil, cons}
+use Rattle.records.specs.Format.Syntax.Goal.{truth, failure, equal, conj, disj, atom}
+use Rattle.records.specs.Format.Syntax.Definition.{definition}
+use Rattle.records.specs.Gate.RecordRules.{goal-variables, ancestor-variables}
+use Rattle.terms.specs.Theory.Substitution.{Substitution, substitute, substitute-all}
+use Rattle.terms.specs.Theory.Variables.{above}
+
+-- the variables of an ancestor stack
+abbrev pub ancestors-variables : List Ancestor → List ℕ
+ancestors-variables [] = []
+ancestors-variables (a ∷ u) = ancestor-variables a ++ ancestors-variables u
+
+-- m: one more than the greatest variable number in the goal and the ancestors of the call event, or 0 if there is none
+unfoldable pub next-variable : Goal → List Ancestor → List Bet → ℕ
+next-variable g ancestors bets = above (goal-variables g ++ ancestors-variables ancestors)
+
+-- the i-th head variable becomes the i-th argument, the i-th variable behind them m + i
+abbrev pub numbered : Terms → ℕ → Substitution
+numbered nil m i = var (m + i)
+numbered (cons t ts) m zero = t
+numbered (cons t ts) m (suc i) = numbered ts m i
+
+-- every variable of a goal becomes its term
+abbrev pub substitute-goal : Substitution → Goal → Goal
+substitute-goal θ truth = truth
+substitute-goal θ failure = failure
+substitute-goal θ (equal t u) = equal (substitute θ t) (substitute θ u)
+substitute-goal θ (conj a b) = conj (substitute-goal θ a) (substitute-goal θ b)
+substitute-goal θ (disj a b) = disj (substitute-goal θ a) (substitute-goal θ b)
+substitute-goal θ (atom p ts) = atom p (substitute-all θ ts)
+
+-- it defines the predicate p of arity n
+abbrev pub defines : ℕ → ℕ → Definition → Bool
+defines p n (definition q m l g) = eqb p q && eqb n m
+
+-- the definition of a predicate and an arity
+unfoldable pub definition-of : List Definition → ℕ → ℕ → Option Definition
+definition-of [] p n = none
+definition-of (d ∷ ds) p n = cond (defines p n d) (some d) (definition-of ds p n)
+
+-- what the atom's body is: question 9 says no, there is no definition, or it is this goal
+pub data Body : Type 0 where
+  too-many : Body
+  undefined : Body
+  defined : Goal → Body
+  deriving Discrete as Body-discrete
+
+-- some of the locals from m on would be above 65,535
+abbrev pub locals-beyond : ℕ → ℕ → Bool
+locals-beyond m locals = ltb 0 locals && ltb 65536 (m + locals)
+
+-- the body by the definition found, with the first new variable m
+abbrev pub body-of : Option Definition → Terms → ℕ → Body
+body-of none ts m = undefined
+body-of (some (definition p n l g)) ts m = cond (locals-beyond m l) too-many (defined (substitute-goal (numbered ts m) g))
+
+-- the body of the atom p(ts), called under these stacks
+unfoldable pub body : List Definition → ℕ → Terms → List Ancestor → List Bet → Body
+body program p ts ancestors bets = body-of (definition-of program p (arity ts)) ts (next-variable (atom p ts) ancestors bets)

@@ -1,0 +1,26 @@
+-- What stands at the positions of an event's frame: its goal and its two stacks.
+use mathlib.Core.List.{List}
+use Prim.Native.Nat.{ℕ}
+use Rattle.records.specs.Format.Encode.{goal-bytes, ancestor-bytes, bet-bytes}
+use Rattle.records.specs.Format.Formed.{GoalFormed, AncestorFormed, BetFormed}
+use Rattle.terms.specs.Standing.Rows.{Item, Row}
+use Rattle.terms.specs.declared.variables.Frame.{Frame}
+
+-- a goal, an ancestor, n ancestors, n bets
+abbrev pub GoalAt : List ℕ → ℕ → Type 0
+GoalAt s at = Item goal-bytes GoalFormed s at
+
+abbrev pub AncestorAt : List ℕ → ℕ → Type 0
+AncestorAt s at = Item ancestor-bytes AncestorFormed s at
+
+abbrev pub AncestorsAt : List ℕ → ℕ → ℕ → Type 0
+AncestorsAt s at n = Row ancestor-bytes AncestorFormed s at n
+
+abbrev pub BetsAt : List ℕ → ℕ → ℕ → Type 0
+BetsAt s at n = Row bet-bytes BetFormed s at n
+
+-- an event's goal, its ancestors and its bets
+pub record FrameAt (s : List ℕ) (f : Frame) : Type 0 where
+  pub goal : GoalAt s (f .goal)
+  pub ancestors : AncestorsAt s (f .ancestors) (f .depth)
+  pub bets : BetsAt s (f .bets) (f .height)

@@ -1,0 +1,52 @@
+-- The answer for an equality under a bet stack, and the bytes of its unifier.
+use mathlib.Core.Path.{_≡_}
+use mathlib.Core.List.{List}
+use mathlib.Core.Bool.{cond}
+use Prim.Native.Nat.{ℕ, _≤_}
+use lib.Dec.{leb}
+use lib.ListN.{length}
+use Rattle.records.specs.Format.Syntax.{Term, Binding}
+use Rattle.records.specs.Format.Encode.{term-bytes, binding-bytes, counted}
+use Rattle.records.specs.Format.Formed.{TermFormed}
+use Rattle.records.specs.Writing.Patched.{Put}
+use Rattle.terms.specs.Theory.Unify.{unify}
+use Rattle.terms.specs.Theory.Outcome.{value-limit, Unified, too-large, clash, unified, outcome}
+use Rattle.terms.specs.Classes.Laid.{IsValue}
+use Rattle.terms.specs.declared.equality.UnifierAnswer.{UnifierAnswer}
+use Rattle.terms.specs.declared.equality.UnifierAnswer.the-variants.{TooLarge, Clash, Unifier, TooLong}
+
+-- the count and pairs of a unifier as bytes
+abbrev pub unifier-bytes : List Binding → List ℕ
+unifier-bytes σ = counted binding-bytes σ
+
+-- the answer for a unifier of so many bytes, where the output has so many
+abbrev pub length-answer : (room size : ℕ) → UnifierAnswer
+length-answer room size = cond (leb size 32768) (cond (leb size room) (Unifier size) TooLong) TooLong
+
+-- the answer for an outcome
+abbrev pub unifier-answer : ℕ → Unified → UnifierAnswer
+unifier-answer room too-large = TooLarge
+unifier-answer room clash = Clash
+unifier-answer room (unified σ) = length-answer room (length (unifier-bytes σ))
+
+-- the paper's number for an answer: question 8 or 10 says no, else 0
+abbrev pub unifier-refusal : UnifierAnswer → ℕ
+unifier-refusal TooLarge = 8
+unifier-refusal Clash = 0
+unifier-refusal (Unifier n) = 0
+unifier-refusal TooLong = 10
+
+-- the answer is the outcome's; a unifier that fits stands at the start of the output, with the rest as it was; else nothing changes
+pub record Answered (before after : List ℕ) (u : Unified) (r : UnifierAnswer) : Type 0 where
+  pub is : r ≡ unifier-answer (length before) u
+  pub written : (σ : List Binding) → u ≡ unified σ → {n : ℕ} → r ≡ Unifier n → Put before 0 (unifier-bytes σ) after n
+  pub kept : ((n : ℕ) → r ≡ Unifier n → ⊥) → after ≡ before
+
+-- a value within question 8's limit
+pub record OneValue (a : List ℕ) : Type 0 where
+  pub value : IsValue a
+  pub short : length a ≤ value-limit
+
+-- the answer for whatever terms the values are
+pub record Answers (a b before after : List ℕ) (r : UnifierAnswer) : Type 0 where
+  pub each : (s t : Term) → TermFormed s → TermFormed t → a ≡ term-bytes s → b ≡ term-bytes t → Answered before after (outcome (unify s t)) r

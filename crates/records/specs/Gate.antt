@@ -1,7 +1,11 @@
--- Questions 1 to 4: what they ask of a record, and how code asks them of bytes at positions.
+-- The gate: questions 1 to 4, what they ask of a record and how code asks them of bytes at positions; the door of the services, and their replies.
 pub mod Question
 pub mod RecordRules
 pub mod Gate
+pub mod Reply
+pub mod ReplyLaws
+pub mod Door
+pub mod DoorLaws
 pub mod GateLaws
 pub mod Bools
 pub mod Sets

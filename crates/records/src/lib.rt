@@ -1,5 +1,6 @@
 // Records: what the desk's bytes say, and how they are written.
 pub mod compare;
+pub mod door;
 pub mod ends;
 pub mod gate;
 pub mod heads;

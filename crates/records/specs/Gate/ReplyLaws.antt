@@ -1,0 +1,118 @@
+-- Laws of answers and replies: numbers name questions, 0 says that something was given, and a refusal leaves the output untouched.
+use mathlib.Core.Path.{_≡_, refl, sym, ap, _∙_}
+use mathlib.Core.Bool.{Bool, true, false, cond}
+use mathlib.Core.Logic.{_↔_}
+use mathlib.Core.List.{List}
+use Prim.Native.Nat.{ℕ, _≤_}
+use native.Mathlib.Omega.{arith}
+use lib.Dec.{eqb}
+use lib.ListN.{length}
+use lib.Seq.{length-front, length-take-le}
+use Rattle.records.specs.Gate.Question.{Question, of-program, of-event, output, possible, matches, values, locals, fits, framing, version, grammar, rules, number as question-number}
+use Rattle.records.specs.Gate.Reply.{Answer, refused, gives, on-yes, through, answer-number, reply-with}
+
+-- the question that has a number (where none has it, this is of no account)
+question-of : ℕ → Question
+question-of n =
+    cond (eqb n 1) (of-program framing) (cond (eqb n 2) (of-program version) (cond (eqb n 3) (of-program grammar) (cond (eqb n 4) (of-program rules)
+    (cond (eqb n 11) (of-event framing) (cond (eqb n 12) (of-event version) (cond (eqb n 13) (of-event grammar) (cond (eqb n 14) (of-event rules)
+    (cond (eqb n 5) output (cond (eqb n 6) possible (cond (eqb n 7) matches (cond (eqb n 8) values (cond (eqb n 9) locals fits))))))))))))
+
+question-of-number : (q : Question) → question-of (question-number q) ≡ q
+unfolding question-number question-of
+question-of-number (of-program framing) = refl
+question-of-number (of-program version) = refl
+question-of-number (of-program grammar) = refl
+question-of-number (of-program rules) = refl
+question-of-number (of-event framing) = refl
+question-of-number (of-event version) = refl
+question-of-number (of-event grammar) = refl
+question-of-number (of-event rules) = refl
+question-of-number output = refl
+question-of-number possible = refl
+question-of-number matches = refl
+question-of-number values = refl
+question-of-number locals = refl
+question-of-number fits = refl
+
+-- no two questions have one number
+pub number-injective : (p q : Question) → question-number p ≡ question-number q → p ≡ q
+number-injective p q h = sym (question-of-number p) ∙ ap question-of h ∙ question-of-number q
+
+-- no question has the number 0
+pub number-positive : (q : Question) → question-number q ≡ 0 → ⊥
+unfolding question-number
+number-positive (of-program framing) h = omega (arith, h)
+number-positive (of-program version) h = omega (arith, h)
+number-positive (of-program grammar) h = omega (arith, h)
+number-positive (of-program rules) h = omega (arith, h)
+number-positive (of-event a) h = omega (arith, h)
+number-positive output h = omega (arith, h)
+number-positive possible h = omega (arith, h)
+number-positive matches h = omega (arith, h)
+number-positive values h = omega (arith, h)
+number-positive locals h = omega (arith, h)
+number-positive fits h = omega (arith, h)
+
+-- a number other than 0 is that of the question that refuses
+pub record RefusedBy {A : Type 0} (a : Answer A) (n : ℕ) : Type 0 where
+  pub question : Question
+  pub refuses : a ≡ refused question
+  pub number-is : n ≡ question-number question
+
+pub number-refuses : {A : Type 0} (a : Answer A) {n : ℕ} → n ≡ answer-number a → (n ≡ 0 → ⊥) → RefusedBy a n
+unfolding answer-number
+number-refuses (refused q) e z = record { question = q; refuses = refl; number-is = e }
+number-refuses (gives a) e z = absurd (z e)
+
+-- 0 says that something was given
+pub number-gives : {A : Type 0} (a : Answer A) {n : ℕ} → n ≡ answer-number a → n ≡ 0 → (x : A) × (a ≡ gives x)
+unfolding answer-number
+number-gives (refused q) e z = absurd (number-positive q (sym e ∙ z))
+number-gives (gives a) e z = (a, refl)
+
+-- a question that was passed
+pub yes-gives : {A : Type 0} (q : Question) (b : Bool) (next : Answer A) {x : A} → on-yes q b next ≡ gives x → (b ≡ true) × (next ≡ gives x)
+unfolding on-yes
+yes-gives q true next e = (refl, e)
+yes-gives q false next e = absurd (let z : _≡_ {A = ℕ} 0 1 = cc in omega arith)
+
+-- what is given came through an answer that gave
+pub through-gives : {A B : Type 0} (a : Answer A) (next : A → Answer B) {y : B} → through refused a next ≡ gives y → (x : A) × (a ≡ gives x) × (next x ≡ gives y)
+unfolding through
+through-gives (refused q) next e = absurd (let z : _≡_ {A = ℕ} 0 1 = cc in omega arith)
+through-gives (gives a) next e = (a, refl, e)
+
+-- what is made of what is given has its number
+pub through-number : {A B : Type 0} (a : Answer A) (f : A → B) → answer-number a ≡ answer-number (through refused a (λ x. gives (f x)))
+unfolding through answer-number
+through-number (refused q) f = refl
+through-number (gives x) f = refl
+
+module _ {A : Type 0} (bytes : A → List ℕ) (out : List ℕ) where
+  pub reply-number : (a : Answer A) → reply-with bytes out a .number ≡ answer-number a
+  unfolding reply-with answer-number
+  reply-number (refused q) = refl
+  reply-number (gives x) = refl
+
+  -- a reply's number is that of the question that refuses
+  pub reply-refuses : (a : Answer A) (q : Question) → (reply-with bytes out a .number ≡ question-number q) ↔ (a ≡ refused q)
+  unfolding reply-with
+  reply-refuses (refused p) q = (λ h. ap refused (number-injective p q h), λ h. ap (λ a. reply-with bytes out a .number) h)
+  reply-refuses (gives x) q = (λ h. absurd (number-positive q (sym h)), λ h. ap (λ a. reply-with bytes out a .number) h)
+
+  -- a service is done exactly where it gives something
+  pub reply-gives : (a : Answer A) → reply-with bytes out a .number ≡ 0 → (x : A) × (a ≡ gives x)
+  reply-gives a h = number-gives a {n = 0} (sym h ∙ reply-number a) refl
+
+  -- a refusal leaves the output untouched
+  pub reply-untouched : (a : Answer A) → (reply-with bytes out a .number ≡ 0 → ⊥) → reply-with bytes out a .output ≡ out
+  unfolding reply-with
+  reply-untouched (refused q) h = refl
+  reply-untouched (gives x) h = absurd (h refl)
+
+  -- the output keeps its length where what is written fits it
+  pub reply-length : (a : Answer A) → ((x : A) → a ≡ gives x → length (bytes x) ≤ length out) → length (reply-with bytes out a .output) ≡ length out
+  unfolding reply-with
+  reply-length (refused q) h = refl
+  reply-length (gives x) h = length-front out (bytes x) (length (bytes x)) (sym (length-take-le (length (bytes x)) out (h x refl)))

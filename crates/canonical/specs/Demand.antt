@@ -1,4 +1,4 @@
--- The last page of the canonical form: of demand 2 (the terms of release 1), that clauses become the canonical form which the calculus works on, said of
+-- The last page of the canonical form: of demand 2 (SPECIFICATION 9), that clauses become the canonical form which the calculus works on, said of
 -- the service on bytes. The rest of demand 2 is the stepper's last page, `Demands`: its rules find a predicate's definition by `definition-of`.
 use mathlib.Core.Path.{_≡_, sym, ap, _∙_}
 use mathlib.Core.Logic.{_↔_}
@@ -16,7 +16,7 @@ use Rattle.terms.specs.Body.Body.{definition-of}
 use Rattle.canonical.specs.Form.Canonical.{predicate, clauses-of, defined-by, canonical}
 use Rattle.canonical.specs.Writing.Service.{locals-fit, canonical-record}
 use Rattle.canonical.specs.Form.LookupLaws.{canonical-of, canonical-rises}
-use Rattle.canonical.specs.Form.FormedLaws.{all-small}
+use Rattle.canonical.specs.Form.FormedLaws.{arities-fit}
 use Rattle.canonical.specs.Writing.ServiceLaws.{same-clauses, canonical-done, canonical-done-iff}
 
 -- The record s is the program that the clauses cs become: it passes questions 1 to 4 and says their canonical form, in which definitions rise by
@@ -35,7 +35,7 @@ module _ (s : List ℕ) (b : Bytes s) (cs : List Clause) (h : read-clauses s ≡
       let d = canonical-done s b out n in
       record {
         reads = d .passes ∙ ap (λ c. tree (canonical c)) (same-clauses (d .read) cs (sym (d .reads) ∙ h));
-        rises = canonical-rises cs (all-small cs (clauses-tree s b cs h .formed .1));
+        rises = canonical-rises cs (arities-fit cs (clauses-tree s b cs h .formed .1));
         found = canonical-of cs;
       }
 

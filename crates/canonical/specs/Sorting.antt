@@ -1,19 +1,9 @@
--- Sorting: the clauses of a record as entries, gathered by predicate.
-pub mod Order
-pub mod OrderLaws
-pub mod Listing
-pub mod ListingLaws
-pub mod Clauses
-pub mod ClausesLaws
-pub mod StandingLaws
+-- Sorting: the entries of a record's clauses, picked one after the other, are those of each predicate in turn.
 pub mod Entries
 pub mod EntryLaws
-pub mod Sorted
-pub mod SortedLaws
-pub mod Sorting
-pub mod SortingLaws
-pub mod Runs
-pub mod RunLaws
+pub mod Picking
+pub mod PickingLaws
+pub mod Groups
+pub mod GroupLaws
 pub mod Remaining
 pub mod RemainingLaws
-pub mod AcceptedLaws

@@ -1,16 +1,11 @@
--- Writing: the sizes, and then the bytes, of a canonical form; and the service.
-pub mod Filling
-pub mod Renaming
-pub mod RenamingLaws
-pub mod Joining
-pub mod JoiningLaws
+-- Writing: the bytes of a branch, of a definition and of a program, and the service.
+pub mod PartlyPut
+pub mod Equation
 pub mod BranchLaws
-pub mod DefiningLaws
-pub mod Sizes
-pub mod SizeLaws
-pub mod SummingLaws
-pub mod Survey
-pub mod SurveyLaws
+pub mod Definition
+pub mod DefinitionLaws
+pub mod Program
+pub mod ProgramLaws
 pub mod Service
 pub mod ServiceLaws
 pub mod ReplyLaws

@@ -6,14 +6,14 @@ use records::heads::clause_head;
 ghost use mathlib.Core.Path.{_≡_};
 ghost use Prim.Native.Nat.{_+_, _<_};
 ghost use lib.ListN.{length, getD, drop};
-ghost use Rattle.canonical.specs.Sorting.Entries.{better, least, picked, top};
-ghost use Rattle.canonical.specs.Sorting.Listing.{ClausesAt, entries};
-ghost use Rattle.canonical.specs.Sorting.Runs.{key-of, run-length};
+ghost use Rattle.canonical.specs.Sorting.Picking.{better, least, picked, entry-limit};
+ghost use Rattle.canonical.specs.Sorting.Entries.{ClausesAt, clause-entries, entry-key};
+ghost use Rattle.canonical.specs.Sorting.Groups.{group-length};
 
 // The entries of the clauses of a record, as they stand.
 pub fn list_clauses(s: &[u8], table: &mut [usize])
     requires { ⌜ ClausesAt (now s) (length (now table)) ⌝ }
-    ensures { λ _. ⌜ ((a : ClausesAt (now (s .entry)) (length (now (table .entry)))) → now (table .exit) ≡ entries 5 (a .clauses)) ⌝ }
+    ensures { λ _. ⌜ ((a : ClausesAt (now (s .entry)) (length (now (table .entry)))) → now (table .exit) ≡ clause-entries 5 (a .clauses)) ⌝ }
 {
     let mut pos = 5;
     let mut i = 0;
@@ -42,7 +42,7 @@ fn better(low: usize, best: usize, x: usize) -> usize
 
 // The least entry that is at least `low`.
 fn least(table: &[usize], low: usize) -> usize
-    ensures { λ r. ⌜ r ≡ least low top (now (table .entry)) ⌝ }
+    ensures { λ r. ⌜ r ≡ least low entry-limit (now (table .entry)) ⌝ }
 {
     let mut best: usize = 1099511627776;
     let mut i = 0;
@@ -68,10 +68,10 @@ pub fn sort(table: &[usize], sorted: &mut [usize])
     }
 }
 
-// Where the run of entries with the key of the i-th one ends.
-pub fn run_end(sorted: &[usize], i: usize) -> usize
+// Where the group of entries with the key of the i-th one ends.
+pub fn group_end(sorted: &[usize], i: usize) -> usize
     requires { ⌜ i < length (now sorted) ⌝ }
-    ensures { λ r. ⌜ r ≡ i + run-length (key-of (getD (now (sorted .entry)) i 0)) (drop i (now (sorted .entry))) ⌝ }
+    ensures { λ r. ⌜ r ≡ i + group-length (entry-key (getD (now (sorted .entry)) i 0)) (drop i (now (sorted .entry))) ⌝ }
 {
     let key = sorted[i] / 65536;
     let mut j = i;

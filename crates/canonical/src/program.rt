@@ -1,7 +1,7 @@
 // All definitions, from the sorted entries: measured, which answers questions 9 and 10, and written as a program.
+use crate::definition::group_totals;
 use crate::definition::put_definition;
-use crate::definition::run_totals;
-use crate::order::run_end;
+use crate::order::group_end;
 use records::kinds::RECORD_LIMIT;
 use records::put::put_record_head;
 use records::put::put_word;
@@ -15,9 +15,10 @@ ghost use lib.ListN.{length};
 ghost use Rattle.records.specs.Format.Encode.{each, definition-bytes, program-record};
 ghost use Rattle.records.specs.Gate.RecordRules.{every};
 ghost use Rattle.records.specs.Writing.Patched.{Put};
-ghost use Rattle.canonical.specs.Writing.Service.{locals-fit, made, replied, reply};
+ghost use Rattle.records.specs.Gate.Reply.{Replied};
+ghost use Rattle.canonical.specs.Writing.Service.{locals-fit, program-reply};
 ghost use Rattle.canonical.specs.Sorting.Remaining.{Remaining, program-of};
-ghost use Rattle.canonical.specs.Writing.Survey.{surveyed, survey-refusal};
+ghost use Rattle.canonical.specs.Writing.Program.{surveyed, survey-refusal};
 ghost use Rattle.canonical.specs.declared.program.Survey.the-variants.{Within};
 
 // How many definitions there are, with their bytes, or question 9 says no.
@@ -26,7 +27,7 @@ pub enum Survey {
     TooMany,
 }
 
-// The paper's number for a survey: question 9, then 10 for the record, which has five bytes besides the definitions; 0 where neither says no.
+// The number for a survey (SPECIFICATION 7): question 9, then 10 for the record, which has five bytes besides the definitions; 0 where neither says no.
 fn survey_refusal(survey: Survey) -> u8
     ensures { λ r. ⌜ r ≡ survey-refusal survey ⌝ }
 {
@@ -45,8 +46,8 @@ pub fn measure_program(s: &[u8], sorted: &[usize]) -> Survey
     let mut size: usize = 0;
     let mut i = 0;
     while i < sorted.len() {
-        let j = run_end(sorted, i);
-        let totals = run_totals(s, &sorted[i..j]);
+        let j = group_end(sorted, i);
+        let totals = group_totals(s, &sorted[i..j]);
         if 255 < totals.locals {
             return Survey::TooMany;
         }
@@ -66,7 +67,7 @@ fn put_definitions(out: &mut [u8], first: usize, s: &[u8], sorted: &[usize]) -> 
     let mut at = first;
     let mut i = 0;
     while i < sorted.len() {
-        let j = run_end(sorted, i);
+        let j = group_end(sorted, i);
         at = put_definition(out, at, s, &sorted[i..j]);
         i = j;
     }
@@ -90,7 +91,7 @@ fn put_record(s: &[u8], sorted: &[usize], count: usize, size: usize, out: &mut [
 pub fn put_program(s: &[u8], sorted: &[usize], out: &mut [u8]) -> u8
     requires { ⌜ Remaining (now s) (now sorted) 0 (program-of (now s)) ⌝ }
     requires { ⌜ 32768 ≤ length (now out) ⌝ }
-    ensures { λ r. ⌜ replied r (now (out .exit)) ≡ reply (now (out .entry)) (made (length (now (out .entry))) (program-of (now (s .entry)))) ⌝ }
+    ensures { λ r. ⌜ Replied (program-reply (now (out .entry)) (program-of (now (s .entry)))) r (now (out .exit)) ⌝ }
 {
     let survey = measure_program(s, sorted);
     let number = survey_refusal(survey);

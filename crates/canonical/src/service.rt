@@ -2,8 +2,7 @@
 use crate::order::list_clauses;
 use crate::order::sort;
 use crate::program::put_program;
-use records::gate::clauses_verdict;
-use records::gate::program_number;
+use records::door::clauses_door;
 use records::heads::Word;
 use records::heads::word_at;
 use records::kinds::RECORD_LIMIT;
@@ -13,7 +12,8 @@ ghost use mathlib.Core.Path.{_≡_};
 ghost use Prim.Native.Nat.{_≤_};
 ghost use lib.ListN.{length};
 ghost use Rattle.records.specs.Gate.Gate.{Accepted, read-clauses};
-ghost use Rattle.canonical.specs.Writing.Service.{made, replied, reply, canonical-record};
+ghost use Rattle.records.specs.Gate.Reply.{Replied};
+ghost use Rattle.canonical.specs.Writing.Service.{program-reply, canonical-record};
 ghost use Rattle.canonical.specs.Sorting.Remaining.{record-clauses, program-of};
 
 // The program of an accepted clause record, by way of its clauses' entries: as they stand in the table, and then sorted.
@@ -22,7 +22,7 @@ fn put_sorted(s: &[u8], table: &mut [usize], sorted: &mut [usize], out: &mut [u8
     requires { ⌜ length (now table) ≡ length (record-clauses (now s)) ⌝ }
     requires { ⌜ length (now sorted) ≡ length (now table) ⌝ }
     requires { ⌜ 32768 ≤ length (now out) ⌝ }
-    ensures { λ r. ⌜ replied r (now (out .exit)) ≡ reply (now (out .entry)) (made (length (now (out .entry))) (program-of (now (s .entry)))) ⌝ }
+    ensures { λ r. ⌜ Replied (program-reply (now (out .entry)) (program-of (now (s .entry)))) r (now (out .exit)) ⌝ }
 {
     list_clauses(s, table);
     sort(table, sorted);
@@ -35,7 +35,7 @@ fn put_canonical(s: &[u8], table: &mut [usize], sorted: &mut [usize], out: &mut 
     requires { ⌜ 6552 ≤ length (now table) ⌝ }
     requires { ⌜ 6552 ≤ length (now sorted) ⌝ }
     requires { ⌜ 32768 ≤ length (now out) ⌝ }
-    ensures { λ r. ⌜ replied r (now (out .exit)) ≡ reply (now (out .entry)) (made (length (now (out .entry))) (program-of (now (s .entry)))) ⌝ }
+    ensures { λ r. ⌜ Replied (program-reply (now (out .entry)) (program-of (now (s .entry)))) r (now (out .exit)) ⌝ }
 {
     let Word::Number(n) = word_at(s, 3) else {
         return DONE;
@@ -45,9 +45,9 @@ fn put_canonical(s: &[u8], table: &mut [usize], sorted: &mut [usize], out: &mut 
 
 // The service, for every slice and every output.
 pub fn canonical(clauses: &[u8], out: &mut [u8]) -> u8
-    ensures { λ r. ⌜ replied r (now (out .exit)) ≡ canonical-record (now (clauses .entry)) (now (out .entry)) ⌝ }
+    ensures { λ r. ⌜ Replied (canonical-record (now (clauses .entry)) (now (out .entry))) r (now (out .exit)) ⌝ }
 {
-    let number = program_number(clauses_verdict(clauses));
+    let number = clauses_door(clauses);
     if number != DONE {
         return number;
     }

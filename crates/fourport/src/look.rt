@@ -4,17 +4,19 @@ use terms::value::value;
 ghost use mathlib.Core.Path.{_≡_};
 ghost use lib.ListN.{length};
 ghost use Rattle.records.specs.Gate.Gate.{read-event};
-ghost use Rattle.terms.specs.Values.ValueService.{Replied, value-reply};
+ghost use Rattle.records.specs.Format.Encode.{term-bytes};
+ghost use Rattle.records.specs.Gate.Reply.{Receipted};
+ghost use Rattle.terms.specs.Values.ValueService.{value-answer};
 ghost use Rattle.stepper.specs.Services.Lookup.{lookup};
 
 // S(v) as bare term bytes. How many there are is left in `written`.
 #[no_mangle]
 pub extern "C" fn fourport_value(event: &[u8], v: u16, out: &mut [u8], written: &mut u32) -> u32
-    ensures { λ r. ⌜ Replied (value-reply (read-event (now (event .entry))) (length (now (out .entry))) v) (now (out .entry)) (record { number = r; length = now (written .exit) }) (now (out .exit)) ⌝ }
+    ensures { λ r. ⌜ Receipted term-bytes (value-answer (read-event (now (event .entry))) (length (now (out .entry))) v) (now (out .entry)) (record { number = r; length = now (written .exit) }) (now (out .exit)) ⌝ }
 {
-    let emit = value(event, v, out);
-    *written = emit.length as u32;
-    emit.number as u32
+    let receipt = value(event, v, out);
+    *written = receipt.length as u32;
+    receipt.number as u32
 }
 
 // How many bytes of the program the definition has that the event's goal names, 0 if there is none. Where it starts is left in `at`.

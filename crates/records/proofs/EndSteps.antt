@@ -7,7 +7,7 @@ use mathlib.Core.List.{List}
 use lib.ListN.{length}
 use Rattle.records.specs.Format.Heads.{term-head-at, goal-head-at}
 use Rattle.records.specs.Format.HeadLaws.{Known}
-use Rattle.records.specs.Ends.Walk.{end-at}
+use Rattle.records.specs.Ends.Traversal.{end-at}
 use Rattle.records.specs.Ends.EndLaws.{end-step, end-by-heads, end-then, end-never, end-bound}
 use Rattle.records.specs.declared.heads.TermHead.{TermHead}
 use Rattle.records.specs.declared.heads.TermHead.the-variants.{Variable, Symbol, NoTerm}

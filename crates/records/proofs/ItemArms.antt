@@ -1,19 +1,16 @@
--- The rules of an item by its kind, and of a row of items by its first one.
+-- The rules of a row of items, by its first one.
 use Prim.Native.Nat.{ℕ, _-_, _<_}
 use mathlib.Core.Path.{_≡_, refl, sym, ap, _∙_}
 use mathlib.Core.Bool.{Bool, true, false, _&&_}
 use mathlib.Core.List.{List}
-use Rattle.records.specs.Gate.RecordRules.{every, bet-rules, definition-rules, clause-rules}
+use Rattle.records.specs.Gate.RecordRules.{every}
 use Rattle.records.specs.Format.Reader.{Read}
-use Rattle.records.specs.Format.Items.{Reader, read-ancestor, read-bet, read-definition, read-clause}
-use Rattle.records.specs.Ends.Walk.{end-of}
-use Rattle.records.specs.Gate.Rows.{Ends, holds, kept-at, row-at, First, row-more, row-first, row-none}
-use Rattle.records.specs.Ends.ItemEnds.{item-end, items-end}
-use Rattle.records.specs.Gate.ItemsKept.{item-kept, items-kept}
+use Rattle.records.specs.Format.Items.{Reader}
+use Rattle.records.specs.Gate.Rows.{Ends, holds, kept-at, row-at, First, row-more, row-first, row-none, item-kept, items-kept, item-rules}
+use Rattle.records.specs.Ends.ItemEnds.{item-reader, item-end, items-end}
 use Rattle.records.specs.declared.ends.Found.{Found}
 use Rattle.records.specs.declared.ends.Found.the-variants.{At, Nothing}
 use Rattle.records.specs.declared.ends.Item.{Item}
-use Rattle.records.specs.declared.ends.Item.the-variants.{Ancestor, Bet, Definition, Clause}
 
 -- the rules of the first of a row, and of the rest
 every-next : {A : Type 0} (rules : A → Bool) (r : Reader A) (s : List ℕ) (n at e : ℕ) → First r s n at e → every rules (row-at r n s at) ≡ (kept-at rules r s at && every rules (row-at r (n - 1) s e))
@@ -21,59 +18,21 @@ unfolding kept-at
 every-next rules r s n at e d =
     ap (every rules) (d .row) ∙ ap (λ (o : Read _). holds rules o && every rules (row-at r (n - 1) s e)) (sym (d .is))
 
-module _ (s : List ℕ) (at : ℕ) {k : Item} where
-  pub ancestor-rules : k ≡ Ancestor → true ≡ item-kept k s at
-  unfolding item-kept
-  ancestor-rules e = rw e refl
-
-  pub bet-found : k ≡ Bet → Ends (item-end k s at) → Ends (end-of read-bet s at)
-  unfolding item-end
-  bet-found e w = rw e at w
-
-  pub bet-kept : {b : Bool} → k ≡ Bet → b ≡ kept-at bet-rules read-bet s at → b ≡ item-kept k s at
-  unfolding item-kept
-  bet-kept e q = rw e q
-
-  pub definition-found : k ≡ Definition → Ends (item-end k s at) → Ends (end-of read-definition s at)
-  unfolding item-end
-  definition-found e w = rw e at w
-
-  pub definition-kept : {b : Bool} → k ≡ Definition → b ≡ kept-at definition-rules read-definition s at → b ≡ item-kept k s at
-  unfolding item-kept
-  definition-kept e q = rw e q
-
-  pub clause-found : k ≡ Clause → Ends (item-end k s at) → Ends (end-of read-clause s at)
-  unfolding item-end
-  clause-found e w = rw e at w
-
-  pub clause-kept : {b : Bool} → k ≡ Clause → b ≡ kept-at clause-rules read-clause s at → b ≡ item-kept k s at
-  unfolding item-kept
-  clause-kept e q = rw e q
-
 module _ (s : List ℕ) where
   pub items-first : (i : Item) (n at : ℕ) → 0 < n → Ends (items-end i n s at) → Ends (item-end i s at)
   unfolding item-end items-end
-  items-first Ancestor = row-first read-ancestor s
-  items-first Bet = row-first read-bet s
-  items-first Definition = row-first read-definition s
-  items-first Clause = row-first read-clause s
+  items-first i = row-first (item-reader i) s
 
   pub items-break : {P : Type 0} (i : Item) (n at : ℕ) {f : Found} → 0 < n → Ends (items-end i n s at) → f ≡ item-end i s at → f ≡ Nothing → P
   items-break i n at z w is q = absurd (rw (sym is ∙ q) at (items-first i n at z w))
 
   pub items-rest : (i : Item) (n at : ℕ) {f : Found} {e : ℕ} → 0 < n → Ends (items-end i n s at) → f ≡ item-end i s at → f ≡ At e → Ends (items-end i (n - 1) s e)
   unfolding item-end items-end
-  items-rest Ancestor n at z w is q = row-more read-ancestor s n at z w is q .rest
-  items-rest Bet n at z w is q = row-more read-bet s n at z w is q .rest
-  items-rest Definition n at z w is q = row-more read-definition s n at z w is q .rest
-  items-rest Clause n at z w is q = row-more read-clause s n at z w is q .rest
+  items-rest i n at z w is q = row-more (item-reader i) s n at z w is q .rest
 
   items-split : (i : Item) (n at : ℕ) {f : Found} {e : ℕ} → 0 < n → Ends (items-end i n s at) → f ≡ item-end i s at → f ≡ At e → items-kept i n s at ≡ (item-kept i s at && items-kept i (n - 1) s e)
   unfolding item-end items-end item-kept items-kept
-  items-split Ancestor n at z w is q = refl
-  items-split Bet n at z w is q = every-next bet-rules read-bet s n at _ (row-more read-bet s n at z w is q)
-  items-split Definition n at z w is q = every-next definition-rules read-definition s n at _ (row-more read-definition s n at z w is q)
-  items-split Clause n at z w is q = every-next clause-rules read-clause s n at _ (row-more read-clause s n at z w is q)
+  items-split i n at z w is q = every-next (item-rules i) (item-reader i) s n at _ (row-more (item-reader i) s n at z w is q)
 
   pub items-more : (i : Item) (n at : ℕ) {f : Found} {e : ℕ} {b : Bool} → 0 < n → Ends (items-end i n s at) → f ≡ item-end i s at → f ≡ At e → b ≡ item-kept i s at → b ≡ true
       → items-kept i n s at ≡ items-kept i (n - 1) s e
@@ -89,7 +48,4 @@ module _ (s : List ℕ) where
 
   pub items-none : (i : Item) (n at : ℕ) → n ≡ 0 → true ≡ items-kept i n s at
   unfolding items-kept
-  items-none Ancestor n at e = refl
-  items-none Bet n at e = rw (row-none read-bet s n at e)
-  items-none Definition n at e = rw (row-none read-definition s n at e)
-  items-none Clause n at e = rw (row-none read-clause s n at e)
+  items-none i n at e = rw (row-none (item-reader i) s n at e)

@@ -1,5 +1,5 @@
 pub mod HeadBytes
 pub mod EndSteps
-pub mod WalkArms
+pub mod TraversalArms
 pub mod RuleArms
 pub mod ItemArms

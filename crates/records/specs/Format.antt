@@ -10,4 +10,3 @@ pub mod ReaderLaws
 pub mod Items
 pub mod ItemLaws
 pub mod Exact
-pub mod EventExact

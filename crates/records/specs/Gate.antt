@@ -13,8 +13,8 @@ pub mod SetLaws
 pub mod MarkLaws
 pub mod VariableLaws
 pub mod Rows
+pub mod Ranks
 pub mod Kept
-pub mod ItemsKept
 pub mod GateEnds
 pub mod CountedEnds
 pub mod EventEnds

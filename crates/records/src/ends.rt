@@ -1,4 +1,4 @@
-// Where what stands at a position ends. Terms and argument lists call each other over fewer and fewer bytes; all else is walked without recursion.
+// Where what stands at a position ends. Terms and argument lists call each other over fewer and fewer bytes; all else is gone through without recursion.
 use crate::heads::AncestorHead;
 use crate::heads::BetHead;
 use crate::heads::GoalHead;
@@ -15,7 +15,7 @@ use crate::heads::word_at;
 ghost use mathlib.Core.Path.{_≡_};
 ghost use Prim.Native.Nat.{_≤_};
 ghost use Rattle.records.specs.Format.Items.{many, read-ancestor, read-binding, read-bet, read-definition, read-clause};
-ghost use Rattle.records.specs.Ends.Walk.{end-at, end-of};
+ghost use Rattle.records.specs.Ends.Traversal.{position, end-at, end-of};
 ghost use Rattle.records.specs.Ends.EndLaws.{next-goal, announced};
 ghost use Rattle.records.specs.Ends.ItemEnds.{item-end, items-end};
 
@@ -23,6 +23,16 @@ ghost use Rattle.records.specs.Ends.ItemEnds.{item-end, items-end};
 pub enum Found {
     At(usize),
     Nothing,
+}
+
+// The place that was found, else 0.
+pub fn position(f: Found) -> usize
+    ensures { λ r. ⌜ r ≡ position f ⌝ }
+{
+    match f {
+        Found::At(e) => e,
+        Found::Nothing => 0,
+    }
 }
 
 // A term.

@@ -6,17 +6,18 @@ use crate::ends::items_end;
 use crate::heads::Word;
 use crate::heads::word_at;
 use crate::kinds::*;
+use crate::rules::Ranked;
 use crate::rules::items_kept;
-use crate::rules::keys_rise;
+use crate::rules::ranks_rise;
 ghost use mathlib.Core.Path.{_≡_};
 ghost use Prim.Native.Nat.{_≤_};
 ghost use lib.ListN.{length};
 ghost use Rattle.records.specs.Gate.RecordRules.{program-rules};
 ghost use Rattle.records.specs.Format.Items.{read-program-bytes};
-ghost use Rattle.records.specs.Ends.Walk.{end-of};
+ghost use Rattle.records.specs.Ends.Traversal.{end-of};
 ghost use Rattle.records.specs.Gate.Rows.{Ends, kept-at};
 ghost use Rattle.records.specs.Gate.Gate.{framed, of-version, verdict, program-number, event-number, read-query, read-event, read-program, read-clauses};
-ghost use Rattle.records.specs.Gate.GateEnds.{judged-at};
+ghost use Rattle.records.specs.Gate.GateEnds.{opening-of, judged-at};
 ghost use Rattle.records.specs.Gate.CountedEnds.{counted-end, counted-kept, program-rises};
 ghost use Rattle.records.specs.Gate.EventEnds.{port-end, bets-place, bets-verdict};
 
@@ -54,6 +55,25 @@ fn is_version_1(s: &[u8]) -> bool
     s[2] == VERSION
 }
 
+// Whether the body of a record is asked for: framed and of version 1, or the verdict that refuses.
+enum Opening {
+    Open,
+    Refused(Verdict),
+}
+
+// Questions 1 and 2.
+fn opening_of(s: &[u8]) -> Opening
+    ensures { λ r. ⌜ r ≡ opening-of (now (s .entry)) ⌝ }
+{
+    if !frames(s) {
+        return Opening::Refused(Verdict::Framing);
+    }
+    if !is_version_1(s) {
+        return Opening::Refused(Verdict::Version);
+    }
+    Opening::Open
+}
+
 // A count and so many items.
 fn counted_end(s: &[u8], at: usize, item: Item) -> Found
     ensures { λ r. ⌜ r ≡ counted-end item (now (s .entry)) at ⌝ }
@@ -80,7 +100,7 @@ fn program_rises(s: &[u8]) -> bool
     ensures { λ r. ⌜ r ≡ program-rises (now (s .entry)) ⌝ }
 {
     match word_at(s, 3) {
-        Word::Number(n) => keys_rise(s, 5, n),
+        Word::Number(n) => ranks_rise(s, 5, Ranked::Definitions, n),
         Word::Short => true,
     }
 }
@@ -132,15 +152,12 @@ fn judged(s: &[u8], e: usize, kept: bool) -> Verdict
 pub fn query_verdict(s: &[u8]) -> Verdict
     ensures { λ r. ⌜ r ≡ verdict (read-query (now (s .entry))) ⌝ }
 {
-    if !frames(s) {
-        return Verdict::Framing;
-    }
-    if !is_version_1(s) {
-        return Verdict::Version;
-    }
-    match goals_end(s, 3, 1) {
-        Found::At(e) => judged(s, e, true),
-        Found::Nothing => Verdict::Grammar,
+    match opening_of(s) {
+        Opening::Open => match goals_end(s, 3, 1) {
+            Found::At(e) => judged(s, e, true),
+            Found::Nothing => Verdict::Grammar,
+        },
+        Opening::Refused(v) => v,
     }
 }
 
@@ -158,15 +175,12 @@ fn bets_verdict(s: &[u8], b: usize) -> Verdict
 pub fn event_verdict(s: &[u8]) -> Verdict
     ensures { λ r. ⌜ r ≡ verdict (read-event (now (s .entry))) ⌝ }
 {
-    if !frames(s) {
-        return Verdict::Framing;
-    }
-    if !is_version_1(s) {
-        return Verdict::Version;
-    }
-    match bets_place(s) {
-        Found::At(b) => bets_verdict(s, b),
-        Found::Nothing => Verdict::Grammar,
+    match opening_of(s) {
+        Opening::Open => match bets_place(s) {
+            Found::At(b) => bets_verdict(s, b),
+            Found::Nothing => Verdict::Grammar,
+        },
+        Opening::Refused(v) => v,
     }
 }
 
@@ -185,15 +199,12 @@ fn program_kept(s: &[u8]) -> bool
 pub fn program_verdict(s: &[u8]) -> Verdict
     ensures { λ r. ⌜ r ≡ verdict (read-program (now (s .entry))) ⌝ }
 {
-    if !frames(s) {
-        return Verdict::Framing;
-    }
-    if !is_version_1(s) {
-        return Verdict::Version;
-    }
-    match counted_end(s, 3, Item::Definition) {
-        Found::At(e) => judged(s, e, program_kept(s)),
-        Found::Nothing => Verdict::Grammar,
+    match opening_of(s) {
+        Opening::Open => match counted_end(s, 3, Item::Definition) {
+            Found::At(e) => judged(s, e, program_kept(s)),
+            Found::Nothing => Verdict::Grammar,
+        },
+        Opening::Refused(v) => v,
     }
 }
 
@@ -201,19 +212,16 @@ pub fn program_verdict(s: &[u8]) -> Verdict
 pub fn clauses_verdict(s: &[u8]) -> Verdict
     ensures { λ r. ⌜ r ≡ verdict (read-clauses (now (s .entry))) ⌝ }
 {
-    if !frames(s) {
-        return Verdict::Framing;
-    }
-    if !is_version_1(s) {
-        return Verdict::Version;
-    }
-    match counted_end(s, 3, Item::Clause) {
-        Found::At(e) => judged(s, e, counted_kept(s, 3, Item::Clause)),
-        Found::Nothing => Verdict::Grammar,
+    match opening_of(s) {
+        Opening::Open => match counted_end(s, 3, Item::Clause) {
+            Found::At(e) => judged(s, e, counted_kept(s, 3, Item::Clause)),
+            Found::Nothing => Verdict::Grammar,
+        },
+        Opening::Refused(v) => v,
     }
 }
 
-// The paper's number for a program or a clause record.
+// The number (SPECIFICATION 7) for a program or a clause record.
 pub fn program_number(v: Verdict) -> u8
     ensures { λ r. ⌜ r ≡ program-number v ⌝ }
 {
@@ -226,7 +234,7 @@ pub fn program_number(v: Verdict) -> u8
     }
 }
 
-// The paper's number for a query or an event.
+// The number (SPECIFICATION 7) for a query or an event.
 pub fn event_number(v: Verdict) -> u8
     ensures { λ r. ⌜ r ≡ event-number v ⌝ }
 {

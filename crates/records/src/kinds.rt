@@ -1,4 +1,4 @@
-// The bytes and sizes that document 01 fixes ("Records"): the limit and the version of every record, ports, tags, and the kinds of terms, goals,
+// The bytes and sizes that SPECIFICATION 1 fixes: the limit and the version of every record, ports, tags, and the kinds of terms, goals,
 // ancestors and bets. An ancestor that is an atom has the atom's kind.
 pub const RECORD_LIMIT: usize = 32768;
 

@@ -11,4 +11,4 @@ pub mod put;
 pub mod questions;
 pub mod rules;
 pub mod sets;
-pub mod walk;
+pub mod traverse;

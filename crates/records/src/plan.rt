@@ -2,6 +2,7 @@
 use crate::kinds::RECORD_LIMIT;
 use crate::places::PartEnds;
 use crate::put::Range;
+use crate::put::Receipt;
 use crate::put::put_byte;
 use crate::put::put_range;
 use crate::put::put_record_head;
@@ -10,12 +11,11 @@ use crate::questions::DONE;
 use crate::questions::FITS;
 use crate::questions::OUTPUT;
 ghost use mathlib.Core.Path.{_≡_};
-ghost use Prim.Native.Nat.{ℕ, _+_, _-_, _<_, _≤_};
+ghost use Prim.Native.Nat.{_+_, _-_, _<_, _≤_};
 ghost use lib.ListN.{length};
 ghost use Rattle.records.specs.Writing.Patched.{Put};
 ghost use Rattle.records.specs.Ends.Range.{size, Inside};
-ghost use Rattle.records.specs.Writing.Plan.{lead-bytes, piece-bytes, stack-bytes, planned-body, planned, Within};
-ghost use Rattle.records.specs.Writing.Plan.{piece-length, stack-length, body-length, plan-length, limited, plan-ends};
+ghost use Rattle.records.specs.Writing.Plan.{lead-bytes, piece-bytes, stack-bytes, planned-body, planned, PlanInside, piece-length, stack-length, body-length, plan-length, limited, plan-ends};
 ghost use Rattle.records.specs.Writing.Emitted.{Emitted};
 
 // The bytes that stand before a part: a kind byte, and a tag.
@@ -44,12 +44,6 @@ pub struct Plan {
     pub goal: Piece,
     pub ancestors: Stack,
     pub bets: Stack,
-}
-
-// The answer to questions 5 and 10, and the length of the record where it is 0, else 0.
-pub struct Emit {
-    pub number: u8,
-    pub length: usize,
 }
 
 // The bytes of a lead.
@@ -92,7 +86,7 @@ fn put_stack(out: &mut [u8], at: usize, stack: Stack, source: &[u8]) -> usize
 
 // An event's body.
 fn put_body(out: &mut [u8], at: usize, p: Plan, source: &[u8]) -> usize
-    requires { ⌜ Within p (now source) ⌝ }
+    requires { ⌜ PlanInside p (now source) ⌝ }
     requires { ⌜ at + body-length p ≤ length (now out) ⌝ }
     ensures { λ r. ⌜ Put (now (out .entry)) at (planned-body p (now (source .entry))) (now (out .exit)) r ⌝ }
 {
@@ -166,26 +160,26 @@ pub fn plan_ends(p: Plan) -> PartEnds
 
 // The record that a plan makes of a source, written from the output's start.
 // The number is 5 for an output that is too short, 10 for a record that is too long; then nothing is written.
-pub fn emit_plan(out: &mut [u8], p: Plan, source: &[u8]) -> Emit
-    requires { ⌜ Within p (now source) ⌝ }
+pub fn emit_plan(out: &mut [u8], p: Plan, source: &[u8]) -> Receipt
+    requires { ⌜ PlanInside p (now source) ⌝ }
     ensures { λ r. ⌜ Emitted (now (out .entry)) (planned p (now (source .entry))) r (now (out .exit)) ⌝ }
 {
     if out.len() < RECORD_LIMIT {
-        return Emit {
+        return Receipt {
             number: OUTPUT,
             length: 0,
         };
     }
     let n = measure_plan(p);
     if RECORD_LIMIT < n {
-        return Emit {
+        return Receipt {
             number: FITS,
             length: 0,
         };
     }
     let body_at = put_record_head(out, n);
     let end = put_body(out, body_at, p, source);
-    Emit {
+    Receipt {
         number: DONE,
         length: end,
     }

@@ -1,7 +1,7 @@
 // Writers of bytes, two-byte numbers and parts: each writes at a place of an output and gives the place after what it wrote.
 use crate::kinds::VERSION;
 ghost use mathlib.Core.List.{[], _∷_};
-ghost use Prim.Native.Nat.{ℕ, _+_, _-_, _<_, _≤_};
+ghost use Prim.Native.Nat.{_+_, _-_, _<_, _≤_};
 ghost use lib.ListN.{length};
 ghost use Rattle.records.specs.Format.Encode.{word, record-head};
 ghost use Rattle.records.specs.Writing.Patched.{Put};
@@ -11,6 +11,12 @@ ghost use Rattle.records.specs.Ends.Range.{cut, Inside};
 pub struct Range {
     pub from: usize,
     pub to: usize,
+}
+
+// What a service tells that writes: its number, and how many bytes it wrote where that is 0, else 0.
+pub struct Receipt {
+    pub number: u8,
+    pub length: usize,
 }
 
 // One byte.

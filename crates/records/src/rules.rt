@@ -15,33 +15,33 @@ use crate::sets::is_full;
 use crate::sets::is_marked;
 use crate::sets::mark;
 use crate::sets::with_variable;
-use crate::walk::Cursor;
-use crate::walk::Step;
-use crate::walk::variables_top;
-use crate::walk::walk_step;
+use crate::traverse::Cursor;
+use crate::traverse::Step;
+use crate::traverse::next_node;
+use crate::traverse::variables_top;
 ghost use mathlib.Core.Path.{_≡_};
 ghost use mathlib.Core.Bool.{not};
 ghost use Prim.Native.Nat.{_≤_};
 ghost use lib.ListN.{length};
-ghost use Rattle.records.specs.Gate.RecordRules.{every, exactly, bound, free, rising, keys, unifier-rules, bet-rules, definition-rules, clause-rules};
+ghost use Rattle.records.specs.Gate.RecordRules.{every, exactly, bound, free, unifier-rules, bet-rules, definition-rules, clause-rules};
 ghost use Rattle.records.specs.Gate.Sets.{is-marked, all-marked};
 ghost use Rattle.records.specs.Format.Items.{many, read-binding, read-bet, read-definition, read-clause};
-ghost use Rattle.records.specs.Ends.Walk.{walk, end-of};
+ghost use Rattle.records.specs.Ends.Traversal.{traverse, end-of};
 ghost use Rattle.records.specs.Ends.Steps.{On, met};
-ghost use Rattle.records.specs.Gate.Rows.{Ends, kept-at, row-at};
+ghost use Rattle.records.specs.Gate.Rows.{Ends, kept-at, row-at, item-kept, items-kept};
 ghost use Rattle.records.specs.Ends.ItemEnds.{item-end, items-end};
-ghost use Rattle.records.specs.Gate.ItemsKept.{item-kept, items-kept};
+ghost use Rattle.records.specs.Gate.Ranks.{rank-at, ranked-end, ranks-end, ranks-rise};
 
 // Whether exactly the variables 0 to v - 1 are met: a set with one bit for each, compared with the full mask.
 fn meets_exactly(s: &[u8], start: Cursor, v: usize) -> bool
     requires { ⌜ v ≤ 64 ⌝ }
-    requires { ⌜ On (walk (now s) (start .pos) (start .terms) (start .goals)) ⌝ }
-    ensures { λ r. ⌜ r ≡ exactly v (met (walk (now (s .entry)) (start .pos) (start .terms) (start .goals))) ⌝ }
+    requires { ⌜ On (traverse (now s) (start .pos) (start .terms) (start .goals)) ⌝ }
+    ensures { λ r. ⌜ r ≡ exactly v (met (traverse (now (s .entry)) (start .pos) (start .terms) (start .goals))) ⌝ }
 {
     let mut c = start;
     let mut set: u64 = 0;
     loop {
-        match walk_step(s, c) {
+        match next_node(s, c) {
             Step::Variable(x, d) => {
                 if v <= x {
                     return false;
@@ -62,8 +62,8 @@ fn meets_exactly(s: &[u8], start: Cursor, v: usize) -> bool
 // Whether no marked variable occurs in the term at `at`.
 fn avoids(s: &[u8], at: usize, marks: &[u64]) -> bool
     requires { ⌜ length (now marks) ≡ 1024 ⌝ }
-    requires { ⌜ On (walk (now s) at 1 0) ⌝ }
-    ensures { λ r. ⌜ r ≡ every (λ x. not (is-marked (now (marks .entry)) x)) (met (walk (now (s .entry)) at 1 0)) ⌝ }
+    requires { ⌜ On (traverse (now s) at 1 0) ⌝ }
+    ensures { λ r. ⌜ r ≡ every (λ x. not (is-marked (now (marks .entry)) x)) (met (traverse (now (s .entry)) at 1 0)) ⌝ }
 {
     let mut c = Cursor {
         pos: at,
@@ -71,7 +71,7 @@ fn avoids(s: &[u8], at: usize, marks: &[u64]) -> bool
         goals: 0,
     };
     loop {
-        match walk_step(s, c) {
+        match next_node(s, c) {
             Step::Variable(x, d) => {
                 if is_marked(marks, x) {
                     return false;
@@ -128,25 +128,53 @@ fn clause_kept(s: &[u8], at: usize) -> bool
     }
 }
 
-// Whether the variables of n pairs rise strictly.
-fn bound_rise(s: &[u8], at: usize, n: usize) -> bool
-    requires { ⌜ Ends (end-of (many read-binding n) (now s) at) ⌝ }
-    ensures { λ r. ⌜ r ≡ rising (bound (row-at read-binding n (now (s .entry)) at)) ⌝ }
+// A row of items with a number each: pairs by their variable, definitions by predicate, then arity.
+pub enum Ranked {
+    Pairs,
+    Definitions,
+}
+
+// The number of the item at `at`.
+fn rank_at(s: &[u8], at: usize, row: Ranked) -> Word
+    ensures { λ r. ⌜ r ≡ rank-at row (now (s .entry)) at ⌝ }
+{
+    match row {
+        Ranked::Pairs => word_at(s, at),
+        Ranked::Definitions => match definition_head(s, at) {
+            Signature::Predicate(p, k, _) => Word::Number(p * 256 + k),
+            Signature::NoPredicate => Word::Short,
+        },
+    }
+}
+
+fn ranked_end(s: &[u8], at: usize, row: Ranked) -> Found
+    ensures { λ r. ⌜ r ≡ ranked-end row (now (s .entry)) at ⌝ }
+{
+    match row {
+        Ranked::Pairs => binding_end(s, at),
+        Ranked::Definitions => definition_end(s, at),
+    }
+}
+
+// Whether the numbers of n items rise strictly.
+pub fn ranks_rise(s: &[u8], at: usize, row: Ranked, n: usize) -> bool
+    requires { ⌜ Ends (ranks-end row n (now s) at) ⌝ }
+    ensures { λ r. ⌜ r ≡ ranks-rise row 0 n (now (s .entry)) at ⌝ }
 {
     let mut pos = at;
     let mut left = n;
     let mut low: usize = 0;
     while 0 < left {
-        let Word::Number(v) = word_at(s, pos) else {
+        let Word::Number(x) = rank_at(s, pos, row) else {
             return true;
         };
-        let Found::At(e) = binding_end(s, pos) else {
+        let Found::At(e) = ranked_end(s, pos, row) else {
             return true;
         };
-        if v < low {
+        if x < low {
             return false;
         }
-        low = v + 1;
+        low = x + 1;
         pos = e;
         left = left - 1;
     }
@@ -203,7 +231,7 @@ fn unifier_kept(s: &[u8], at: usize, n: usize) -> bool
     requires { ⌜ Ends (end-of (many read-binding n) (now s) at) ⌝ }
     ensures { λ r. ⌜ r ≡ kept-at unifier-rules (many read-binding n) (now (s .entry)) at ⌝ }
 {
-    if !bound_rise(s, at, n) {
+    if !ranks_rise(s, at, Ranked::Pairs, n) {
         return false;
     }
     let mut marks = [0u64; 1024];
@@ -250,32 +278,6 @@ pub fn items_kept(s: &[u8], at: usize, item: Item, n: usize) -> bool
         let Found::At(e) = item_end(s, pos, item) else {
             return true;
         };
-        pos = e;
-        left = left - 1;
-    }
-    true
-}
-
-// Whether n definitions rise strictly by predicate, then arity.
-pub fn keys_rise(s: &[u8], at: usize, n: usize) -> bool
-    requires { ⌜ Ends (end-of (many read-definition n) (now s) at) ⌝ }
-    ensures { λ r. ⌜ r ≡ rising (keys (row-at read-definition n (now (s .entry)) at)) ⌝ }
-{
-    let mut pos = at;
-    let mut left = n;
-    let mut low: usize = 0;
-    while 0 < left {
-        let Signature::Predicate(p, k, _) = definition_head(s, pos) else {
-            return true;
-        };
-        let Found::At(e) = definition_end(s, pos) else {
-            return true;
-        };
-        let key = p * 256 + k;
-        if key < low {
-            return false;
-        }
-        low = key + 1;
         pos = e;
         left = left - 1;
     }

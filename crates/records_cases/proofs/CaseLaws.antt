@@ -1,6 +1,6 @@
 -- The number of a case, from the verdict on its bytes, for each kind byte.
 use Prim.Native.Nat.{ℕ}
-use mathlib.Core.Path.{_≡_, ap, _∙_}
+use mathlib.Core.Path.{_≡_, _∙_}
 use mathlib.Core.List.{List}
 use borrow.Author.Tests.{ne-eqb}
 use Rattle.records.specs.Gate.Gate.{verdict, read-query, read-event, read-program, read-clauses, program-number, event-number}

@@ -11,7 +11,8 @@ use Prim.Native.Nat.{ℕ, _≤_}
 use lib.ListN.{length}
 use Rattle.records.specs.Format.Syntax.{Term, Bet, Event}
 use Rattle.records.specs.Format.Encode.{event-record}
-use Rattle.records.specs.Gate.Question.{Question, number as question-number}
+use Rattle.records.specs.Gate.Question.{Question, question-number}
+use Rattle.records.specs.Gate.Reply.{Reply}
 use Rattle.records.specs.Format.HeadLaws.{Bytes}
 use Rattle.records.specs.Gate.Gate.{tree, read-event}
 use Rattle.terms.specs.Theory.Outcome.{Meant}
@@ -21,7 +22,7 @@ use Rattle.stepper.specs.Rules.Listed.{Rule}
 use Rattle.stepper.specs.Rules.Sources.{Source}
 use Rattle.stepper.specs.Rules.Refusals.{Refusal, BackRefusal}
 use Rattle.stepper.specs.Walks.Walk.{forward, back, net}
-use Rattle.stepper.specs.Services.Services.{Reply, reply, step-record, serve, CameFrom, Move, forward-into, back-into, Program, rules-of, Start, start, served}
+use Rattle.stepper.specs.Services.Services.{reply, step-record, serve, CameFrom, Move, forward-into, back-into, Program, rules-of, Start, start, served}
 use Rattle.stepper.specs.Services.Desk.{layers, lawful}
 use Rattle.stepper.specs.Services.StepRecordLaws.{forward-accepted, forward-follows, forward-refused, back-accepted, back-follows, back-refused}
 use Rattle.stepper.specs.Walks.ByteDemands.{undone, came-from, same-end}

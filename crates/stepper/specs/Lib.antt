@@ -1,7 +1,7 @@
--- The stepper's definitions and laws. To read: what are the rules? `Listed`, and read back `Sources`. When is a step refused? `Refusals`. The
--- step as a function: `Rules`, and for code `Back`. The services on bytes: `Services`, `Run`, `Lookup`, `Counts`. What they rest on: `Layers`,
--- and with the records and terms of this desk `Desk`. What code looks at: `View`, `Numbers`, and the plans
--- `Layouts`, `RulePlans`; that these are the listed rules: `RulePlanLaws`, `FoundLaws`. What is proved of steps and walks: `Demands`.
+-- The stepper's definitions and laws, one folder a subject. What are the rules, read back too, and when is a step refused? `Rules`: `Listed`,
+-- `Sources`, `Refusals`; the same as a function, `Rules`, and for code, `Back`. What is a list of steps, and what holds of the events that it reaches?
+-- `Walks`. What do the services answer, on bytes? `Services`, `Run`. How does code find a rule and its result? `Plans`, where `Dispatch` says what is
+-- found; how does it answer? `Step`. What is proved of steps and walks? `Demands`, the last page. A file of laws stands behind the file it is about.
 pub mod Rules
 pub mod Walks
 pub mod Services

@@ -1,8 +1,6 @@
--- The run: as many single steps as asked for.
+-- The run: `Run` says what it is and what its code promises, `RunLaws` what it has to do with single steps, `RunServiceLaws` what the service does
+-- with bytes; `RunLoop` is the proof of its code.
 pub mod Run
 pub mod RunLaws
-pub mod Running
-pub mod RunningLaws
-pub mod RunLoop
-pub mod RunReplies
 pub mod RunServiceLaws
+pub mod RunLoop

@@ -5,16 +5,10 @@ pub mod Services
 pub mod ServiceLaws
 pub mod OutputLaws
 pub mod StepRecordLaws
-pub mod Replied
+pub mod FirstPlan
 pub mod FirstLaws
-pub mod GateNumbers
-pub mod VerdictLaws
 pub mod Lookup
 pub mod LookupLaws
-pub mod LookupRange
-pub mod LookupRangeLaws
-pub mod DefinitionPartLaws
-pub mod DefinitionRangeLaws
 pub mod Counts
 pub mod CountsLaws
 pub mod PortCounts

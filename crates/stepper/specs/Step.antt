@@ -1,22 +1,12 @@
--- A step in code: from what the dispatch finds to the step's answer.
+-- A step in code: what it answers, and from what the dispatch finds to that answer.
 pub mod Stepped
-pub mod SteppedLaws
-pub mod PutLaws
-pub mod NoRuleLaws
-pub mod NoRuleNumbers
-pub mod Halves
-pub mod HalfLaws
-pub mod UnlikeLaws
-pub mod LikeLaws
-pub mod OwnLaws
 pub mod Completed
+pub mod EqualityStep
+pub mod AtomStep
+pub mod LastSeven
+pub mod SteppedLaws
 pub mod CompletedLaws
-pub mod Settled
-pub mod SettledLaws
-pub mod SettledEquality
-pub mod SettledAtom
-pub mod SettledStepLaws
-pub mod SameLaws
-pub mod KindLaws
+pub mod EqualityStepLaws
+pub mod AtomStepLaws
+pub mod LastSevenLaws
 pub mod StepLaws
-pub mod StepArms

@@ -1,6 +1,7 @@
 // An event's record around what a rule adds to it, a unifier on the bets or a body under its atom: where in the output that is written, and what
 // is then written before it and behind it. Both are copied from the event.
-use crate::emit::Moved;
+use crate::emit::StepAnswer;
+use crate::emit::accepted;
 use crate::view::View;
 use records::kinds::RECORD_LIMIT;
 use records::kinds::UNIFIER;
@@ -10,7 +11,6 @@ use records::put::put_byte;
 use records::put::put_range;
 use records::put::put_record_head;
 use records::put::put_word;
-use records::questions::DONE;
 ghost use mathlib.Core.List.{[], _∷_, _++_};
 ghost use Prim.Native.Nat.{_+_, _≤_};
 ghost use lib.ListN.{length};
@@ -51,7 +51,7 @@ fn put_unifier_top(out: &mut [u8], at: usize, count: usize) -> usize
 }
 
 // The event with a unifier put on the bets, whose count and pairs, n bytes, stand in their place.
-pub fn with_unifier(event: &[u8], v: View, port: u8, n: usize, out: &mut [u8]) -> Moved
+pub fn with_unifier(event: &[u8], v: View, port: u8, n: usize, out: &mut [u8]) -> StepAnswer
     requires { ⌜ InOrder (now event) v ⌝ }
     requires { ⌜ length (now event) + 1 + n ≤ 32768 ⌝ }
     requires { ⌜ 32768 ≤ length (now out) ⌝ }
@@ -69,18 +69,15 @@ pub fn with_unifier(event: &[u8], v: View, port: u8, n: usize, out: &mut [u8]) -
     let count_at = put_range(out, goal_at, event, ahead);
     let unifier_at = put_unifier_top(out, count_at, v.bets.more);
     let length = put_range(out, unifier_at + n, event, behind);
-    Moved {
-        number: DONE,
-        length,
-        ends: PartEnds {
-            goal: v.goal.to,
-            ancestors: v.ancestors.to,
-        },
-    }
+    let ends = PartEnds {
+        goal: v.goal.to,
+        ancestors: v.ancestors.to,
+    };
+    accepted(length, ends)
 }
 
 // The event's goal, an atom, put on the ancestors, with its body, n bytes that stand in their place, as the goal.
-pub fn with_body(event: &[u8], v: View, port: u8, n: usize, out: &mut [u8]) -> Moved
+pub fn with_body(event: &[u8], v: View, port: u8, n: usize, out: &mut [u8]) -> StepAnswer
     requires { ⌜ InOrder (now event) v ⌝ }
     requires { ⌜ length (now event) + n ≤ 32768 ⌝ }
     requires { ⌜ 32768 ≤ length (now out) ⌝ }
@@ -98,12 +95,9 @@ pub fn with_body(event: &[u8], v: View, port: u8, n: usize, out: &mut [u8]) -> M
     let atom_at = put_word(out, body_at + n, v.ancestors.more);
     let behind_at = put_range(out, atom_at, event, atom);
     let length = put_range(out, behind_at, event, behind);
-    Moved {
-        number: DONE,
-        length,
-        ends: PartEnds {
-            goal: v.goal.from + n,
-            ancestors: v.ancestors.to + n,
-        },
-    }
+    let ends = PartEnds {
+        goal: v.goal.from + n,
+        ancestors: v.ancestors.to + n,
+    };
+    accepted(length, ends)
 }

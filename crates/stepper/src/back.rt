@@ -1,17 +1,15 @@
-// Steps back: which rule an event has the right side of, and the plan of its left side. The rules are numbered as document 01 lists them.
+// Steps back: which rule an event has the right side of, and the plan of its left side. The rules are numbered in the order of (SPECIFICATION 3).
 // Fail of an equality has the number 17 and fail of an atom 20: whether they come from call, is for the unifier and the definition to say.
 use crate::layouts::atom_left;
 use crate::layouts::atom_left_by;
 use crate::layouts::bet_dropped;
 use crate::layouts::body_entered;
 use crate::layouts::chosen;
-use crate::layouts::first_entered;
-use crate::layouts::first_reached;
+use crate::layouts::entered;
 use crate::layouts::kept;
 use crate::layouts::left;
 use crate::layouts::left_with_or;
-use crate::layouts::second_entered;
-use crate::layouts::second_reached;
+use crate::layouts::reached;
 use crate::numbers::pick_number;
 use crate::rules::*;
 use crate::view::View;
@@ -99,14 +97,14 @@ pub fn back_plan(v: View, n: u8) -> Plan
 {
     match n {
         CONJ_CALL => left(v, CALL, CONJ),
-        CONJ_EXIT_FIRST => first_reached(v, EXIT, IN_CONJ),
-        CONJ_FAIL_FIRST => first_entered(v, FAIL, IN_CONJ),
-        CONJ_EXIT_SECOND => second_entered(v, EXIT, IN_CONJ),
-        CONJ_FAIL_SECOND => second_reached(v, FAIL, IN_CONJ),
+        CONJ_EXIT_FIRST => reached(v, EXIT, IN_CONJ, FIRST),
+        CONJ_FAIL_FIRST => entered(v, FAIL, IN_CONJ, FIRST),
+        CONJ_EXIT_SECOND => entered(v, EXIT, IN_CONJ, SECOND),
+        CONJ_FAIL_SECOND => reached(v, FAIL, IN_CONJ, SECOND),
         CONJ_REDO => left(v, REDO, CONJ),
         DISJ_CALL => left(v, CALL, DISJ),
-        DISJ_FAIL_FIRST => first_reached(v, FAIL, IN_DISJ),
-        DISJ_FAIL_SECOND => second_entered(v, FAIL, IN_DISJ),
+        DISJ_FAIL_FIRST => reached(v, FAIL, IN_DISJ, FIRST),
+        DISJ_FAIL_SECOND => entered(v, FAIL, IN_DISJ, SECOND),
         DISJ_EXIT_FIRST => chosen(v, EXIT),
         DISJ_EXIT_SECOND => chosen(v, EXIT),
         DISJ_REDO => left_with_or(v, REDO),

@@ -1,6 +1,5 @@
 // The port counts of a walk: an accepted event's port is added, and a refused event changes none.
-use records::gate::event_number;
-use records::gate::event_verdict;
+use records::door::event_door;
 use records::kinds::CALL;
 use records::kinds::EXIT;
 use records::kinds::FAIL;
@@ -68,7 +67,7 @@ fn with_port(counts: Counts, port: u8) -> Counts
 pub fn count(counts: Counts, event: &[u8]) -> Counted
     ensures { λ r. ⌜ reply-of r ≡ count-record (now (event .entry)) (counts-of counts) ⌝ }
 {
-    let number = event_number(event_verdict(event));
+    let number = event_door(event);
     if number != DONE {
         return Counted { number, counts };
     }

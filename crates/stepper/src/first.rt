@@ -1,19 +1,19 @@
 // Query to first event.
-use records::gate::event_number;
-use records::gate::query_verdict;
+use records::door::query_door;
 use records::kinds::CALL;
-use records::plan::Emit;
 use records::plan::Lead;
 use records::plan::Piece;
 use records::plan::Plan;
 use records::plan::Stack;
 use records::plan::emit_plan;
 use records::put::Range;
+use records::put::Receipt;
 use records::questions::DONE;
 ghost use mathlib.Core.Path.{_≡_};
+ghost use Rattle.records.specs.Gate.Reply.{Replied};
 ghost use Rattle.stepper.specs.Services.Services.{first-record};
 ghost use Rattle.stepper.specs.Services.Desk.{layers};
-ghost use Rattle.stepper.specs.Services.Replied.{Replied, no-items, first-plan};
+ghost use Rattle.stepper.specs.Services.FirstPlan.{no-items, first-plan};
 
 // A stack with nothing on it.
 fn no_items() -> Stack
@@ -48,7 +48,7 @@ fn first_plan(end: usize) -> Plan
 pub fn first_event(query: &[u8], out: &mut [u8]) -> u8
     ensures { λ r. ⌜ Replied (first-record layers (now (query .entry)) (now (out .entry))) r (now (out .exit)) ⌝ }
 {
-    let n = event_number(query_verdict(query));
+    let n = query_door(query);
     if n != DONE {
         return n;
     }

@@ -1,17 +1,15 @@
-// Steps forward: which rule an event has the left side of, and the plan of that rule. The rules are numbered as document 01 lists them.
+// Steps forward: which rule an event has the left side of, and the plan of that rule. The rules are numbered in the order of (SPECIFICATION 3).
 // Whether the goal is the half that its tag selects is not looked at here.
 use crate::layouts::atom_left;
 use crate::layouts::atom_left_by;
 use crate::layouts::bet_dropped;
 use crate::layouts::body_entered;
 use crate::layouts::chosen;
-use crate::layouts::first_entered;
-use crate::layouts::first_reached;
+use crate::layouts::entered;
 use crate::layouts::kept;
 use crate::layouts::left;
 use crate::layouts::left_with_or;
-use crate::layouts::second_entered;
-use crate::layouts::second_reached;
+use crate::layouts::reached;
 use crate::numbers::pick_number;
 use crate::rules::*;
 use crate::view::View;
@@ -93,14 +91,14 @@ pub fn forward_plan(v: View, n: u8) -> Plan
     ensures { λ r. ⌜ r ≡ forward-plan v n ⌝ }
 {
     match n {
-        CONJ_CALL => first_entered(v, CALL, IN_CONJ),
-        CONJ_EXIT_FIRST => second_reached(v, CALL, IN_CONJ),
+        CONJ_CALL => entered(v, CALL, IN_CONJ, FIRST),
+        CONJ_EXIT_FIRST => reached(v, CALL, IN_CONJ, SECOND),
         CONJ_FAIL_FIRST => left(v, FAIL, CONJ),
         CONJ_EXIT_SECOND => left(v, EXIT, CONJ),
-        CONJ_FAIL_SECOND => first_reached(v, REDO, IN_CONJ),
-        CONJ_REDO => second_entered(v, REDO, IN_CONJ),
-        DISJ_CALL => first_entered(v, CALL, IN_DISJ),
-        DISJ_FAIL_FIRST => second_reached(v, CALL, IN_DISJ),
+        CONJ_FAIL_SECOND => reached(v, REDO, IN_CONJ, FIRST),
+        CONJ_REDO => entered(v, REDO, IN_CONJ, SECOND),
+        DISJ_CALL => entered(v, CALL, IN_DISJ, FIRST),
+        DISJ_FAIL_FIRST => reached(v, CALL, IN_DISJ, SECOND),
         DISJ_FAIL_SECOND => left(v, FAIL, DISJ),
         DISJ_EXIT_FIRST => left_with_or(v, EXIT),
         DISJ_EXIT_SECOND => left_with_or(v, EXIT),

@@ -10,9 +10,9 @@ use records::plan::Plan;
 use records::plan::Stack;
 use records::put::Range;
 ghost use mathlib.Core.Path.{_≡_};
-ghost use Rattle.stepper.specs.Plans.Layouts.{whole, first-of, second-of, content-of, led, tagged, by-goal, or-tag};
-ghost use Rattle.stepper.specs.Plans.Layouts.{same, dropped, pushed, replaced, plan-of};
-ghost use Rattle.stepper.specs.Plans.Layouts.{kept, bet-dropped, first-entered, second-entered, first-chosen, second-chosen, chosen, first-reached, second-reached};
+ghost use Rattle.stepper.specs.Plans.Layouts.{whole, half-piece, content-of, led, retagged, by-goal, or-tag};
+ghost use Rattle.stepper.specs.Plans.Layouts.{unchanged, dropped, pushed, replaced, plan-of};
+ghost use Rattle.stepper.specs.Plans.Layouts.{kept, bet-dropped, entered, chosen, reached};
 ghost use Rattle.stepper.specs.Plans.Layouts.{left, left-with-or, atom-left, atom-left-by, body-entered};
 
 // A part as it stands.
@@ -28,23 +28,19 @@ fn whole(part: Part) -> Piece
     }
 }
 
-// The first of its halves.
-fn first_of(part: Part) -> Piece
-    ensures { λ r. ⌜ r ≡ first-of part ⌝ }
+// The half of it that a tag selects.
+pub fn half_piece(part: Part, tag: u8) -> Piece
+    ensures { λ r. ⌜ r ≡ half-piece part tag ⌝ }
 {
-    Piece {
-        lead: Lead::Bare,
-        range: Range {
-            from: part.content,
-            to: part.middle,
-        },
+    if tag == FIRST {
+        return Piece {
+            lead: Lead::Bare,
+            range: Range {
+                from: part.content,
+                to: part.middle,
+            },
+        };
     }
-}
-
-// The second of its halves.
-fn second_of(part: Part) -> Piece
-    ensures { λ r. ⌜ r ≡ second-of part ⌝ }
-{
     Piece {
         lead: Lead::Bare,
         range: Range {
@@ -81,8 +77,8 @@ fn led(kind: u8, part: Part) -> Piece
 }
 
 // Its content under another kind and tag.
-fn tagged(kind: u8, tag: u8, part: Part) -> Piece
-    ensures { λ r. ⌜ r ≡ tagged kind tag part ⌝ }
+fn retagged(kind: u8, tag: u8, part: Part) -> Piece
+    ensures { λ r. ⌜ r ≡ retagged kind tag part ⌝ }
 {
     Piece {
         lead: Lead::Two(kind, tag),
@@ -117,8 +113,8 @@ fn or_tag(tag: u8) -> Piece
 }
 
 // A stack as it is.
-fn same(stack: StackPlaces) -> Stack
-    ensures { λ r. ⌜ r ≡ same stack ⌝ }
+fn unchanged(stack: StackPlaces) -> Stack
+    ensures { λ r. ⌜ r ≡ unchanged stack ⌝ }
 {
     Stack {
         count: stack.count,
@@ -194,85 +190,54 @@ fn plan_of(port: u8, goal: Piece, ancestors: Stack, bets: Stack) -> Plan
 pub fn kept(v: View, port: u8) -> Plan
     ensures { λ r. ⌜ r ≡ kept v port ⌝ }
 {
-    plan_of(port, whole(v.goal), same(v.ancestors), same(v.bets))
+    plan_of(
+        port,
+        whole(v.goal),
+        unchanged(v.ancestors),
+        unchanged(v.bets),
+    )
 }
 
 // The same without the bet on top.
 pub fn bet_dropped(v: View, port: u8) -> Plan
     ensures { λ r. ⌜ r ≡ bet-dropped v port ⌝ }
 {
-    plan_of(port, whole(v.goal), same(v.ancestors), dropped(v.bets))
+    plan_of(port, whole(v.goal), unchanged(v.ancestors), dropped(v.bets))
 }
 
-// From a conjunction or a disjunction to its first half under it.
-pub fn first_entered(v: View, port: u8, kind: u8) -> Plan
-    ensures { λ r. ⌜ r ≡ first-entered v port kind ⌝ }
+// From a conjunction or a disjunction to a half under it.
+pub fn entered(v: View, port: u8, kind: u8, tag: u8) -> Plan
+    ensures { λ r. ⌜ r ≡ entered v port kind tag ⌝ }
 {
     plan_of(
         port,
-        first_of(v.goal),
-        pushed(v.ancestors, tagged(kind, FIRST, v.goal)),
-        same(v.bets),
+        half_piece(v.goal, tag),
+        pushed(v.ancestors, retagged(kind, tag, v.goal)),
+        unchanged(v.bets),
     )
 }
 
-// From a conjunction or a disjunction to its second half under it.
-pub fn second_entered(v: View, port: u8, kind: u8) -> Plan
-    ensures { λ r. ⌜ r ≡ second-entered v port kind ⌝ }
+// From a disjunction to the half that the bet on top names, without that bet.
+pub fn chosen(v: View, port: u8) -> Plan
+    ensures { λ r. ⌜ r ≡ chosen v port ⌝ }
 {
     plan_of(
         port,
-        second_of(v.goal),
-        pushed(v.ancestors, tagged(kind, SECOND, v.goal)),
-        same(v.bets),
-    )
-}
-
-// From a disjunction to the first half, which the bet on top names, without that bet.
-fn first_chosen(v: View, port: u8) -> Plan
-    ensures { λ r. ⌜ r ≡ first-chosen v port ⌝ }
-{
-    plan_of(
-        port,
-        first_of(v.goal),
-        pushed(v.ancestors, tagged(IN_DISJ, FIRST, v.goal)),
+        half_piece(v.goal, v.bet.tag),
+        pushed(v.ancestors, retagged(IN_DISJ, v.bet.tag, v.goal)),
         dropped(v.bets),
     )
 }
 
-// From a disjunction to the second half, which the bet on top names, without that bet.
-fn second_chosen(v: View, port: u8) -> Plan
-    ensures { λ r. ⌜ r ≡ second-chosen v port ⌝ }
+// From one half to the other.
+pub fn reached(v: View, port: u8, kind: u8, tag: u8) -> Plan
+    ensures { λ r. ⌜ r ≡ reached v port kind tag ⌝ }
 {
     plan_of(
         port,
-        second_of(v.goal),
-        pushed(v.ancestors, tagged(IN_DISJ, SECOND, v.goal)),
-        dropped(v.bets),
-    )
-}
-
-// From the second half to the first.
-pub fn first_reached(v: View, port: u8, kind: u8) -> Plan
-    ensures { λ r. ⌜ r ≡ first-reached v port kind ⌝ }
-{
-    plan_of(
-        port,
-        first_of(v.ancestor),
-        replaced(v.ancestors, tagged(kind, FIRST, v.ancestor)),
-        same(v.bets),
-    )
-}
-
-// From the first half to the second.
-pub fn second_reached(v: View, port: u8, kind: u8) -> Plan
-    ensures { λ r. ⌜ r ≡ second-reached v port kind ⌝ }
-{
-    plan_of(
-        port,
-        second_of(v.ancestor),
-        replaced(v.ancestors, tagged(kind, SECOND, v.ancestor)),
-        same(v.bets),
+        half_piece(v.ancestor, tag),
+        replaced(v.ancestors, retagged(kind, tag, v.ancestor)),
+        unchanged(v.bets),
     )
 }
 
@@ -284,7 +249,7 @@ pub fn left(v: View, port: u8, kind: u8) -> Plan
         port,
         led(kind, v.ancestor),
         dropped(v.ancestors),
-        same(v.bets),
+        unchanged(v.bets),
     )
 }
 
@@ -304,7 +269,12 @@ pub fn left_with_or(v: View, port: u8) -> Plan
 pub fn atom_left(v: View, port: u8) -> Plan
     ensures { λ r. ⌜ r ≡ atom-left v port ⌝ }
 {
-    plan_of(port, whole(v.ancestor), dropped(v.ancestors), same(v.bets))
+    plan_of(
+        port,
+        whole(v.ancestor),
+        dropped(v.ancestors),
+        unchanged(v.bets),
+    )
 }
 
 // From a body to its atom, with BY of the body put on the bets.
@@ -329,15 +299,4 @@ pub fn body_entered(v: View, port: u8) -> Plan
         pushed(v.ancestors, whole(v.goal)),
         dropped(v.bets),
     )
-}
-
-// From a disjunction to the half that the bet on top names, without that bet.
-pub fn chosen(v: View, port: u8) -> Plan
-    ensures { λ r. ⌜ r ≡ chosen v port ⌝ }
-{
-    if v.bet.tag == FIRST {
-        first_chosen(v, port)
-    } else {
-        second_chosen(v, port)
-    }
 }

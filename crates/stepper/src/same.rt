@@ -16,9 +16,9 @@ ghost use Rattle.terms.specs.Theory.Outcome.{unified-under};
 ghost use Rattle.terms.specs.Body.Body.{body};
 ghost use Rattle.records.specs.Ends.Range.{Inside, cut};
 ghost use Rattle.records.specs.Ends.Same.{same-bytes};
-ghost use lib.Dec.{eqb};
 ghost use Rattle.records.specs.Format.Heads.{pick};
-ghost use Rattle.stepper.specs.Step.Settled.{unifier-number, body-number, ProgramRead, UnifierViewed, BodyViewed, ancestor-frame};
+ghost use Rattle.stepper.specs.Step.AtomStep.{ProgramRead};
+ghost use Rattle.stepper.specs.Step.LastSeven.{unifier-number, body-number, UnifierViewed, BodyViewed, ancestor-frame};
 
 // 0 where a range of the event has the first n bytes of the other source, else 7.
 fn same_front(other: &[u8], n: usize, event: &[u8], range: Range) -> u8

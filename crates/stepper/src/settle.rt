@@ -3,7 +3,7 @@
 use crate::around::gap;
 use crate::around::with_body;
 use crate::around::with_unifier;
-use crate::emit::Moved;
+use crate::emit::StepAnswer;
 use crate::emit::emit_event;
 use crate::emit::refusal;
 use crate::layouts::kept;
@@ -22,10 +22,11 @@ ghost use lib.ListN.{length};
 ghost use Rattle.records.specs.Format.Syntax.{Port};
 ghost use Rattle.records.specs.Format.Encode.{port-byte};
 ghost use Rattle.stepper.specs.Step.Stepped.{Stepped};
-ghost use Rattle.stepper.specs.Step.Settled.{settled-equality, settled-atom, ProgramRead, EqualityViewed, AtomViewed, goal-frame};
+ghost use Rattle.stepper.specs.Step.AtomStep.{settled-atom, ProgramRead, AtomViewed, goal-frame};
+ghost use Rattle.stepper.specs.Step.EqualityStep.{settled-equality, EqualityViewed};
 
 // An equality goes to one port if its terms have no unifier, else to the other with the unifier put on the bets.
-pub fn settle_equality(event: &[u8], v: View, clash: u8, found: u8, out: &mut [u8]) -> Moved
+pub fn settle_equality(event: &[u8], v: View, clash: u8, found: u8, out: &mut [u8]) -> StepAnswer
     requires { ⌜ EqualityViewed (now event) v ⌝ }
     requires { ⌜ 32768 ≤ length (now out) ⌝ }
     ensures { λ r. ⌜ ((w : EqualityViewed (now (event .entry)) v) (p q : Port) → port-byte p ≡ clash → port-byte q ≡ found → Stepped (settled-equality p q (w .left) (w .right) (w .ancestors) (w .bets)) (now (out .entry)) r (now (out .exit))) ⌝ }
@@ -78,7 +79,7 @@ pub fn settle_atom(
     undefined: u8,
     defined: u8,
     out: &mut [u8],
-) -> Moved
+) -> StepAnswer
     requires { ⌜ ProgramRead (now program) ⌝ }
     requires { ⌜ AtomViewed (now event) v ⌝ }
     requires { ⌜ 32768 ≤ length (now out) ⌝ }

@@ -2,12 +2,12 @@
 // Nothing is validated again, the stacks are not walked to find their ends, and the dispatch is flat. The output passes question 5.
 use crate::back::back_plan;
 use crate::back::back_rule;
-use crate::emit::Moved;
-use crate::emit::emit_event;
+use crate::emit::StepAnswer;
+use crate::emit::emit_unless;
 use crate::emit::refusal;
 use crate::forward::forward_plan;
 use crate::forward::forward_rule;
-use crate::half::unlike;
+use crate::half::half_refusal;
 use crate::rules::*;
 use crate::same::same_body;
 use crate::same::same_unifier;
@@ -17,20 +17,17 @@ use crate::view::View;
 use crate::view::event_view;
 use records::kinds::*;
 use records::places::PartEnds;
-use records::plan::Plan;
-use records::questions::DONE;
 use records::questions::MATCHES;
 use records::questions::POSSIBLE;
 ghost use mathlib.Core.Path.{_≡_};
 ghost use Prim.Native.Nat.{_≤_};
 ghost use lib.ListN.{length};
-ghost use Rattle.records.specs.Writing.Plan.{Within};
 ghost use Rattle.stepper.specs.Rules.Rules.{step-forward, step-back};
 ghost use Rattle.stepper.specs.Services.Services.{machine};
 ghost use Rattle.stepper.specs.Services.Desk.{layers};
-ghost use Rattle.stepper.specs.Step.NoRuleNumbers.{no-rule-number, no-source-number};
-ghost use Rattle.stepper.specs.Plans.View.{EndsOf};
-ghost use Rattle.stepper.specs.Step.Stepped.{Stepped, Passed, EmittedUnless};
+ghost use Rattle.stepper.specs.Plans.Dispatch.{no-rule-number, no-source-number};
+ghost use Rattle.records.specs.Ends.Places.{EndsOf};
+ghost use Rattle.stepper.specs.Step.Stepped.{Stepped, Passed};
 
 // The number where no rule has the event as its left side: 6 from exit and fail, else 7.
 fn no_rule(v: View) -> u8
@@ -54,19 +51,8 @@ fn no_source(v: View) -> u8
     if v.bets.count == 0 { POSSIBLE } else { MATCHES }
 }
 
-// Emits a plan over the event, unless a question said no by its number.
-fn emit_unless(number: u8, event: &[u8], p: Plan, out: &mut [u8]) -> Moved
-    requires { ⌜ (number ≡ 0 → Within p (now event)) ⌝ }
-    ensures { λ r. ⌜ EmittedUnless number (now (out .entry)) p (now (event .entry)) r (now (out .exit)) ⌝ }
-{
-    if number != DONE {
-        return refusal(number);
-    }
-    emit_event(out, p, event)
-}
-
 // One step forward.
-pub fn next_event(program: &[u8], event: &[u8], ends: PartEnds, out: &mut [u8]) -> Moved
+pub fn next_event(program: &[u8], event: &[u8], ends: PartEnds, out: &mut [u8]) -> StepAnswer
     requires { ⌜ Passed (now program) (now event) ⌝ }
     requires { ⌜ EndsOf (now event) ends ⌝ }
     requires { ⌜ 32768 ≤ length (now out) ⌝ }
@@ -78,12 +64,17 @@ pub fn next_event(program: &[u8], event: &[u8], ends: PartEnds, out: &mut [u8]) 
         NO_RULE => refusal(no_rule(v)),
         EQUAL_CALL => settle_equality(event, v, FAIL, EXIT, out),
         ATOM_CALL => settle_atom(program, event, v, FAIL, CALL, out),
-        _ => emit_unless(unlike(event, v, EXIT, FAIL), event, forward_plan(v, n), out),
+        _ => emit_unless(
+            half_refusal(event, v, EXIT, FAIL),
+            event,
+            forward_plan(v, n),
+            out,
+        ),
     }
 }
 
 // One step back.
-pub fn source_event(program: &[u8], event: &[u8], ends: PartEnds, out: &mut [u8]) -> Moved
+pub fn source_event(program: &[u8], event: &[u8], ends: PartEnds, out: &mut [u8]) -> StepAnswer
     requires { ⌜ Passed (now program) (now event) ⌝ }
     requires { ⌜ EndsOf (now event) ends ⌝ }
     requires { ⌜ 32768 ≤ length (now out) ⌝ }
@@ -102,6 +93,11 @@ pub fn source_event(program: &[u8], event: &[u8], ends: PartEnds, out: &mut [u8]
             out,
         ),
         ATOM_FAIL => settle_atom(program, event, v, CALL, FAIL, out),
-        _ => emit_unless(unlike(event, v, CALL, REDO), event, back_plan(v, n), out),
+        _ => emit_unless(
+            half_refusal(event, v, CALL, REDO),
+            event,
+            back_plan(v, n),
+            out,
+        ),
     }
 }

@@ -1,8 +1,8 @@
 // What a rule looks at in an accepted event: its port, the parts of its goal and of the tops of its stacks, and where the stacks go on.
-use records::ends::Found;
 use records::ends::ancestor_end;
 use records::ends::bet_end;
 use records::ends::goals_end;
+use records::ends::position;
 use records::ends::term_end;
 use records::kinds::*;
 use records::places::PartEnds;
@@ -14,7 +14,8 @@ ghost use Prim.Native.Nat.{_+_, _-_, _<_};
 ghost use lib.ListN.{length};
 ghost use Rattle.records.specs.Format.Syntax.{Event};
 ghost use Rattle.records.specs.Gate.Gate.{Accepted, read-event, tree};
-ghost use Rattle.stepper.specs.Plans.View.{EndsOf, found-end, middle-at, goal-part-at, ancestor-part-at, bet-part-at, no-part, TopInside, ancestor-top-at, bet-top-at, stack-at, event-view};
+ghost use Rattle.records.specs.Ends.Places.{EndsOf};
+ghost use Rattle.stepper.specs.Plans.View.{middle-at, goal-part-at, ancestor-part-at, bet-part-at, no-part, TopInside, ancestor-top-at, bet-top-at, stack-at, event-view};
 
 // A goal, an ancestor or a bet: its kind byte and its tag (0 where it has none); where it starts, where it goes on after kind and tag, where
 // its second half or term starts (its end where it has none), and where it ends. All numbers are 0 but the places where there is none.
@@ -47,24 +48,14 @@ pub struct View {
     pub bets: StackPlaces,
 }
 
-// The end that was found.
-fn found_end(f: Found) -> usize
-    ensures { λ r. ⌜ r ≡ found-end f ⌝ }
-{
-    match f {
-        Found::At(e) => e,
-        Found::Nothing => 0,
-    }
-}
-
 // Where the second half or term starts of a goal of this kind, whose content starts at `at` and which ends at `to`.
 fn middle(s: &[u8], at: usize, kind: u8, to: usize) -> usize
     ensures { λ r. ⌜ r ≡ middle-at (now (s .entry)) at kind to ⌝ }
 {
     match kind {
-        EQUAL => found_end(term_end(s, at)),
-        CONJ => found_end(goals_end(s, at, 1)),
-        DISJ => found_end(goals_end(s, at, 1)),
+        EQUAL => position(term_end(s, at)),
+        CONJ => position(goals_end(s, at, 1)),
+        DISJ => position(goals_end(s, at, 1)),
         _ => to,
     }
 }
@@ -91,7 +82,7 @@ fn ancestor_part(s: &[u8], at: usize) -> Part
     ensures { λ r. ⌜ r ≡ ancestor-part-at (now (s .entry)) at ⌝ }
 {
     let kind = s[at];
-    let to = found_end(ancestor_end(s, at));
+    let to = position(ancestor_end(s, at));
     if kind == ATOM {
         return Part {
             kind,
@@ -107,7 +98,7 @@ fn ancestor_part(s: &[u8], at: usize) -> Part
         tag: s[at + 1],
         from: at,
         content: at + 2,
-        middle: found_end(goals_end(s, at + 2, 1)),
+        middle: position(goals_end(s, at + 2, 1)),
         to,
     }
 }
@@ -117,7 +108,7 @@ fn bet_part(s: &[u8], at: usize) -> Part
     ensures { λ r. ⌜ r ≡ bet-part-at (now (s .entry)) at ⌝ }
 {
     let kind = s[at];
-    let to = found_end(bet_end(s, at));
+    let to = position(bet_end(s, at));
     if kind == OR {
         return Part {
             kind,

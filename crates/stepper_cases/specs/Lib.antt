@@ -1,7 +1,1 @@
-pub mod Checksum
-pub mod ChecksumLaws
-pub mod DigitLaws
-pub mod Kinds
-pub mod KindLaws
-pub mod Lines
-pub mod LineLaws
+pub mod Stepped

@@ -1,50 +1,43 @@
 // Cases of kind c: the port counts of a walk.
-use crate::input::number_from;
-use crate::input::read_field;
-use crate::input::wide;
-use crate::line::put_field;
-use crate::line::put_start;
-use crate::line::write_line;
+use case_io::input::read_number;
+use case_io::input::wide;
+use case_io::line::print_end;
+use case_io::line::print_number;
+use case_io::line::print_start;
 use stepper::counts::Counted;
 use stepper::counts::Counts;
 use stepper::counts::count;
 
-// Four counts of four bytes.
-fn counts_from(b: [u8; 16]) -> Counts {
-    Counts {
-        calls: number_from(b[0], b[1], b[2], b[3]),
-        exits: number_from(b[4], b[5], b[6], b[7]),
-        fails: number_from(b[8], b[9], b[10], b[11]),
-        redos: number_from(b[12], b[13], b[14], b[15]),
-    }
-}
-
-fn put_counts(line: &mut [u8], at: usize, counts: Counts) -> usize {
-    let calls = put_field(line, at, counts.calls as u64);
-    let exits = put_field(line, calls, counts.exits as u64);
-    let fails = put_field(line, exits, counts.fails as u64);
-    put_field(line, fails, counts.redos as u64)
+fn print_counts(counts: Counts) {
+    print_number(counts.calls as u64);
+    print_number(counts.exits as u64);
+    print_number(counts.fails as u64);
+    print_number(counts.redos as u64);
 }
 
 fn print_count(ordinal: u64, counted: Counted) {
-    let mut line = [0u8; 512];
-    let start = put_start(&mut line, ordinal, b'c');
-    let next = put_field(&mut line, start, wide(counted.number) as u64);
-    let counts = counted.counts;
-    let end = put_counts(&mut line, next, counts);
-    write_line(&mut line, end);
+    print_start(ordinal, b'c');
+    print_number(wide(counted.number) as u64);
+    print_counts(counted.counts);
+    print_end();
 }
 
-pub fn next_count(ordinal: u64) -> bool {
-    let mut event = [0u8; 40000];
-    let mut counts = [0u8; 16];
-    let first = read_field(&mut event);
-    let second = read_field(&mut counts);
-    if !first.there || !second.there {
+// The counts are one field of 16 bytes.
+pub fn count_case(ordinal: u64, event: &[u8]) -> bool {
+    let size = read_number();
+    let calls = read_number();
+    let exits = read_number();
+    let fails = read_number();
+    let redos = read_number();
+    if size.value != 16 || !redos.there {
         return false;
     }
-    let n = first.size;
-    let counted = count(counts_from(counts), &event[..n]);
-    print_count(ordinal, counted);
+    let counts = Counts {
+        calls: calls.value,
+        exits: exits.value,
+        fails: fails.value,
+        redos: redos.value,
+    };
+    print_count(ordinal, count(counts, event));
     true
 }

@@ -1,36 +1,29 @@
 // Cases of kind q: query to first event.
-use crate::input::read_field;
-use crate::input::read_room;
-use crate::line::put_start;
-use crate::line::write_line;
-use crate::record::put_answer;
+use crate::answer::print_answer;
+use case_io::input::at_most;
+use case_io::input::read_number_field;
+use case_io::line::print_end;
+use case_io::line::print_start;
 use stepper::first::first_event;
-ghost use Prim.Native.Nat.{_<_};
 
 fn print_first(ordinal: u64, query: &[u8], out: &mut [u8]) {
     let number = first_event(query, out);
-    let mut line = [0u8; 512];
-    let start = put_start(&mut line, ordinal, b'q');
-    let end = put_answer(&mut line, start, number, out);
-    write_line(&mut line, end);
+    print_start(ordinal, b'q');
+    print_answer(number, out);
+    print_end();
 }
 
-// With an output of so many bytes.
-fn first_case(ordinal: u64, query: &[u8], room: usize)
-    requires { ⌜ room < 40001 ⌝ }
-{
+// With an output of so many bytes, at most 40,000.
+fn first_with(ordinal: u64, query: &[u8], room: u32) {
     let mut out = [0u8; 40000];
-    print_first(ordinal, query, &mut out[..room]);
+    let n = at_most(room as usize, &out);
+    print_first(ordinal, query, &mut out[..n]);
 }
 
-pub fn next_query(ordinal: u64) -> bool {
-    let mut query = [0u8; 40000];
-    let field = read_field(&mut query);
-    let room = read_room();
-    if !field.there || !room.there {
-        return false;
+pub fn first_case(ordinal: u64, query: &[u8]) -> bool {
+    let room = read_number_field();
+    if room.there {
+        first_with(ordinal, query, room.value);
     }
-    let n = field.size;
-    first_case(ordinal, &query[..n], room.size);
-    true
+    room.there
 }

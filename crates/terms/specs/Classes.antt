@@ -1,20 +1,20 @@
 -- Classes: two terms in one table of nodes, and the classes of nodes that a unifier makes equal.
 pub mod Nodes
 pub mod Forest
-pub mod ForestLaws
 pub mod Laid
+pub mod Classes
+pub mod ClassState
+pub mod Lengths
+pub mod ForestLaws
 pub mod LoadLaws
 pub mod LinkLaws
 pub mod LayLaws
 pub mod LaidLaws
-pub mod Classes
 pub mod ClassesLaws
-pub mod ClassState
 pub mod RelabelLaws
 pub mod CompareLaws
 pub mod CloseLaws
 pub mod BeginLaws
-pub mod Lengths
 pub mod WeighLaws
 pub mod MeasureLaws
 pub mod SolveLaws

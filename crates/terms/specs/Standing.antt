@@ -1,7 +1,6 @@
 -- What stands in an accepted record: the rows and frames that the code of this crate is lent.
 pub mod Rows
 pub mod Frames
-pub mod Pairs
 pub mod BetRow
 pub mod Accepted
 pub mod AcceptedLaws

@@ -1,20 +1,20 @@
 -- The theory: substitution, S(T), the most general unifier, and the unifier as a function. Nothing here knows bytes.
 pub mod Substitution
-pub mod SubstitutionLaws
 pub mod Variables
+pub mod Mgu
+pub mod MostGeneral
+pub mod Unify
+pub mod Outcome
+pub mod SubstitutionLaws
 pub mod VariablesLaws
 pub mod TestLaws
 pub mod FormedLaws
-pub mod Mgu
 pub mod MguLaws
 pub mod MguRules
-pub mod MostGeneral
 pub mod MostGeneralLaws
 pub mod BindingsLaws
-pub mod Unify
 pub mod DifferenceLaws
 pub mod UnifyLaws
 pub mod UnifyFormed
-pub mod Outcome
 pub mod OutcomeLaws
 pub mod Examples

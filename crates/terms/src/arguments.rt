@@ -1,26 +1,17 @@
 // The arguments of an atom, by a table of where they stand: argument i from table[i] to table[i + 1]. It is filled once, so that an argument costs
 // one read however often it is asked for.
-use records::ends::Found;
+use records::ends::position;
 use records::ends::term_end;
 use records::put::Range;
 ghost use mathlib.Core.Path.{_≡_};
 ghost use Prim.Native.Nat.{_+_, _<_};
 ghost use lib.ListN.{length, take};
-ghost use Rattle.terms.specs.Body.Arguments.{ArgumentsAt, position, term-places, entry};
+ghost use Rattle.terms.specs.Body.Arguments.{ArgumentsAt, term-places, argument-range};
 
 // An argument list: where it stands, and how many terms it has.
 pub struct Arguments {
     pub at: usize,
     pub arity: usize,
-}
-
-pub fn position(f: Found) -> usize
-    ensures { λ r. ⌜ r ≡ position f ⌝ }
-{
-    match f {
-        Found::At(e) => e,
-        Found::Nothing => 0,
-    }
 }
 
 // Where each argument starts, and then where the last one ends.
@@ -43,7 +34,7 @@ pub fn list_arguments(event: &[u8], args: Arguments, table: &mut [usize])
 // The i-th of the arguments.
 pub fn argument(table: &[usize], i: usize) -> Range
     requires { ⌜ i + 1 < length (now table) ⌝ }
-    ensures { λ r. ⌜ r ≡ entry (now (table .entry)) i ⌝ }
+    ensures { λ r. ⌜ r ≡ argument-range (now (table .entry)) i ⌝ }
 {
     Range {
         from: table[i],

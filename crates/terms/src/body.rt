@@ -6,33 +6,27 @@ use crate::arguments::list_arguments;
 use crate::definitions::Lookup;
 use crate::definitions::Place;
 use crate::definitions::find_definition;
+use crate::numbering::write_nodes;
 use crate::variables::Frame;
 use crate::variables::next_variable;
 use records::heads::GoalHead;
 use records::heads::goal_head;
-use records::kinds::VARIABLE;
-use records::put::Range;
-use records::put::put_byte;
-use records::put::put_range;
-use records::put::put_word;
 use records::questions::DONE;
 use records::questions::FITS;
 use records::questions::LOCALS;
-use records::walk::Cursor;
-use records::walk::Step;
-use records::walk::walk_step;
+use records::traverse::Cursor;
+use records::traverse::Step;
+use records::traverse::next_node;
 ghost use mathlib.Core.Path.{_≡_};
 ghost use Prim.Native.Nat.{ℕ, _+_, _-_, _<_, _≤_, _^_, min};
 ghost use lib.ListN.{length};
-ghost use Rattle.records.specs.Format.Syntax.Term.{var};
 ghost use Rattle.records.specs.Format.Syntax.{arity};
 ghost use Rattle.records.specs.Format.Encode.{term-bytes, goal-bytes};
-ghost use Rattle.records.specs.Writing.Patched.{Put};
 ghost use Rattle.terms.specs.Body.Arguments.{TermTable, ArgumentTable};
 ghost use Rattle.terms.specs.Body.Body.{numbered, defined, locals-beyond, body, next-variable};
 ghost use Rattle.terms.specs.Standing.Frames.{GoalAt};
 ghost use Rattle.terms.specs.Body.Definitions.{ProgramAt};
-ghost use Rattle.terms.specs.Body.BodyBytes.{AtomAt, body-refusal, numbered-goal, body-with, Answered};
+ghost use Rattle.terms.specs.Body.BodyBytes.{AtomAt, body-refusal, numbered-goal, body-with, BodyAnswered};
 
 // Question 9 says no, there is no definition, the body has so many bytes, or the output is too short for it: question 10.
 pub enum BodyAnswer {
@@ -42,7 +36,7 @@ pub enum BodyAnswer {
     TooLong,
 }
 
-// The paper's number for an answer, 0 where no question says no.
+// The number (SPECIFICATION 7) for an answer, 0 where no question says no.
 pub fn body_refusal(answer: BodyAnswer) -> u8
     ensures { λ r. ⌜ r ≡ body-refusal answer ⌝ }
 {
@@ -88,7 +82,7 @@ fn body_length(program: &[u8], goal: usize, table: &[usize], k: usize, room: usi
     };
     let mut n = 0;
     while n <= room {
-        match walk_step(program, c) {
+        match next_node(program, c) {
             Step::Variable(v, d) => {
                 n = added(n, numbered_length(table, k, v), room);
                 c = d;
@@ -101,74 +95,6 @@ fn body_length(program: &[u8], goal: usize, table: &[usize], k: usize, room: usi
         }
     }
     n
-}
-
-fn write_variable(out: &mut [u8], at: usize, v: usize) -> usize
-    requires { ⌜ at + 3 ≤ length (now out) ⌝ }
-    ensures { λ r. ⌜ Put (now (out .entry)) at (term-bytes (var v)) (now (out .exit)) r ⌝ }
-{
-    let next = put_byte(out, at, VARIABLE);
-    put_word(out, next, v)
-}
-
-// What the variable v of a definition becomes: an argument, or a new variable from m on.
-fn write_numbered(
-    out: &mut [u8],
-    at: usize,
-    event: &[u8],
-    table: &[usize],
-    k: usize,
-    m: usize,
-    v: usize,
-) -> usize
-    requires { ⌜ ((a : ArgumentTable (now event) k (now table)) × (at + length (term-bytes (numbered (a .listed .terms) m v)) ≤ length (now out))) ⌝ }
-    requires { ⌜ m + v < 2 ^ 64 ⌝ }
-    ensures { λ r. ⌜ ((a : ArgumentTable (now (event .entry)) k (now (table .entry))) → Put (now (out .entry)) at (term-bytes (numbered (a .listed .terms) m v)) (now (out .exit)) r) ⌝ }
-{
-    if v < k {
-        let range = argument(table, v);
-        return put_range(out, at, event, range);
-    }
-    write_variable(out, at, m + (v - k))
-}
-
-// The goal that stands in the program, numbered, from the start of the output on, which has room for it.
-fn write_body(
-    program: &[u8],
-    goal: usize,
-    event: &[u8],
-    table: &[usize],
-    k: usize,
-    m: usize,
-    out: &mut [u8],
-) -> usize
-    requires { ⌜ m ≤ 65536 ⌝ }
-    requires { ⌜ ((g : GoalAt (now program) goal) × (a : ArgumentTable (now event) k (now table)) × (length (goal-bytes (numbered-goal (a .listed .terms) m (g .item))) ≤ length (now out))) ⌝ }
-    ensures { λ r. ⌜ ((g : GoalAt (now (program .entry)) goal) (a : ArgumentTable (now (event .entry)) k (now (table .entry))) → Put (now (out .entry)) 0 (goal-bytes (numbered-goal (a .listed .terms) m (g .item))) (now (out .exit)) r) ⌝ }
-{
-    let mut c = Cursor {
-        pos: goal,
-        terms: 0,
-        goals: 1,
-    };
-    let mut at = 0;
-    loop {
-        match walk_step(program, c) {
-            Step::Variable(v, d) => {
-                at = write_numbered(out, at, event, table, k, m, v);
-                c = d;
-            }
-            Step::Other(d) => {
-                let range = Range {
-                    from: c.pos,
-                    to: d.pos,
-                };
-                at = put_range(out, at, program, range);
-                c = d;
-            }
-            Step::Done => return at,
-        }
-    }
 }
 
 // The numbered goal and its length: it is measured, refused where the output is too short for it, and then written.
@@ -184,13 +110,18 @@ fn numbered_body(
     requires { ⌜ GoalAt (now program) goal ⌝ }
     requires { ⌜ ArgumentTable (now event) k (now table) ⌝ }
     requires { ⌜ m ≤ 65536 ⌝ }
-    ensures { λ r. ⌜ ((g : GoalAt (now (program .entry)) goal) (a : ArgumentTable (now (event .entry)) k (now (table .entry))) → Answered (now (out .entry)) (now (out .exit)) (defined (numbered-goal (a .listed .terms) m (g .item))) r) ⌝ }
+    ensures { λ r. ⌜ ((g : GoalAt (now (program .entry)) goal) (a : ArgumentTable (now (event .entry)) k (now (table .entry))) → BodyAnswered (now (out .entry)) (now (out .exit)) (defined (numbered-goal (a .listed .terms) m (g .item))) r) ⌝ }
 {
     let n = body_length(program, goal, table, k, out.len());
     if out.len() < n {
         return BodyAnswer::TooLong;
     }
-    write_body(program, goal, event, table, k, m, out);
+    let start = Cursor {
+        pos: goal,
+        terms: 0,
+        goals: 1,
+    };
+    write_nodes(out, 0, program, start, event, table, k, m);
     BodyAnswer::Defined(n)
 }
 
@@ -213,7 +144,7 @@ fn body_with(
 ) -> BodyAnswer
     requires { ⌜ (GoalAt (now program) (place .goal)) × (place .locals < 256) ⌝ }
     requires { ⌜ ((a : AtomAt (now event) frame) × (arity (a .terms) ≡ k)) ⌝ }
-    ensures { λ r. ⌜ ((g : GoalAt (now (program .entry)) (place .goal)) (a : AtomAt (now (event .entry)) frame) → arity (a .terms) ≡ k → Answered (now (out .entry)) (now (out .exit)) (body-with (place .locals) (g .item) (a .terms) (next-variable (a .frame .goal .item) (a .frame .ancestors .items) (a .frame .bets .items))) r) ⌝ }
+    ensures { λ r. ⌜ ((g : GoalAt (now (program .entry)) (place .goal)) (a : AtomAt (now (event .entry)) frame) → arity (a .terms) ≡ k → BodyAnswered (now (out .entry)) (now (out .exit)) (body-with (place .locals) (g .item) (a .terms) (next-variable (a .frame .goal .item) (a .frame .ancestors .items) (a .frame .bets .items))) r) ⌝ }
 {
     let m = next_variable(event, frame);
     let locals = place.locals;
@@ -233,7 +164,7 @@ fn body_with(
 pub fn atom_body(program: &[u8], event: &[u8], frame: Frame, out: &mut [u8]) -> BodyAnswer
     requires { ⌜ ProgramAt (now program) ⌝ }
     requires { ⌜ AtomAt (now event) frame ⌝ }
-    ensures { λ r. ⌜ ((d : ProgramAt (now (program .entry))) (a : AtomAt (now (event .entry)) frame) → Answered (now (out .entry)) (now (out .exit)) (body (d .definitions) (a .predicate) (a .terms) (a .frame .ancestors .items) (a .frame .bets .items)) r) ⌝ }
+    ensures { λ r. ⌜ ((d : ProgramAt (now (program .entry))) (a : AtomAt (now (event .entry)) frame) → BodyAnswered (now (out .entry)) (now (out .exit)) (body (d .definitions) (a .predicate) (a .terms) (a .frame .ancestors .items) (a .frame .bets .items)) r) ⌝ }
 {
     let goal = frame.goal;
     let GoalHead::Atom(p, k) = goal_head(event, goal) else {

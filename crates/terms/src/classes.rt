@@ -13,8 +13,8 @@ ghost use Rattle.terms.specs.Classes.ClassState.{
   Unitable,
   United,
   Comparable,
-  Compared,
-  Turned,
+  NodesCompared,
+  Visited,
   Ended,
   First,
   Firsts,
@@ -76,7 +76,7 @@ fn unite(kind: &[usize], number: &[usize], next: &[usize], rep: &mut [usize], p:
 // The symbols i and r: their first children that are not in one class.
 fn compare(number: &[usize], next: &[usize], rep: &[usize], i: usize, r: usize) -> Comparison
     requires { ⌜ Comparable (now number) (now next) (now rep) i r ⌝ }
-    ensures { λ o. ⌜ Compared (now (number .entry)) (now (next .entry)) (now (rep .entry)) i r o ⌝ }
+    ensures { λ o. ⌜ NodesCompared (now (number .entry)) (now (next .entry)) (now (rep .entry)) i r o ⌝ }
 {
     if number[i] != number[r] {
         return Comparison::Clash;
@@ -114,7 +114,7 @@ fn visit(
     requires { ⌜ Table (nodes (now kind) (now number) (now next)) ⌝ }
     requires { ⌜ State (nodes (now kind) (now number) (now next)) s t (now rep) ⌝ }
     requires { ⌜ i < length (now next) ⌝ }
-    ensures { λ o. ⌜ Turned (nodes (now (kind .entry)) (now (number .entry)) (now (next .entry))) s t i (now (rep .entry)) (now (rep .exit)) o ⌝ }
+    ensures { λ o. ⌜ Visited (nodes (now (kind .entry)) (now (number .entry)) (now (next .entry))) s t i (now (rep .entry)) (now (rep .exit)) o ⌝ }
 {
     if kind[i] < SYMBOL_NODE {
         return Turn::Fine;

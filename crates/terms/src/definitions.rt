@@ -8,7 +8,7 @@ use records::heads::word_at;
 ghost use mathlib.Core.Path.{_≡_};
 ghost use mathlib.Core.Bool.{_&&_};
 ghost use lib.Dec.{eqb};
-ghost use Rattle.terms.specs.Body.Definitions.{ProgramAt, DefinitionAt, DefinitionsAt, EntryOf, Located};
+ghost use Rattle.terms.specs.Body.Definitions.{ProgramAt, DefinitionAt, DefinitionsAt, EntryOf, find-definition};
 
 // What a definition starts with, and where it ends.
 pub struct Entry {
@@ -72,7 +72,7 @@ fn defines(d: Entry, p: usize, k: usize) -> bool
 // The definition of p of arity k among the n of a program.
 fn among(program: &[u8], n: usize, p: usize, k: usize) -> Lookup
     requires { ⌜ DefinitionsAt (now program) 5 n ⌝ }
-    ensures { λ r. ⌜ ((ds : DefinitionsAt (now (program .entry)) 5 n) → Located (now (program .entry)) (ds .items) p k r) ⌝ }
+    ensures { λ r. ⌜ ((ds : DefinitionsAt (now (program .entry)) 5 n) → r ≡ find-definition 5 0 (ds .items) p k) ⌝ }
 {
     let mut at = 5;
     let mut i = 0;
@@ -95,7 +95,7 @@ fn among(program: &[u8], n: usize, p: usize, k: usize) -> Lookup
 
 pub fn find_definition(program: &[u8], p: usize, k: usize) -> Lookup
     requires { ⌜ ProgramAt (now program) ⌝ }
-    ensures { λ r. ⌜ ((d : ProgramAt (now (program .entry))) → Located (now (program .entry)) (d .definitions) p k r) ⌝ }
+    ensures { λ r. ⌜ ((d : ProgramAt (now (program .entry))) → r ≡ find-definition 5 0 (d .definitions) p k) ⌝ }
 {
     match word_at(program, 3) {
         Word::Number(n) => among(program, n, p, k),

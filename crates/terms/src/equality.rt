@@ -14,9 +14,9 @@ ghost use lib.ListN.{length};
 ghost use Rattle.terms.specs.Values.Applied.{TermAt};
 ghost use Rattle.terms.specs.Standing.BetRow.{Bets};
 ghost use mathlib.Core.Option.{some};
-ghost use Rattle.terms.specs.Theory.Outcome.{value-under, outcome-of, unified-under};
+ghost use Rattle.terms.specs.Theory.Outcome.{value-under, outcome-of};
 ghost use Rattle.terms.specs.Unifier.UnifierAnswer.{Unifiable};
-ghost use Rattle.terms.specs.Unifier.Equality.{unifier-refusal, OneValue, Answered, Answers};
+ghost use Rattle.terms.specs.Unifier.Equality.{unifier-refusal, OneValue, UnifierAnswered, ValuesAnswered, EqualityUnder, UnifierUnder};
 
 // Question 8 says no, there is no unifier, its count and pairs have so many bytes, or they are too long for a record or the output: question 10.
 pub enum UnifierAnswer {
@@ -26,7 +26,7 @@ pub enum UnifierAnswer {
     TooLong,
 }
 
-// The paper's number for an answer, 0 where no question says no.
+// The number (SPECIFICATION 7) for an answer, 0 where no question says no.
 pub fn unifier_refusal(answer: UnifierAnswer) -> u8
     ensures { λ r. ⌜ r ≡ unifier-refusal answer ⌝ }
 {
@@ -50,7 +50,7 @@ fn unifier_in(
     out: &mut [u8],
 ) -> UnifierAnswer
     requires { ⌜ Unifiable (now a) (now b) (now kind) (now number) (now next) (now rep) (now size) ⌝ }
-    ensures { λ r. ⌜ Answers (now (a .entry)) (now (b .entry)) (now (out .entry)) (now (out .exit)) r ⌝ }
+    ensures { λ r. ⌜ ValuesAnswered (now (a .entry)) (now (b .entry)) (now (out .entry)) (now (out .exit)) r ⌝ }
 {
     let o = unify_values(a, b, kind, number, next, rep, size);
     if !o.found {
@@ -70,7 +70,7 @@ fn unifier_in(
 fn unify_short(a: &[u8], b: &[u8], out: &mut [u8]) -> UnifierAnswer
     requires { ⌜ OneValue (now a) × OneValue (now b) ⌝ }
     requires { ⌜ length (now a) + length (now b) ≤ 384 ⌝ }
-    ensures { λ r. ⌜ Answers (now (a .entry)) (now (b .entry)) (now (out .entry)) (now (out .exit)) r ⌝ }
+    ensures { λ r. ⌜ ValuesAnswered (now (a .entry)) (now (b .entry)) (now (out .entry)) (now (out .exit)) r ⌝ }
 {
     let mut kind: [usize; 128] = [0; 128];
     let mut number: [usize; 128] = [0; 128];
@@ -92,7 +92,7 @@ fn unify_short(a: &[u8], b: &[u8], out: &mut [u8]) -> UnifierAnswer
 // For any two values, which have at most 5,462 nodes.
 fn unify_long(a: &[u8], b: &[u8], out: &mut [u8]) -> UnifierAnswer
     requires { ⌜ OneValue (now a) × OneValue (now b) ⌝ }
-    ensures { λ r. ⌜ Answers (now (a .entry)) (now (b .entry)) (now (out .entry)) (now (out .exit)) r ⌝ }
+    ensures { λ r. ⌜ ValuesAnswered (now (a .entry)) (now (b .entry)) (now (out .entry)) (now (out .exit)) r ⌝ }
 {
     let mut kind: [usize; 5462] = [0; 5462];
     let mut number: [usize; 5462] = [0; 5462];
@@ -113,7 +113,7 @@ fn unify_long(a: &[u8], b: &[u8], out: &mut [u8]) -> UnifierAnswer
 
 fn write_unifier(a: &[u8], b: &[u8], out: &mut [u8]) -> UnifierAnswer
     requires { ⌜ OneValue (now a) × OneValue (now b) ⌝ }
-    ensures { λ r. ⌜ Answers (now (a .entry)) (now (b .entry)) (now (out .entry)) (now (out .exit)) r ⌝ }
+    ensures { λ r. ⌜ ValuesAnswered (now (a .entry)) (now (b .entry)) (now (out .entry)) (now (out .exit)) r ⌝ }
 {
     if a.len() + b.len() <= 384 {
         unify_short(a, b, out)
@@ -138,7 +138,7 @@ fn unifier_with(
     requires { ⌜ length (now event) ≤ 5 * length (now places) ⌝ }
     requires { ⌜ length (now firsts) ≡ length (now places) ⌝ }
     requires { ⌜ OneValue (now a) ⌝ }
-    ensures { λ r. ⌜ ((p : Bets (now (event .entry)) bets n) (v : OneValue (now (a .entry))) (t : TermAt (now (event .entry)) (right .from) (right .to)) → Answered (now (out .entry)) (now (out .exit)) (outcome-of (some (v .value .term)) (value-under (p .bets) (t .term))) r) ⌝ }
+    ensures { λ r. ⌜ ((p : Bets (now (event .entry)) bets n) (v : OneValue (now (a .entry))) (t : TermAt (now (event .entry)) (right .from) (right .to)) → UnifierAnswered (now (out .entry)) (now (out .exit)) (outcome-of (some (v .value .term)) (value-under (p .bets) (t .term))) r) ⌝ }
 {
     let mut b: [u8; 8192] = [0; 8192];
     let Sized::Fits(m) = apply_bets(event, bets, n, event, right.from, places, firsts, &mut b)
@@ -159,12 +159,10 @@ fn unifier_by(
     firsts: &mut [usize],
     out: &mut [u8],
 ) -> UnifierAnswer
-    requires { ⌜ Bets (now event) bets n ⌝ }
-    requires { ⌜ TermAt (now event) (left .from) (left .to) ⌝ }
-    requires { ⌜ TermAt (now event) (right .from) (right .to) ⌝ }
+    requires { ⌜ EqualityUnder (now event) bets n left right ⌝ }
     requires { ⌜ length (now event) ≤ 5 * length (now places) ⌝ }
     requires { ⌜ length (now firsts) ≡ length (now places) ⌝ }
-    ensures { λ r. ⌜ ((p : Bets (now (event .entry)) bets n) (s : TermAt (now (event .entry)) (left .from) (left .to)) (t : TermAt (now (event .entry)) (right .from) (right .to)) → Answered (now (out .entry)) (now (out .exit)) (unified-under (p .bets) (s .term) (t .term)) r) ⌝ }
+    ensures { λ r. ⌜ UnifierUnder (now (event .entry)) bets n left right (now (out .entry)) (now (out .exit)) r ⌝ }
 {
     let mut a: [u8; 8192] = [0; 8192];
     let Sized::Fits(k) = apply_bets(event, bets, n, event, left.from, places, firsts, &mut a) else {
@@ -182,11 +180,9 @@ fn unifier_of_short(
     right: Range,
     out: &mut [u8],
 ) -> UnifierAnswer
-    requires { ⌜ Bets (now event) bets n ⌝ }
-    requires { ⌜ TermAt (now event) (left .from) (left .to) ⌝ }
-    requires { ⌜ TermAt (now event) (right .from) (right .to) ⌝ }
+    requires { ⌜ EqualityUnder (now event) bets n left right ⌝ }
     requires { ⌜ length (now event) ≤ 2048 ⌝ }
-    ensures { λ r. ⌜ ((p : Bets (now (event .entry)) bets n) (s : TermAt (now (event .entry)) (left .from) (left .to)) (t : TermAt (now (event .entry)) (right .from) (right .to)) → Answered (now (out .entry)) (now (out .exit)) (unified-under (p .bets) (s .term) (t .term)) r) ⌝ }
+    ensures { λ r. ⌜ UnifierUnder (now (event .entry)) bets n left right (now (out .entry)) (now (out .exit)) r ⌝ }
 {
     let mut places: [usize; 410] = [0; 410];
     let mut firsts: [usize; 410] = [0; 410];
@@ -202,11 +198,9 @@ fn unifier_of_long(
     right: Range,
     out: &mut [u8],
 ) -> UnifierAnswer
-    requires { ⌜ Bets (now event) bets n ⌝ }
-    requires { ⌜ TermAt (now event) (left .from) (left .to) ⌝ }
-    requires { ⌜ TermAt (now event) (right .from) (right .to) ⌝ }
+    requires { ⌜ EqualityUnder (now event) bets n left right ⌝ }
     requires { ⌜ length (now event) ≤ 32768 ⌝ }
-    ensures { λ r. ⌜ ((p : Bets (now (event .entry)) bets n) (s : TermAt (now (event .entry)) (left .from) (left .to)) (t : TermAt (now (event .entry)) (right .from) (right .to)) → Answered (now (out .entry)) (now (out .exit)) (unified-under (p .bets) (s .term) (t .term)) r) ⌝ }
+    ensures { λ r. ⌜ UnifierUnder (now (event .entry)) bets n left right (now (out .entry)) (now (out .exit)) r ⌝ }
 {
     let mut places: [usize; 6554] = [0; 6554];
     let mut firsts: [usize; 6554] = [0; 6554];
@@ -222,11 +216,9 @@ pub fn unifier_under(
     right: Range,
     out: &mut [u8],
 ) -> UnifierAnswer
-    requires { ⌜ Bets (now event) bets n ⌝ }
-    requires { ⌜ TermAt (now event) (left .from) (left .to) ⌝ }
-    requires { ⌜ TermAt (now event) (right .from) (right .to) ⌝ }
+    requires { ⌜ EqualityUnder (now event) bets n left right ⌝ }
     requires { ⌜ length (now event) ≤ 32768 ⌝ }
-    ensures { λ r. ⌜ ((p : Bets (now (event .entry)) bets n) (s : TermAt (now (event .entry)) (left .from) (left .to)) (t : TermAt (now (event .entry)) (right .from) (right .to)) → Answered (now (out .entry)) (now (out .exit)) (unified-under (p .bets) (s .term) (t .term)) r) ⌝ }
+    ensures { λ r. ⌜ UnifierUnder (now (event .entry)) bets n left right (now (out .entry)) (now (out .exit)) r ⌝ }
 {
     if event.len() <= 2048 {
         unifier_of_short(event, bets, n, left, right, out)

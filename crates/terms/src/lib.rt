@@ -8,6 +8,7 @@ pub mod equality; // equality.rt: the unifier of the values of two terms of an e
 pub mod lengths; // lengths.rt: the lengths of the classes' terms
 pub mod load; // load.rt: two terms in one table of nodes
 pub mod nodes; // nodes.rt: the kinds of nodes
+pub mod numbering; // numbering.rt: what a traversal goes over, its variables numbered
 pub mod pairs; // pairs.rt: the pairs of a bet stack, listed
 pub mod solve; // solve.rt: whether two terms have a unifier
 pub mod substitute; // substitute.rt: a term under the pairs of a bet stack

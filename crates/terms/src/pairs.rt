@@ -1,6 +1,6 @@
 // The pairs of a bet stack in two tables, the top bet's first: entry k has the place of a pair, and the number of entries before those of its bet.
-use crate::arguments::position;
 use records::ends::bet_end;
+use records::ends::position;
 use records::ends::term_end;
 use records::heads::BetHead;
 use records::heads::bet_head;
@@ -8,10 +8,9 @@ ghost use mathlib.Core.Path.{_≡_};
 ghost use Prim.Native.Nat.{_+_, _*_, _≤_};
 ghost use lib.ListN.{length};
 ghost use Rattle.records.specs.Format.Heads.{bet-head-at};
-ghost use Rattle.terms.specs.Standing.BetRow.{BetHere, Bets, bet-pairs, head-pairs};
-ghost use Rattle.terms.specs.Values.Entries.{Listed};
-ghost use Rattle.terms.specs.Values.Listing.{Filled};
-ghost use Rattle.terms.specs.Standing.Pairs.{Pairs};
+ghost use Rattle.terms.specs.Standing.BetRow.{Bets, bet-pairs, head-pairs};
+ghost use Rattle.terms.specs.Values.Entries.{PairsEntered, PairsListed};
+ghost use Rattle.terms.specs.Standing.Frames.{PairsAt, BetAt};
 
 // How many pairs the bet at a position has; OR and BY have none.
 pub fn pairs_at(event: &[u8], at: usize) -> usize
@@ -34,10 +33,10 @@ fn list_pairs(
     places: &mut [usize],
     firsts: &mut [usize],
 ) -> usize
-    requires { ⌜ Pairs (now event) at n ⌝ }
+    requires { ⌜ PairsAt (now event) at n ⌝ }
     requires { ⌜ first + n ≤ length (now places) ⌝ }
     requires { ⌜ length (now firsts) ≡ length (now places) ⌝ }
-    ensures { λ r. ⌜ ((p : Pairs (now (event .entry)) at n) → Filled (now (event .entry)) (p .bindings) first (now (places .entry)) (now (firsts .entry)) (now (places .exit)) (now (firsts .exit)) r) ⌝ }
+    ensures { λ r. ⌜ ((p : PairsAt (now (event .entry)) at n) → PairsEntered (now (event .entry)) (p .items) first (now (places .entry)) (now (firsts .entry)) (now (places .exit)) (now (firsts .exit)) r) ⌝ }
 {
     let end = first + n;
     let mut pos = at;
@@ -59,10 +58,10 @@ fn list_bet(
     places: &mut [usize],
     firsts: &mut [usize],
 ) -> usize
-    requires { ⌜ BetHere (now event) at ⌝ }
+    requires { ⌜ BetAt (now event) at ⌝ }
     requires { ⌜ first + head-pairs (bet-head-at (now event) at) ≤ length (now places) ⌝ }
     requires { ⌜ length (now firsts) ≡ length (now places) ⌝ }
-    ensures { λ r. ⌜ ((p : BetHere (now (event .entry)) at) → Filled (now (event .entry)) (bet-pairs (p .bet)) first (now (places .entry)) (now (firsts .entry)) (now (places .exit)) (now (firsts .exit)) r) ⌝ }
+    ensures { λ r. ⌜ ((b : BetAt (now (event .entry)) at) → PairsEntered (now (event .entry)) (bet-pairs (b .item)) first (now (places .entry)) (now (firsts .entry)) (now (places .exit)) (now (firsts .exit)) r) ⌝ }
 {
     let n = pairs_at(event, at);
     if n == 0 {
@@ -82,7 +81,7 @@ pub fn list_bets(
     requires { ⌜ Bets (now event) at n ⌝ }
     requires { ⌜ length (now event) ≤ 5 * length (now places) ⌝ }
     requires { ⌜ length (now firsts) ≡ length (now places) ⌝ }
-    ensures { λ r. ⌜ ((p : Bets (now (event .entry)) at n) → Listed (p .bets) (now (event .entry)) (now (places .exit)) (now (firsts .exit)) r) ⌝ }
+    ensures { λ r. ⌜ ((p : Bets (now (event .entry)) at n) → PairsListed (p .bets) (now (event .entry)) (now (places .exit)) (now (firsts .exit)) r) ⌝ }
 {
     let mut pos = at;
     let mut left = n;

@@ -4,9 +4,9 @@ use records::heads::Word;
 use records::heads::word_at;
 use records::put::Range;
 use records::put::put_range;
-use records::walk::Cursor;
-use records::walk::Step;
-use records::walk::walk_step;
+use records::traverse::Cursor;
+use records::traverse::Step;
+use records::traverse::next_node;
 ghost use mathlib.Core.List.{List};
 ghost use Prim.Native.Nat.{ℕ, _≤_};
 ghost use lib.ListN.{length};
@@ -15,10 +15,10 @@ ghost use Rattle.records.specs.Ends.Range.{cut, Inside};
 ghost use Rattle.records.specs.Ends.Stands.{Stands};
 ghost use Rattle.records.specs.Ends.Steps.{On};
 ghost use Rattle.records.specs.Format.Syntax.Term.{var};
-ghost use Rattle.records.specs.Ends.Walk.{walk};
+ghost use Rattle.records.specs.Ends.Traversal.{traverse};
 ghost use Rattle.terms.specs.Theory.Substitution.{apply};
 ghost use Rattle.terms.specs.Values.Fitted.{Fitted};
-ghost use Rattle.terms.specs.Values.NodeBytes.{walk-bytes};
+ghost use Rattle.terms.specs.Values.NodeBytes.{traversal-bytes};
 ghost use Rattle.terms.specs.Values.Entries.{PairTable, FoundPair, under};
 
 // How many bytes were written, or that they are more than the output holds.
@@ -92,8 +92,8 @@ pub fn put_under(
     out: &mut [u8],
 ) -> Sized
     requires { ⌜ PairTable (now event) (now places) (now firsts) i ⌝ }
-    requires { ⌜ On (walk (now s) from 1 0) ⌝ }
-    ensures { λ r. ⌜ ((p : PairTable (now (event .entry)) (now (places .entry)) (now (firsts .entry)) i) → Fitted (now (out .entry)) (walk-bytes (under (p .bets)) (walk (now (s .entry)) from 1 0)) (now (out .exit)) r) ⌝ }
+    requires { ⌜ On (traverse (now s) from 1 0) ⌝ }
+    ensures { λ r. ⌜ ((p : PairTable (now (event .entry)) (now (places .entry)) (now (firsts .entry)) i) → Fitted (now (out .entry)) (traversal-bytes (under (p .bets)) (traverse (now (s .entry)) from 1 0)) (now (out .exit)) r) ⌝ }
 {
     let mut c = Cursor {
         pos: from,
@@ -103,7 +103,7 @@ pub fn put_under(
     let mut len = 0;
     loop {
         let pos = c.pos;
-        match walk_step(s, c) {
+        match next_node(s, c) {
             Step::Variable(v, d) => {
                 let end = d.pos;
                 let piece = Range { from: pos, to: end };

@@ -1,13 +1,12 @@
 // The value service: S(v), what the bet stack of an event makes of a variable.
 use crate::apply::apply_bets;
 use crate::substitute::Sized;
-use records::gate::event_number;
-use records::gate::event_verdict;
+use records::door::event_door;
 use records::kinds::RECORD_LIMIT;
 use records::kinds::VARIABLE;
 use records::places::event_places;
-use records::plan::Emit;
 use records::put::Range;
+use records::put::Receipt;
 use records::put::put_range;
 use records::questions::DONE;
 use records::questions::OUTPUT;
@@ -20,7 +19,9 @@ ghost use Rattle.records.specs.Format.Syntax.Term.{var};
 ghost use Rattle.terms.specs.Values.Answered.{value-refusal, Answered, Buffers};
 ghost use Rattle.terms.specs.Standing.BetRow.{Bets};
 ghost use Rattle.terms.specs.Theory.Outcome.{value};
-ghost use Rattle.terms.specs.Values.ValueService.{Replied, reply-into, value-reply};
+ghost use Rattle.records.specs.Format.Encode.{term-bytes};
+ghost use Rattle.records.specs.Gate.Reply.{Receipted};
+ghost use Rattle.terms.specs.Values.ValueService.{value-into, value-answer};
 
 // S(v) under the n bets at `at` of the event. The value is left in the output; the tables are for the pairs of the bets.
 pub fn variable_value(
@@ -40,7 +41,7 @@ pub fn variable_value(
     apply_bets(event, at, n, &term, 0, places, firsts, out)
 }
 
-// The paper's number for a value's answer, 0 where question 8 does not say no.
+// The number (SPECIFICATION 7) for a value's answer, 0 where question 8 does not say no.
 fn value_refusal(answer: Sized) -> u8
     ensures { λ r. ⌜ r ≡ value-refusal answer ⌝ }
 {
@@ -51,13 +52,13 @@ fn value_refusal(answer: Sized) -> u8
 }
 
 // Questions 5 and 8, and then S(v) as bare term bytes at the start of the output.
-pub fn put_value(event: &[u8], at: usize, n: usize, v: u16, out: &mut [u8]) -> Emit
+pub fn put_value(event: &[u8], at: usize, n: usize, v: u16, out: &mut [u8]) -> Receipt
     requires { ⌜ Bets (now event) at n ⌝ }
     requires { ⌜ length (now event) ≤ 32768 ⌝ }
-    ensures { λ r. ⌜ ((p : Bets (now (event .entry)) at n) → Replied (reply-into (length (now (out .entry))) (value (p .bets) v)) (now (out .entry)) r (now (out .exit))) ⌝ }
+    ensures { λ r. ⌜ ((p : Bets (now (event .entry)) at n) → Receipted term-bytes (value-into (length (now (out .entry))) (value (p .bets) v)) (now (out .entry)) r (now (out .exit))) ⌝ }
 {
     if out.len() < RECORD_LIMIT {
-        return Emit {
+        return Receipt {
             number: OUTPUT,
             length: 0,
         };
@@ -67,25 +68,25 @@ pub fn put_value(event: &[u8], at: usize, n: usize, v: u16, out: &mut [u8]) -> E
     let mut value: [u8; 8192] = [0; 8192];
     let answer = variable_value(event, at, n, v, &mut places, &mut firsts, &mut value);
     let Sized::Fits(m) = answer else {
-        return Emit {
+        return Receipt {
             number: value_refusal(answer),
             length: 0,
         };
     };
     let length = put_range(out, 0, &value, Range { from: 0, to: m });
-    Emit {
+    Receipt {
         number: DONE,
         length,
     }
 }
 
 // The value service: S(v) under the bet stack of an event, for every event record, v and output.
-pub fn value(event: &[u8], v: u16, out: &mut [u8]) -> Emit
-    ensures { λ r. ⌜ Replied (value-reply (read-event (now (event .entry))) (length (now (out .entry))) v) (now (out .entry)) r (now (out .exit)) ⌝ }
+pub fn value(event: &[u8], v: u16, out: &mut [u8]) -> Receipt
+    ensures { λ r. ⌜ Receipted term-bytes (value-answer (read-event (now (event .entry))) (length (now (out .entry))) v) (now (out .entry)) r (now (out .exit)) ⌝ }
 {
-    let number = event_number(event_verdict(event));
-    if number != 0 {
-        return Emit { number, length: 0 };
+    let number = event_door(event);
+    if number != DONE {
+        return Receipt { number, length: 0 };
     }
     let places = event_places(event);
     let bets = places.bets;

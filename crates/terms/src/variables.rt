@@ -1,15 +1,22 @@
 // The first new variable: one more than the greatest of an event's goal and ancestors, or 0 if there is none.
+// The members of a stack are passed one after another, and behind a unifier its pairs: both are counted as they are to come, so that one loop
+// goes over a stack of either kind.
 use records::heads::AncestorHead;
+use records::heads::BetHead;
+use records::heads::Word;
 use records::heads::ancestor_head;
-use records::walk::Cursor;
-use records::walk::Top;
-use records::walk::variables_top;
+use records::heads::bet_head;
+use records::heads::word_at;
+use records::traverse::Cursor;
+use records::traverse::Top;
+use records::traverse::variables_top;
 ghost use mathlib.Core.Path.{_≡_};
 ghost use Prim.Native.Nat.{max};
-ghost use Rattle.terms.specs.Theory.Variables.{above};
-ghost use Rattle.terms.specs.Body.Body.{ancestors-variables, next-variable};
-ghost use Rattle.terms.specs.Standing.Frames.{AncestorAt, AncestorsAt, FrameAt};
-ghost use Rattle.terms.specs.Body.TopLaws.{AncestorTop};
+ghost use Rattle.records.specs.Gate.RecordRules.{ancestor-variables};
+ghost use Rattle.records.specs.Ends.Above.{above};
+ghost use Rattle.terms.specs.Body.Body.{next-variable};
+ghost use Rattle.terms.specs.Standing.Frames.{AncestorAt, BetAt, PairAt, FrameAt};
+ghost use Rattle.terms.specs.Body.Tops.{TopOf, PieceOf, MemberAt, StackAt, pair-variables, bet-variables, member-variables, members-variables};
 
 // Where an event's goal and its stacks stand, and how many parts a stack has.
 pub struct Frame {
@@ -18,6 +25,19 @@ pub struct Frame {
     pub depth: usize,
     pub bets: usize,
     pub height: usize,
+}
+
+// One of an event's two stacks.
+pub enum Stack {
+    Ancestors,
+    Bets,
+}
+
+// What is read of a member of a stack: one more than the greatest variable up to `end`, and how many pairs follow there.
+pub struct Piece {
+    pub top: usize,
+    pub end: usize,
+    pub pairs: usize,
 }
 
 fn greater(a: usize, b: usize) -> usize
@@ -29,7 +49,7 @@ fn greater(a: usize, b: usize) -> usize
 // One more than the greatest variable of an ancestor, and where it ends.
 fn ancestor_top(event: &[u8], at: usize) -> Top
     requires { ⌜ AncestorAt (now event) at ⌝ }
-    ensures { λ r. ⌜ ((a : AncestorAt (now (event .entry)) at) → AncestorTop a r) ⌝ }
+    ensures { λ r. ⌜ ((a : AncestorAt (now (event .entry)) at) → TopOf (ancestor-variables (a .item)) (a .end) r) ⌝ }
 {
     match ancestor_head(event, at) {
         AncestorHead::Called(_, k) => {
@@ -66,21 +86,106 @@ fn ancestor_top(event: &[u8], at: usize) -> Top
     }
 }
 
-// The greater of m and one more than the greatest variable of n ancestors.
-fn ancestors_top(event: &[u8], at: usize, n: usize, m: usize) -> usize
-    requires { ⌜ AncestorsAt (now event) at n ⌝ }
-    ensures { λ r. ⌜ ((u : AncestorsAt (now (event .entry)) at n) → r ≡ max m (above (ancestors-variables (u .items)))) ⌝ }
+// The same for a pair of a unifier: its variable and those of its term.
+fn pair_top(event: &[u8], at: usize) -> Top
+    requires { ⌜ PairAt (now event) at ⌝ }
+    ensures { λ r. ⌜ ((p : PairAt (now (event .entry)) at) → TopOf (pair-variables (p .item)) (p .end) r) ⌝ }
+{
+    let Word::Number(v) = word_at(event, at) else {
+        return Top { top: 0, end: at };
+    };
+    let t = variables_top(
+        event,
+        Cursor {
+            pos: at + 2,
+            terms: 1,
+            goals: 0,
+        },
+    );
+    Top {
+        top: greater(v + 1, t.top),
+        end: t.end,
+    }
+}
+
+fn whole(t: Top) -> Piece
+    ensures { λ r. ⌜ (r .top ≡ t .top) × (r .end ≡ t .end) × (r .pairs ≡ 0) ⌝ }
+{
+    Piece {
+        top: t.top,
+        end: t.end,
+        pairs: 0,
+    }
+}
+
+// A bet: of a unifier, what stands before its pairs.
+fn bet_top(event: &[u8], at: usize) -> Piece
+    requires { ⌜ BetAt (now event) at ⌝ }
+    ensures { λ r. ⌜ ((b : BetAt (now (event .entry)) at) → PieceOf (now (event .entry)) (bet-variables (b .item)) (b .end) r) ⌝ }
+{
+    match bet_head(event, at) {
+        BetHead::Unifier(n) => Piece {
+            top: 0,
+            end: at + 3,
+            pairs: n,
+        },
+        BetHead::Or(_) => Piece {
+            top: 0,
+            end: at + 2,
+            pairs: 0,
+        },
+        BetHead::By => whole(variables_top(
+            event,
+            Cursor {
+                pos: at + 1,
+                terms: 0,
+                goals: 1,
+            },
+        )),
+        BetHead::NoBet => Piece {
+            top: 0,
+            end: at,
+            pairs: 0,
+        },
+    }
+}
+
+fn member_top(event: &[u8], at: usize, stack: Stack) -> Piece
+    requires { ⌜ MemberAt stack (now event) at ⌝ }
+    ensures { λ r. ⌜ ((a : MemberAt stack (now (event .entry)) at) → PieceOf (now (event .entry)) (member-variables stack (a .item)) (a .end) r) ⌝ }
+{
+    match stack {
+        Stack::Ancestors => whole(ancestor_top(event, at)),
+        Stack::Bets => bet_top(event, at),
+    }
+}
+
+// The greater of m and one more than the greatest variable of a stack of n members.
+fn stack_top(event: &[u8], at: usize, stack: Stack, n: usize, m: usize) -> usize
+    requires { ⌜ StackAt stack (now event) at n ⌝ }
+    ensures { λ r. ⌜ ((u : StackAt stack (now (event .entry)) at n) → r ≡ max m (above (members-variables stack (u .items)))) ⌝ }
 {
     let mut pos = at;
+    let mut pairs = 0;
     let mut left = n;
     let mut top = m;
-    while 0 < left {
-        let t = ancestor_top(event, pos);
-        top = greater(top, t.top);
-        pos = t.end;
-        left = left - 1;
+    loop {
+        if 0 < pairs {
+            let t = pair_top(event, pos);
+            top = greater(top, t.top);
+            pos = t.end;
+            pairs = pairs - 1;
+        } else {
+            if left == 0 {
+                return top;
+            }
+            let p = member_top(event, pos, stack);
+            top = greater(top, p.top);
+            pos = p.end;
+            pairs = p.pairs;
+            left = left - 1;
+        }
     }
-    top
 }
 
 // Bets are not looked at.
@@ -96,5 +201,5 @@ pub fn next_variable(event: &[u8], frame: Frame) -> usize
             goals: 1,
         },
     );
-    ancestors_top(event, frame.ancestors, frame.depth, t.top)
+    stack_top(event, frame.ancestors, Stack::Ancestors, frame.depth, t.top)
 }

@@ -5,7 +5,6 @@ use records::kinds::SYMBOL;
 use records::kinds::VARIABLE;
 use records::put::put_byte;
 use records::put::put_word;
-ghost use mathlib.Core.Path.{_≡_};
 ghost use Prim.Native.Nat.{_≤_, _<_};
 ghost use lib.ListN.{length};
 ghost use Rattle.records.specs.Writing.Patched.{Put};

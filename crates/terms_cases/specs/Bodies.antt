@@ -7,10 +7,10 @@ use Rattle.records.specs.Format.Syntax.Goal.{truth, failure, equal, conj, disj,
 use Rattle.records.specs.Format.Syntax.Event.{event}
 use Rattle.records.specs.Gate.Gate.{Reading, read-event}
 use Rattle.records.specs.Gate.Gate.Reading.{refused, tree}
-use Rattle.records.specs.Gate.Question.{Question, number}
+use Rattle.records.specs.Gate.Question.{Question, question-number}
 use Rattle.records.specs.Gate.Question.Question.{of-program, of-event}
 use Rattle.terms.specs.Body.Body.{Body, body}
-use Rattle.terms.specs.Body.BodyBytes.{Answered}
+use Rattle.terms.specs.Body.BodyBytes.{BodyAnswered}
 use Rattle.terms.specs.declared.body.BodyAnswer.{BodyAnswer}
 use Rattle.terms_cases.specs.declared.body.BodyCase.{BodyCase}
 use Rattle.terms_cases.specs.declared.body.BodyCase.the-variants.{Refused, NoAtom, Answered as TheAnswer}
@@ -50,10 +50,10 @@ abbrev pub atom-event : {s : List ℕ} → AtomGoal s → Event
 atom-event q = event (q .port) (atom (q .predicate) (q .terms)) (q .ancestors) (q .bets)
 
 -- the program's answer; without a body the output is as it was
-abbrev pub Reply : AtomBody → List ℕ → List ℕ → BodyCase → Type 0
-Reply (no q) before after r = (r ≡ Refused (number q)) × (after ≡ before)
-Reply other before after r = (r ≡ NoAtom) × (after ≡ before)
-Reply (is b) before after r = (a : BodyAnswer) × (r ≡ TheAnswer a) × Answered before after b a
+abbrev pub BodyReply : AtomBody → List ℕ → List ℕ → BodyCase → Type 0
+BodyReply (no q) before after r = (r ≡ Refused (question-number q)) × (after ≡ before)
+BodyReply other before after r = (r ≡ NoAtom) × (after ≡ before)
+BodyReply (is b) before after r = (a : BodyAnswer) × (r ≡ TheAnswer a) × BodyAnswered before after b a
 
-pub record Replied (b : AtomBody) (before after : List ℕ) (r : BodyCase) : Type 0 where
-  pub reply : Reply b before after r
+pub record BodyReplied (b : AtomBody) (before after : List ℕ) (r : BodyCase) : Type 0 where
+  pub reply : BodyReply b before after r

@@ -7,10 +7,10 @@ use Rattle.records.specs.Format.Syntax.Goal.{truth, failure, equal, conj, disj,
 use Rattle.records.specs.Format.Syntax.Event.{event}
 use Rattle.records.specs.Gate.Gate.{Reading, read-event}
 use Rattle.records.specs.Gate.Gate.Reading.{refused, tree}
-use Rattle.records.specs.Gate.Question.{Question, number}
+use Rattle.records.specs.Gate.Question.{Question, question-number}
 use Rattle.records.specs.Gate.Question.Question.{of-event}
 use Rattle.terms.specs.Theory.Outcome.{Unified, unified-under}
-use Rattle.terms.specs.Unifier.Equality.{Answered}
+use Rattle.terms.specs.Unifier.Equality.{UnifierAnswered}
 use Rattle.terms.specs.declared.equality.UnifierAnswer.{UnifierAnswer}
 use Rattle.terms_cases.specs.declared.unify.Unifying.{Unifying}
 use Rattle.terms_cases.specs.declared.unify.Unifying.the-variants.{Refused, NoEquality, Answered as TheAnswer}
@@ -49,10 +49,10 @@ abbrev pub equality-event : {s : List ℕ} → EqualityAt s → Event
 equality-event q = event (q .port) (equal (q .left) (q .right)) (q .ancestors) (q .bets)
 
 -- the program's answer; without a unifier that fits, the output is as it was
-abbrev pub Reply : Equality → List ℕ → List ℕ → Unifying → Type 0
-Reply (no q) before after r = (r ≡ Refused (number q)) × (after ≡ before)
-Reply other before after r = (r ≡ NoEquality) × (after ≡ before)
-Reply (is u) before after r = (a : UnifierAnswer) × (r ≡ TheAnswer a) × Answered before after u a
+abbrev pub EqualityReply : Equality → List ℕ → List ℕ → Unifying → Type 0
+EqualityReply (no q) before after r = (r ≡ Refused (question-number q)) × (after ≡ before)
+EqualityReply other before after r = (r ≡ NoEquality) × (after ≡ before)
+EqualityReply (is u) before after r = (a : UnifierAnswer) × (r ≡ TheAnswer a) × UnifierAnswered before after u a
 
-pub record Replied (e : Equality) (before after : List ℕ) (r : Unifying) : Type 0 where
-  pub reply : Reply e before after r
+pub record EqualityReplied (e : Equality) (before after : List ℕ) (r : Unifying) : Type 0 where
+  pub reply : EqualityReply e before after r

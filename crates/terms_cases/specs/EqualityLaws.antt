@@ -15,26 +15,30 @@ use Rattle.records.specs.Gate.Gate.Reading.{tree}
 use Rattle.records.specs.Gate.GateLaws.{event-tree}
 use Rattle.records.specs.Ends.Places.{goal-end, event-places}
 use Rattle.records.specs.Ends.Stands.{head-of-goal}
-use Rattle.records.specs.Ends.Walk.{end-at}
+use Rattle.records.specs.Ends.Traversal.{end-at}
 use Rattle.records.specs.declared.ends.Found.the-variants.{At, Nothing}
 use Rattle.records.specs.declared.places.Places.{Places}
 use Rattle.terms.specs.Standing.Accepted.{bets-at, accepted-bets, left-side, right-side, bets-moved, term-moved}
-use Rattle.terms.specs.Standing.AcceptedLaws.{event-refused, goal-told, left-ends}
+use Rattle.terms.specs.Standing.AcceptedLaws.{goal-told, left-ends}
+use Rattle.records.specs.Gate.Reply.{answer-number}
+use Rattle.records.specs.Gate.Door.{event-door}
 use Rattle.terms.specs.Values.Applied.{TermAt}
 use Rattle.terms.specs.Standing.BetRow.{Bets}
 use Rattle.terms.specs.Theory.Outcome.{unified-under}
-use Rattle.terms.specs.Unifier.Equality.{Answered}
+use Rattle.terms.specs.Unifier.Equality.{UnifierAnswered}
 use Rattle.terms.specs.declared.equality.UnifierAnswer.{UnifierAnswer}
-use Rattle.terms_cases.specs.Kinds.{kind-of}
-use Rattle.terms_cases.specs.Equalities.{other, goal-equality, equality-of, EqualityAt, equality-event, Replied}
+use Rattle.terms_cases.specs.Kinds.{kind-byte}
+use Rattle.terms_cases.specs.Equalities.{other, goal-equality, equality-of, EqualityAt, equality-event, EqualityReplied}
 use Rattle.terms_cases.specs.declared.unify.Unifying.the-variants.{Refused, NoEquality, Answered as TheAnswer}
 
 -- the event is refused
-pub refused-replied : {before : List ℕ} {k : ℕ} (r : Reading Event) → k ≡ event-number (verdict r) → (k ≡ 0 → ⊥) → Replied (equality-of r) before before (Refused k)
-refused-replied r e h = let w = event-refused r e h in rw (w .reading) (record { reply = (ap Refused (w .is), refl) })
+pub refused-replied : {before : List ℕ} {k : ℕ} (r : Reading Event) → k ≡ answer-number (event-door r) → (k ≡ 0 → ⊥) → EqualityReplied (equality-of r) before before (Refused k)
+unfolding event-door answer-number
+refused-replied (Reading.refused a) e h = record { reply = (ap Refused e, refl) }
+refused-replied (Reading.tree x) e h = absurd (h e)
 
 -- its goal is no equality
-other-goal : (g : Goal) (bets : List Bet) → (kind-of (head-of-goal g) ≡ 0x12 → ⊥) → goal-equality g bets ≡ other
+other-goal : (g : Goal) (bets : List Bet) → (kind-byte (head-of-goal g) ≡ 0x12 → ⊥) → goal-equality g bets ≡ other
 other-goal truth bets h = refl
 other-goal failure bets h = refl
 other-goal (equal t u) bets h = absurd (h refl)
@@ -42,7 +46,7 @@ other-goal (conj a b) bets h = refl
 other-goal (disj a b) bets h = refl
 other-goal (atom p ts) bets h = refl
 
-equality-goal : (p : Port) (g : Goal) (u : List Ancestor) (bets : List Bet) {s : List ℕ} → kind-of (head-of-goal g) ≡ 0x12 → read-event s ≡ tree (event p g u bets) → EqualityAt s
+equality-goal : (p : Port) (g : Goal) (u : List Ancestor) (bets : List Bet) {s : List ℕ} → kind-byte (head-of-goal g) ≡ 0x12 → read-event s ≡ tree (event p g u bets) → EqualityAt s
 equality-goal p (equal t r) u bets h e = record { port = p; left = t; right = r; ancestors = u; bets = bets; read = e }
 equality-goal p truth u bets h e = absurd (omega arith)
 equality-goal p failure u bets h e = absurd (omega arith)
@@ -51,13 +55,13 @@ equality-goal p (disj a b) u bets h e = absurd (omega arith)
 equality-goal p (atom q ts) u bets h e = absurd (omega arith)
 
 module _ (s : List ℕ) (known : Known s) (e : Event) (read : read-event s ≡ tree e) where
-  pub other-replied : {before : List ℕ} → (kind-of (goal-head-at s 4) ≡ 0x12 → ⊥) → Replied (equality-of (read-event s)) before before NoEquality
+  pub other-replied : {before : List ℕ} → (kind-byte (goal-head-at s 4) ≡ 0x12 → ⊥) → EqualityReplied (equality-of (read-event s)) before before NoEquality
   other-replied {before} h = go e read
     where
-      go : (e : Event) → read-event s ≡ tree e → Replied (equality-of (read-event s)) before before NoEquality
+      go : (e : Event) → read-event s ≡ tree e → EqualityReplied (equality-of (read-event s)) before before NoEquality
       go (event p g u bets) i = rw (i, other-goal g bets (rw (goal-told s known p g u bets i) at h)) (record { reply = (refl, refl) })
 
-  pub equality-found : kind-of (goal-head-at s 4) ≡ 0x12 → EqualityAt s
+  pub equality-found : kind-byte (goal-head-at s 4) ≡ 0x12 → EqualityAt s
   equality-found h = go e read
     where
       go : (e : Event) → read-event s ≡ tree e → EqualityAt s
@@ -108,6 +112,6 @@ module _ {s : List ℕ} (known : Known s) (q : EqualityAt s) {places : Places} (
       lost e = absurd (let z : _≡_ {A = ℕ} 0 1 = cc in omega arith)
 
 -- the unifier of its sides is the answer for the event
-pub unifier-replied : {s : List ℕ} (q : EqualityAt s) {before after : List ℕ} {a : UnifierAnswer} → Answered before after (unified-under (q .bets) (q .left) (q .right)) a
-    → Replied (equality-of (read-event s)) before after (TheAnswer a)
+pub unifier-replied : {s : List ℕ} (q : EqualityAt s) {before after : List ℕ} {a : UnifierAnswer} → UnifierAnswered before after (unified-under (q .bets) (q .left) (q .right)) a
+    → EqualityReplied (equality-of (read-event s)) before after (TheAnswer a)
 unifier-replied q {a = a} w = rw (q .read) (record { reply = (a, refl, w) })

@@ -1,4 +1,3 @@
-pub mod Fields
 pub mod Kinds
 pub mod Equalities
 pub mod EqualityLaws

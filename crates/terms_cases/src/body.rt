@@ -1,9 +1,7 @@
 // The body of an event's atom under a program.
 use crate::kind::goal_kind;
-use records::gate::event_number;
-use records::gate::event_verdict;
-use records::gate::program_number;
-use records::gate::program_verdict;
+use records::door::event_door;
+use records::door::program_door;
 use records::heads::goal_head;
 use records::kinds::ATOM;
 use records::places::event_places;
@@ -13,8 +11,8 @@ use terms::variables::Frame;
 ghost use Rattle.records.specs.Gate.Gate.{read-program, read-event};
 ghost use Rattle.terms.specs.Body.Definitions.{ProgramAt};
 ghost use Rattle.terms.specs.Body.Body.{body};
-ghost use Rattle.terms.specs.Body.BodyBytes.{Answered};
-ghost use Rattle.terms_cases.specs.Bodies.{AtomGoal, Replied, body-case};
+ghost use Rattle.terms.specs.Body.BodyBytes.{BodyAnswered};
+ghost use Rattle.terms_cases.specs.Bodies.{AtomGoal, BodyReplied, body-case};
 
 // The number that refuses a record; the event's goal is no atom; or the answer.
 pub enum BodyCase {
@@ -27,7 +25,7 @@ pub enum BodyCase {
 fn atom_goal(program: &[u8], event: &[u8], out: &mut [u8]) -> BodyAnswer
     requires { ⌜ ProgramAt (now program) ⌝ }
     requires { ⌜ AtomGoal (now event) ⌝ }
-    ensures { λ r. ⌜ ((d : ProgramAt (now (program .entry))) (a : AtomGoal (now (event .entry))) → Answered (now (out .entry)) (now (out .exit)) (body (d .definitions) (a .predicate) (a .terms) (a .ancestors) (a .bets)) r) ⌝ }
+    ensures { λ r. ⌜ ((d : ProgramAt (now (program .entry))) (a : AtomGoal (now (event .entry))) → BodyAnswered (now (out .entry)) (now (out .exit)) (body (d .definitions) (a .predicate) (a .terms) (a .ancestors) (a .bets)) r) ⌝ }
 {
     let places = event_places(event);
     let ancestors = places.ancestors;
@@ -48,13 +46,13 @@ fn atom_goal(program: &[u8], event: &[u8], out: &mut [u8]) -> BodyAnswer
 
 // What the event's atom comes to, for every two slices: the program is questioned first.
 pub fn body_case(program: &[u8], event: &[u8], out: &mut [u8]) -> BodyCase
-    ensures { λ r. ⌜ Replied (body-case (read-program (now (program .entry))) (read-event (now (event .entry)))) (now (out .entry)) (now (out .exit)) r ⌝ }
+    ensures { λ r. ⌜ BodyReplied (body-case (read-program (now (program .entry))) (read-event (now (event .entry)))) (now (out .entry)) (now (out .exit)) r ⌝ }
 {
-    let first = program_number(program_verdict(program));
+    let first = program_door(program);
     if first != 0 {
         return BodyCase::Refused(first);
     }
-    let second = event_number(event_verdict(event));
+    let second = event_door(event);
     if second != 0 {
         return BodyCase::Refused(second);
     }

@@ -4,95 +4,95 @@
 // u: an event, whose goal is an equality. 11 to 14, other, 8, none, long, or 0 and the unifier's count and pairs.
 // b: a program and an event, whose goal is an atom. 1 to 4, 11 to 14, other, 9, none, long, or 0 and the body.
 mod body;
-mod input;
 mod kind;
 mod print;
 mod unify;
 
 use crate::body::body_case;
-use crate::input::Field;
-use crate::input::read_field;
-use crate::input::wide;
 use crate::print::print_body;
 use crate::print::print_unifier;
 use crate::print::print_value;
 use crate::unify::unify_case;
+use case_io::input::at_most;
+use case_io::input::read_field;
+use case_io::input::read_kind;
+use case_io::input::read_number_field;
+use case_io::line::print_end;
+use case_io::line::print_start;
 use terms::value::value;
-ghost use mathlib.Core.Path.{_≡_};
-ghost use Prim.Native.Nat.{_+_, _*_, _≤_};
-ghost use lib.ListN.{length};
 
-// A number of two bytes, high byte first.
-fn word(high: u8, low: u8) -> u16
-    ensures { λ r. ⌜ r ≡ high * 256 + low ⌝ }
-{
-    (wide(high) * 256 + wide(low)) as u16
+fn value_line(ordinal: u64, event: &[u8], v: u16, out: &mut [u8]) {
+    let emit = value(event, v, out);
+    print_start(ordinal, b'v');
+    print_value(emit, out);
+    print_end();
 }
 
-// The line of the value service, the output having so many bytes.
-fn put_value_line(ordinal: u64, event: &[u8], v: u16, room: usize, out: &mut [u8])
-    requires { ⌜ room ≤ length (now out) ⌝ }
-{
-    let emit = value(event, v, &mut out[..room]);
-    print_value(ordinal, emit, out);
-}
-
-// Reads a case of the value service and prints its line. False, with nothing printed, where the input has no such case.
-fn next_value(ordinal: u64) -> bool {
-    let mut event = io::large_buffer();
-    let Field::Bytes(n) = read_field(&mut event) else {
-        return false;
-    };
-    let mut numbers = [0u8; 4];
-    let Field::Bytes(_) = read_field(&mut numbers) else {
-        return false;
-    };
-    let v = word(numbers[0], numbers[1]);
-    let room = word(numbers[2], numbers[3]) as usize;
+// With an output of so many bytes.
+fn value_with(ordinal: u64, event: &[u8], v: u16, room: u32) {
     let mut out = io::large_buffer();
-    put_value_line(ordinal, &event[..n], v, room, &mut out);
+    let n = at_most(room as usize, &out);
+    value_line(ordinal, event, v, &mut out[..n]);
+}
+
+// A case of an event and two numbers. Each function of a case gives false, with nothing printed, where the input does not hold the rest.
+fn next_value(ordinal: u64, event: &[u8]) -> bool {
+    let numbers = read_number_field();
+    if numbers.there {
+        let both = numbers.value;
+        value_with(ordinal, event, (both / 65536) as u16, both % 65536);
+    }
+    numbers.there
+}
+
+// A case of an event.
+fn next_unifier(ordinal: u64, event: &[u8]) -> bool {
+    let mut out = io::large_buffer();
+    let answer = unify_case(event, &mut out);
+    print_start(ordinal, b'u');
+    print_unifier(answer, &out);
+    print_end();
     true
 }
 
-fn next_unifier(ordinal: u64) -> bool {
-    let mut event = io::large_buffer();
-    let Field::Bytes(n) = read_field(&mut event) else {
-        return false;
-    };
-    let mut out = io::large_buffer();
-    let answer = unify_case(&event[..n], &mut out);
-    print_unifier(ordinal, answer, &out);
-    true
-}
-
-fn next_body(ordinal: u64) -> bool {
-    let mut program = io::large_buffer();
-    let Field::Bytes(n) = read_field(&mut program) else {
-        return false;
-    };
-    let mut event = io::large_buffer();
-    let Field::Bytes(m) = read_field(&mut event) else {
-        return false;
-    };
+fn body_line(ordinal: u64, program: &[u8], event: &[u8]) {
     let mut out = [0u8; 32768];
-    let answer = body_case(&program[..n], &event[..m], &mut out);
-    print_body(ordinal, answer, &out);
-    true
+    let answer = body_case(program, event, &mut out);
+    print_start(ordinal, b'b');
+    print_body(answer, &out);
+    print_end();
 }
 
-// Reads a case and prints its line. False, with nothing printed, where the input ends or holds something else.
-fn next_case(ordinal: u64) -> bool {
-    let mut kind = [0u8; 1];
-    if io::read_full(0, &mut kind) < 1 {
+// A case of a program and an event.
+fn next_body(ordinal: u64, program: &[u8]) -> bool {
+    let mut buf = io::large_buffer();
+    let field = read_field(&mut buf);
+    if field.there {
+        let n = field.size;
+        body_line(ordinal, program, &buf[..n]);
+    }
+    field.there
+}
+
+fn first_field(ordinal: u64, kind: u8) -> bool {
+    let mut buf = io::large_buffer();
+    let field = read_field(&mut buf);
+    if !field.there {
         return false;
     }
-    let k = kind[0];
-    match k {
-        b'v' => next_value(ordinal),
-        b'u' => next_unifier(ordinal),
-        b'b' => next_body(ordinal),
+    let n = field.size;
+    match kind {
+        b'v' => next_value(ordinal, &buf[..n]),
+        b'u' => next_unifier(ordinal, &buf[..n]),
+        b'b' => next_body(ordinal, &buf[..n]),
         _ => false,
     }
+}
+
+// Reads a case and prints its line.
+fn next_case(ordinal: u64) -> bool {
+    let kind = read_kind();
+    kind.there && first_field(ordinal, kind.byte)
 }
 
 // A proved loop has to end, so the number of cases has a limit.

@@ -1,9 +1,8 @@
 // The unifier of an event's equality under its bets.
 use crate::kind::goal_kind;
+use records::door::event_door;
 use records::ends::Found;
 use records::ends::term_end;
-use records::gate::event_number;
-use records::gate::event_verdict;
 use records::heads::goal_head;
 use records::kinds::EQUAL;
 use records::places::event_places;
@@ -11,7 +10,7 @@ use records::put::Range;
 use terms::equality::UnifierAnswer;
 use terms::equality::unifier_under;
 ghost use Rattle.records.specs.Gate.Gate.{read-event};
-ghost use Rattle.terms_cases.specs.Equalities.{EqualityAt, Replied, equality-of};
+ghost use Rattle.terms_cases.specs.Equalities.{EqualityAt, EqualityReplied, equality-of};
 
 // The number that refuses the event; its goal is no equality; or the answer.
 pub enum Unifying {
@@ -23,7 +22,7 @@ pub enum Unifying {
 // The unifier of the sides of the equality that the event's goal is.
 fn unify_goal(event: &[u8], out: &mut [u8]) -> Unifying
     requires { ⌜ EqualityAt (now event) ⌝ }
-    ensures { λ r. ⌜ Replied (equality-of (read-event (now (event .entry)))) (now (out .entry)) (now (out .exit)) r ⌝ }
+    ensures { λ r. ⌜ EqualityReplied (equality-of (read-event (now (event .entry)))) (now (out .entry)) (now (out .exit)) r ⌝ }
 {
     let places = event_places(event);
     let Found::At(middle) = term_end(event, 5) else {
@@ -44,9 +43,9 @@ fn unify_goal(event: &[u8], out: &mut [u8]) -> Unifying
 
 // What the event's equality comes to, for every slice.
 pub fn unify_case(event: &[u8], out: &mut [u8]) -> Unifying
-    ensures { λ r. ⌜ Replied (equality-of (read-event (now (event .entry)))) (now (out .entry)) (now (out .exit)) r ⌝ }
+    ensures { λ r. ⌜ EqualityReplied (equality-of (read-event (now (event .entry)))) (now (out .entry)) (now (out .exit)) r ⌝ }
 {
-    let number = event_number(event_verdict(event));
+    let number = event_door(event);
     if number != 0 {
         return Unifying::Refused(number);
     }

@@ -9,7 +9,8 @@ use lib.ListN.{length, take, drop}
 use lib.Seq.{take-take}
 use Rattle.records.specs.Gate.Question.{Asked}
 use Rattle.records.specs.Gate.Gate.{refused, read-program}
-use Rattle.stepper.specs.Services.Services.{reading}
+use Rattle.records.specs.Gate.Reply.{through}
+use Rattle.records.specs.Gate.Door.{program-door}
 use Rattle.walk_text.specs.Input.{bytes-named, taken}
 use Rattle.walk_text.specs.InputLaws.{named-field, taken-length, taken-front}
 use Rattle.walk_text.specs.Text.{text, printed}
@@ -43,7 +44,7 @@ module _ (input buffer : List ℕ) {r : ℕ} (w : RecordRead buffer r) (f : Fait
 
   -- a refused program: nothing is read after it
   pub refused-printed : (q : Asked) → read-program (take r buffer) ≡ refused q → (query : List ℕ) → text (take r buffer) query ≡ printed input
-  unfolding printed text reading
+  unfolding printed text through program-door
   refused-printed q h query = rw (sym record-taken, h) refl
 
 -- the text of the two records that were read is the text of the input

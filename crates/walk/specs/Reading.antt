@@ -3,7 +3,7 @@
 use mathlib.Core.Path.{_≡_}
 use mathlib.Core.List.{List}
 use Prim.Native.Nat.{ℕ, _+_, _≤_}
-use lib.ListN.{length, take}
+use lib.ListN.{take}
 use Rattle.records.specs.Gate.Question.{Asked}
 use Rattle.records.specs.Gate.Gate.{refused, Accepted, read-program}
 use Rattle.walk_text.specs.Input.{bytes-named}

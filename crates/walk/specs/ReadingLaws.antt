@@ -7,9 +7,12 @@ use native.Mathlib.Omega.{arith}
 use lib.ListN.{take}
 use lib.Seq.{take-take}
 use Rattle.records.specs.Format.Syntax.{Definition}
-use Rattle.records.specs.Gate.Question.{Asked}
-use Rattle.records.specs.Gate.Gate.{Reading, refused, tree, read-program, verdict, program-number}
-use Rattle.terms.specs.Standing.AcceptedLaws.{program-refused, program-passed}
+use Rattle.records.specs.Gate.Question.{Asked, Question}
+use Rattle.records.specs.Gate.Gate.{Reading, tree, read-program}
+use Rattle.records.specs.Gate.Reply.{Answer, answer-number}
+use Rattle.records.specs.Gate.ReplyLaws.{number-refuses}
+use Rattle.records.specs.Gate.Door.{program-door}
+use Rattle.records.specs.Gate.DoorLaws.{program-open}
 use Rattle.walk_text.specs.Input.{bytes-named}
 use Rattle.walk_text.specs.InputLaws.{named-most}
 use Rattle.walk.specs.Reading.{delivered-most, PartRead, RecordRead, QueryRead}
@@ -29,20 +32,23 @@ pub query-within : {program before after : List ℕ} {r : ℕ} → QueryRead pro
 query-within {program} {r = r} w = go (read-program program) refl
   where
     go : (o : Reading (List Definition)) → read-program program ≡ o → r ≤ 32768
-    go (refused q) h = omega (arith, w .unread q h .0)
+    go (Reading.refused q) h = omega (arith, w .unread q h .0)
     go (tree P) h = record-within (w .record-read (rw h tt))
 
 -- the query of a refused program, and of an accepted one
-module _ {program before : List ℕ} {n : ℕ} (is : n ≡ program-number (verdict (read-program program))) where
+module _ {program before : List ℕ} {n : ℕ} (is : n ≡ answer-number (program-door (read-program program))) where
   pub query-unread : (n ≡ 0 → ⊥) → QueryRead program before 0 before
-  query-unread z =
-      let r = program-refused (read-program program) is z in
-      record { unread = λ q h. (refl, refl); record-read = λ a. absurd (rw (r .reading) at a) }
+  unfolding program-door
+  query-unread z = go (read-program program) refl (number-refuses (program-door (read-program program)) is z .refuses)
+    where
+      go : (o : Reading (List Definition)) → read-program program ≡ o → {q : Question} → program-door o ≡ Answer.refused q → QueryRead program before 0 before
+      go (Reading.refused a) h e = record { unread = λ q h. (refl, refl); record-read = λ a. absurd (rw h at a) }
+      go (tree P) h e = absurd (true≢false cc)
 
   pub query-told : {after : List ℕ} {r : ℕ} → n ≡ 0 → RecordRead after r → QueryRead program before r after
   query-told z w =
-      let p = program-passed (read-program program) is z in
+      let p = program-open (read-program program) is z in
       record { unread = λ q h. absurd (differ (p .0) q (sym (p .1) ∙ h)); record-read = λ a. w }
     where
-      differ : {A : Type 0} (x : A) (q : Asked) → tree x ≡ refused q → ⊥
+      differ : {A : Type 0} (x : A) (q : Asked) → tree x ≡ Reading.refused q → ⊥
       differ x q e = true≢false cc

@@ -1,6 +1,5 @@
 // Records from standard input, each read to its end and no further.
-use records::gate::program_number;
-use records::gate::program_verdict;
+use records::door::program_door;
 use records::questions::DONE;
 use walk_text::input::named;
 ghost use Prim.Native.Nat.{_+_, _≤_};
@@ -35,7 +34,7 @@ pub fn read_query(program: &[u8], buf: &mut [u8]) -> usize
     requires { ⌜ 32768 ≤ length (now buf) ⌝ }
     ensures { λ r. ⌜ QueryRead (now (program .entry)) (now (buf .entry)) r (now (buf .exit)) ⌝ }
 {
-    if program_number(program_verdict(program)) != DONE {
+    if program_door(program) != DONE {
         return 0;
     }
     read_record(buf)

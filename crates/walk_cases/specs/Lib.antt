@@ -1,4 +1,2 @@
-pub mod Digest
-pub mod DigestLaws
 pub mod TakenLaws
 pub mod TextLaws

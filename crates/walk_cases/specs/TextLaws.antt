@@ -10,13 +10,13 @@ use Rattle.walk_text.specs.RestLaws.{page-bytes, nothing-left}
 use Rattle.walk_text.specs.declared.text.Stage.the-variants.{Start}
 use Rattle.walk_text.specs.declared.text.Rest.{Rest}
 use Rattle.walk_text.specs.declared.text.Page.{Page}
-use Rattle.walk_cases.specs.declared.digest.Digest.{Digest}
-use Rattle.walk_cases.specs.Digest.{no-bytes, digest-from, digest-of}
-use Rattle.walk_cases.specs.DigestLaws.{digest-append}
+use Rattle.case_io.specs.declared.digest.Digest.{Digest}
+use Rattle.case_io.specs.Digest.{no-bytes, digest-from, digest-of}
+use Rattle.case_io.specs.DigestLaws.{digest-append}
 
 module _ (program query : List ℕ) (rest : Rest) where
   pub digest-start : rest .stage ≡ Start → digest-from no-bytes (left-text program query rest) ≡ digest-of (text program query)
-  unfolding left-text digest-of
+  unfolding left-text
   digest-start e = rw e refl
 
   pub digest-page : {before after : List ℕ} {r : Page} (d : Digest) {e whole : Digest} → Paged program query rest before r after

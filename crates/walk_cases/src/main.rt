@@ -1,24 +1,16 @@
 // Puts inputs of the walk program to its library, and prints a line for each: its ordinal from 1, how many bytes and lines the text has, its
 // checksum, and the text, with / for each line feed; of a text of more than 80 bytes the last line, after two dots.
 // A case is a four-byte length, high byte first, and that many bytes, at most 80,000: a whole standard input.
-mod digest; // digest.rt: bytes, lines and checksum
 mod shown; // shown.rt: the line of a case
 mod text; // text.rt: the text of an input, page after page
 
+use case_io::input::read_field;
 use shown::print_line;
 use text::digest_input;
 use walk_text::text::PAGE;
-ghost use mathlib.Core.Path.{_≡_};
-ghost use Prim.Native.Nat.{_<_};
 
 // The longest input that is stored.
 const LONGEST: usize = 80000;
-
-fn wide(b: u8) -> usize
-    ensures { λ r. ⌜ (r ≡ b) × (r < 256) ⌝ }
-{
-    b as usize
-}
 
 fn print_case(ordinal: u64, input: &[u8]) {
     let mut page: [u8; PAGE] = [0; PAGE];
@@ -28,27 +20,16 @@ fn print_case(ordinal: u64, input: &[u8]) {
     print_line(ordinal, digest, &page[..used]);
 }
 
-// Reads a case's bytes, as many as the slice has, and prints its line. False, with nothing printed, where the input ends before.
-fn answer(ordinal: u64, input: &mut [u8]) -> bool {
-    if io::read_full(0, input) < input.len() {
-        return false;
-    }
-    print_case(ordinal, input);
-    true
-}
-
 // Reads a case and prints its line. False, with nothing printed, where the input ends or the case is longer than the buffer.
 fn next_case(ordinal: u64) -> bool {
-    let mut head = [0u8; 4];
-    if io::read_full(0, &mut head) < 4 {
-        return false;
-    }
-    let n = ((wide(head[0]) * 256 + wide(head[1])) * 256 + wide(head[2])) * 256 + wide(head[3]);
-    if LONGEST < n {
-        return false;
-    }
     let mut input: [u8; LONGEST] = [0; LONGEST];
-    answer(ordinal, &mut input[0..n])
+    let field = read_field(&mut input);
+    if !field.there {
+        return false;
+    }
+    let n = field.size;
+    print_case(ordinal, &input[..n]);
+    true
 }
 
 // A proved loop has to end, so the number of cases has a limit.

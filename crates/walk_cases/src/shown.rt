@@ -1,5 +1,7 @@
 // The line that is printed for a case.
-use crate::digest::Digest;
+use case_io::digest::Digest;
+use case_io::line::print_end;
+use case_io::line::print_number;
 ghost use Prim.Native.Nat.{_≤_};
 ghost use lib.ListN.{length};
 
@@ -35,10 +37,8 @@ fn print_text(text: &[u8]) {
 }
 
 fn print_digest(digest: Digest) {
-    io::write_all(1, b" ");
-    io::print_decimal(1, digest.bytes as u64);
-    io::write_all(1, b" ");
-    io::print_decimal(1, digest.lines as u64);
+    print_number(digest.bytes as u64);
+    print_number(digest.lines as u64);
     io::write_all(1, b" ");
     io::print_hex(1, digest.checksum as u64, 8);
     io::write_all(1, b" ");
@@ -59,5 +59,5 @@ pub fn print_line(ordinal: u64, digest: Digest, page: &[u8]) {
     } else {
         print_last(page);
     }
-    io::write_all(1, b"\n");
+    print_end();
 }

@@ -1,7 +1,7 @@
 // The text of an input, made page after page as the walk program makes it.
-use crate::digest::Digest;
-use crate::digest::add_front;
-use crate::digest::no_bytes;
+use case_io::digest::Digest;
+use case_io::digest::add_front;
+use case_io::digest::no_bytes;
 use walk_text::input::taken_length;
 use walk_text::text::PAGE;
 use walk_text::text::is_done;
@@ -11,7 +11,7 @@ ghost use mathlib.Core.Path.{_≡_};
 ghost use Rattle.io.specs.Counts.{Counts};
 ghost use Rattle.walk_text.specs.Input.{taken};
 ghost use Rattle.walk_text.specs.Text.{text, printed};
-ghost use Rattle.walk_cases.specs.Digest.{digest-of};
+ghost use Rattle.case_io.specs.Digest.{digest-of};
 
 // The digest of a text, and how many bytes its last page has.
 pub struct Digested {

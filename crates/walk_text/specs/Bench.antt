@@ -1,11 +1,11 @@
--- Document 01's bench sheet, the lines marked P, as one table, in the sheet's order: each is computed from the definitions that the services'
+-- The bench sheet (SPECIFICATION 11), the lines marked P, as one table, in the sheet's order: each is computed from the definitions that the services'
 -- contracts cite. `out` is any buffer that passes question 5.
 use mathlib.Core.Path.{_≡_}
 use mathlib.Core.List.{List, [], _∷_, _++_}
 use native.Mathlib.Decide.{ℕ-discrete, decLt}
 use Prim.Native.Nat.{ℕ, _≤_}
 use lib.ListN.{length, drop}
-use borrow.Author.Tests.{le-ltb}
+use borrow.Author.Tests.{le-leb}
 use Rattle.records.specs.Format.Syntax.{Term, var, app, nil, cons, Goal, truth, equal, conj, disj, atom, first, second, in-conj, in-disj, called, bind, unifier, or, by, exit, fail, redo, Event, event, goal?, definition}
 use Rattle.records.specs.Format.Encode.{record-of, event-record, program-record, clauses-record}
 use Rattle.records.specs.Gate.RecordRules.{unifier-rules, event-rules, program-rules}
@@ -18,7 +18,8 @@ use Rattle.terms.specs.Theory.Outcome.{value-under, unified-under}
 use Rattle.terms.specs.Body.Body.{next-variable, definition-of, body}
 use Rattle.stepper.specs.Rules.Rules.{first-event}
 use Rattle.stepper.specs.Walks.Walk.{Direction, forward, back}
-use Rattle.stepper.specs.Services.Services.{Reply, first-record, step-record, record-limit}
+use Rattle.records.specs.Gate.Reply.{Reply}
+use Rattle.stepper.specs.Services.Services.{first-record, step-record, record-limit}
 use Rattle.stepper.specs.Run.Run.{RunReply, run-record}
 use Rattle.stepper.specs.Services.Desk.{layers}
 use Rattle.canonical.specs.Form.Bench.{q-clauses, q-body, canonical-bytes, bench-bytes}
@@ -89,7 +90,7 @@ module _ (out : List ℕ) (room : 32768 ≤ length out) where
         output = written (0x00 ∷ 0x0E ∷ 0x01 ∷ 0x01 ∷ 0x12 ∷ 0x01 ∷ 0x00 ∷ 0x00 ∷ 0x02 ∷ 0x00 ∷ 0x02 ∷ 0x00 ∷ 0x00 ∷ 0x00 ∷ 0x00 ∷ 0x00 ∷ []) out;
       }
   unfolding first-of
-  first-bytes = rw (le-ltb (length out) 32768 room)
+  first-bytes = rw (le-leb 32768 (length out) room)
 
   -- the next is 00 17 01 02 12 01 00 00 02 00 02 00 00 00 00 01 20 00 01 00 00 02 00 02 00
   pub next-bytes : step-of forward (0x00 ∷ 0x03 ∷ 0x01 ∷ 0x00 ∷ 0x00 ∷ [])
@@ -100,55 +101,55 @@ module _ (out : List ℕ) (room : 32768 ≤ length out) where
             ∷ 0x20 ∷ 0x00 ∷ 0x01 ∷ 0x00 ∷ 0x00 ∷ 0x02 ∷ 0x00 ∷ 0x02 ∷ 0x00 ∷ []) out;
       }
   unfolding step-of
-  next-bytes = rw (le-ltb (length out) 32768 room)
+  next-bytes = rw (le-leb 32768 (length out) room)
 
   -- p(V), V=b: event 8 is fail V=b
   pub event-8 : run-of-Q 8 out
       ≡ ran 0 8 (event fail (equal X b) (in-conj second p (equal X b) ∷ []) (by B ∷ or first ∷ unifier (bind 0 a ∷ []) ∷ [])) out
   unfolding run-of
-  event-8 = rw (le-ltb (length out) 32768 room)
+  event-8 = rw (le-leb 32768 (length out) room)
 
   -- event 12 is fail V=a with no bets
   pub event-12 : run-of-Q 12 out
       ≡ ran 0 12 (event fail (equal X a) (in-disj first (equal X a) (equal X b) ∷ called 7 (cons X nil) ∷ in-conj first p (equal X b) ∷ []) []) out
   unfolding run-of
-  event-12 = rw (le-ltb (length out) 32768 room)
+  event-12 = rw (le-leb 32768 (length out) room)
 
   -- it takes 19 steps: event 19 is exit with four bets, top first: empty unifier, BY, OR 2, V/b; a twentieth is refused by 6
   pub event-19 : run-of-Q 20 out ≡ ran 6 19 (event exit Q [] (unifier [] ∷ by B ∷ or second ∷ unifier (bind 0 b ∷ []) ∷ [])) out
   unfolding run-of
-  event-19 = rw (le-ltb (length out) 32768 room)
+  event-19 = rw (le-leb 32768 (length out) room)
 
   -- V0=f(V0) fails
   pub variable-inside : stepped (equal (var 0) (f₁ (var 0))) out ≡ gave (event fail (equal (var 0) (f₁ (var 0))) [] []) out
   unfolding step-of
-  variable-inside = rw (le-ltb (length out) 32768 room)
+  variable-inside = rw (le-leb 32768 (length out) room)
 
   -- V3=V7 binds 7 to 3
   pub lowest-stays : stepped (equal (var 3) (var 7)) out ≡ gave (event exit (equal (var 3) (var 7)) [] (unifier (bind 7 (var 3) ∷ []) ∷ [])) out
   unfolding step-of
-  lowest-stays = rw (le-ltb (length out) 32768 room)
+  lowest-stays = rw (le-leb 32768 (length out) room)
 
   -- f(V0,V0)=f(V1,a) binds 0 and 1 to a
   pub both-bound : stepped (equal (f₂ (var 0) (var 0)) (f₂ (var 1) a)) out
       ≡ gave (event exit (equal (f₂ (var 0) (var 0)) (f₂ (var 1) a)) [] (unifier (bind 0 a ∷ bind 1 a ∷ []) ∷ [])) out
   unfolding step-of
-  both-bound = rw (le-ltb (length out) 32768 room)
+  both-bound = rw (le-leb 32768 (length out) room)
 
   -- an undefined atom goes call, fail
   pub undefined-fails : stepped (atom 7 nil) out ≡ gave (event fail (atom 7 nil) [] []) out
   unfolding step-of
-  undefined-fails = rw (le-ltb (length out) 32768 room)
+  undefined-fails = rw (le-leb 32768 (length out) room)
 
   -- redo true with empty stacks, stepped forward, gives fail true
   pub redo-true : step-of forward (program-record []) (event-record (event redo truth [] [])) out ≡ gave (event fail truth [] []) out
   unfolding step-of
-  redo-true = rw (le-ltb (length out) 32768 room)
+  redo-true = rw (le-leb 32768 (length out) room)
 
   -- the same redo event, stepped back, gets 7
   pub redo-true-back : step-of back (program-record []) (event-record (event redo truth [] [])) out ≡ record { number = 7; output = out }
   unfolding step-of
-  redo-true-back = rw (le-ltb (length out) 32768 room)
+  redo-true-back = rw (le-leb 32768 (length out) room)
 
   -- q(a). q(f(Z)) :- q(Z). becomes (X0=a, true) ; (X0=f(V1), q(V1)), one local
   pub clauses-joined : canonical-bytes (clauses-record q-clauses) out ≡ record { number = 0; output = written (program-record (definition 7 1 1 q-body ∷ [])) out }

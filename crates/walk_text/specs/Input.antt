@@ -1,4 +1,4 @@
--- The records of the walk program's input, each found by its length field (document 01, "The gate at each call"). What is taken of an input that
+-- The records of the walk program's input, each found by its length field (SPECIFICATION 8). What is taken of an input that
 -- ends early, or whose length field is over 32,766, is a no to question 1.
 use mathlib.Core.Bool.{cond}
 use mathlib.Core.List.{List, [], _∷_}

@@ -1,18 +1,12 @@
--- The text of the walk program. What is printed? `Text` (`printed`), whose lines are in `Line` and whose walk is in `Walked`; what is taken of an
--- input, `Input`. What does a page hold? `Rest`; that the pages are the text, `Pages`. Document 01's example: `Example`; its bench sheet: `Bench`.
+-- The text of the walk program. What is printed? `Text` (`printed`), whose lines are in `Line`; what is taken of an input, `Input`. That the text is
+-- the lines of a run's log: `TextLaws`. What does a page hold? `Rest`; that the pages are the text, `Pages`. The specification's example: `Example`;
+-- its bench sheet: `Bench`.
 pub mod Line
-pub mod DecimalLaws
 pub mod LineLaws
-pub mod Walked
-pub mod WalkedLaws
-pub mod Page
-pub mod AdvanceLaws
-pub mod PageLaws
-pub mod StartLaws
-pub mod RunText
 pub mod Input
 pub mod InputLaws
 pub mod Text
+pub mod TextLaws
 pub mod Rest
 pub mod RestLaws
 pub mod Pages

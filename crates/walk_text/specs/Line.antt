@@ -1,11 +1,11 @@
--- The lines that the walk program prints: of an event "step, port word, ancestor count, bet count", and the stop line (document 01, "The
--- gate at each call"). One blank stands between fields, and a line feed ends each line. Bytes are ASCII.
+-- The lines that the walk program prints (SPECIFICATION 8.10): of an event the step, the port in a word, how many ancestors and how many bets; and the
+-- stop line. Fields are parted by a blank, lines end in a line feed, and all is ASCII.
 use mathlib.Core.Bool.{cond}
 use mathlib.Core.List.{List, [], _∷_, _++_}
 use Prim.Native.Nat.{ℕ, zero, suc, _+_, _/_, _%_}
-use lib.Dec.{ltb}
-use lib.ListN.{length}
-use Rattle.records.specs.Format.Syntax.{Port, call, exit, fail, redo, Event, event}
+use lib.Dec.{ltb, eqb}
+use Rattle.records.specs.Format.Syntax.{Port, call, exit, fail, redo, Event}
+use Rattle.stepper.specs.Run.Run.{Mark, mark}
 
 -- what stands between fields
 abbrev pub blank : ℕ
@@ -44,12 +44,35 @@ stop-word = 0x73 ∷ 0x74 ∷ 0x6F ∷ 0x70 ∷ []
 abbrev pub field : List ℕ → List ℕ
 field text = blank ∷ text
 
+-- the line of an event of this mark that stands at a step
+unfoldable pub mark-line : (step : ℕ) → Mark → List ℕ
+unfolding decimal port-word
+mark-line step m = decimal step ++ (field (port-word (m .port)) ++ (field (decimal (m .ancestors)) ++ (field (decimal (m .bets)) ++ (line-feed ∷ []))))
+
 -- the line of the event that stands at a step
 unfoldable pub line-bytes : (step : ℕ) → Event → List ℕ
-unfolding decimal port-word
-line-bytes step (event p g u s) = decimal step ++ (field (port-word p) ++ (field (decimal (length u)) ++ (field (decimal (length s)) ++ (line-feed ∷ []))))
+unfolding mark-line mark
+line-bytes step e = mark-line step (mark e)
+
+-- the lines of events of these marks, from a step on
+unfoldable pub mark-lines : (step : ℕ) → List Mark → List ℕ
+mark-lines step [] = []
+mark-lines step (m ∷ l) = mark-line step m ++ mark-lines (suc step) l
 
 -- the line at the end: "stop" and the number
 unfoldable pub stop-bytes : (number : ℕ) → List ℕ
 unfolding decimal
 stop-bytes n = stop-word ++ (field (decimal n) ++ (line-feed ∷ []))
+
+-- In code: the word of a port's byte, a line by its numbers, and the lines of a log, of three numbers each.
+unfoldable pub byte-word : ℕ → List ℕ
+byte-word n = cond (eqb n 1) (port-word call) (cond (eqb n 2) (port-word exit) (cond (eqb n 3) (port-word fail) (port-word redo)))
+
+unfoldable pub number-line : (step port ancestors bets : ℕ) → List ℕ
+number-line step p a b = decimal step ++ (field (byte-word p) ++ (field (decimal a) ++ (field (decimal b) ++ (line-feed ∷ []))))
+
+unfoldable pub log-lines : (step : ℕ) → List ℕ → List ℕ
+log-lines step [] = []
+log-lines step (p ∷ []) = []
+log-lines step (p ∷ (a ∷ [])) = []
+log-lines step (p ∷ (a ∷ (b ∷ l))) = number-line step p a b ++ log-lines (suc step) l

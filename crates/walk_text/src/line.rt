@@ -1,21 +1,11 @@
 // The text of a walk: numbers in decimal, the line of an event, the stop line. Each writer puts its bytes at a place of an output.
-use records::kinds::CALL;
-use records::kinds::EXIT;
-use records::kinds::FAIL;
-use records::places::PartEnds;
-use records::places::places_by;
 use records::put::put_byte;
 use records::put::put_part;
-ghost use mathlib.Core.Path.{_≡_};
 ghost use mathlib.Core.List.{[], _∷_, _++_};
-ghost use Prim.Native.Nat.{_+_, _≤_};
+ghost use Prim.Native.Nat.{_+_, _*_, _≤_, _<_};
 ghost use lib.ListN.{length};
-ghost use Rattle.records.specs.Format.Syntax.{Port, Event};
-ghost use Rattle.records.specs.Format.Encode.{port-byte};
-ghost use Rattle.records.specs.Gate.Gate.{Accepted, tree, read-event};
 ghost use Rattle.records.specs.Writing.Patched.{Put};
-ghost use Rattle.stepper.specs.Plans.View.{EndsOf};
-ghost use Rattle.walk_text.specs.Line.{decimal, field, line-feed, port-word, line-bytes, stop-bytes};
+ghost use Rattle.walk_text.specs.Line.{decimal, field, line-feed, byte-word, number-line, log-lines, stop-bytes};
 
 // A number in decimal; one of 64 bits has 20 digits at most.
 fn put_number(out: &mut [u8], at: usize, n: usize) -> usize
@@ -39,15 +29,15 @@ fn put_count(out: &mut [u8], at: usize, n: usize) -> usize
 }
 
 // The word of a port, which is given by its byte.
-fn put_port(out: &mut [u8], at: usize, port: u8) -> usize
+fn put_port(out: &mut [u8], at: usize, port: usize) -> usize
     requires { ⌜ at + 4 ≤ length (now out) ⌝ }
-    ensures put { λ r. ⌜ ((p : Port) → port ≡ port-byte p → Put (now (out .entry)) at (port-word p) (now (out .exit)) r) ⌝ }
+    ensures put { λ r. ⌜ Put (now (out .entry)) at (byte-word port) (now (out .exit)) r ⌝ }
     ensures within { λ r. ⌜ r ≤ at + 4 ⌝ }
 {
     match port {
-        CALL => put_part(out, at, b"call"),
-        EXIT => put_part(out, at, b"exit"),
-        FAIL => put_part(out, at, b"fail"),
+        1 => put_part(out, at, b"call"),
+        2 => put_part(out, at, b"exit"),
+        3 => put_part(out, at, b"fail"),
         _ => put_part(out, at, b"redo"),
     }
 }
@@ -63,19 +53,41 @@ fn put_counts(out: &mut [u8], at: usize, ancestors: usize, bets: usize) -> usize
     put_byte(out, end_at, b'\n')
 }
 
-// The line of an accepted event, by the ends of its parts.
-pub fn put_line(out: &mut [u8], at: usize, step: usize, event: &[u8], ends: PartEnds) -> usize
-    requires { ⌜ Accepted (read-event (now event)) ⌝ }
-    requires { ⌜ EndsOf (now event) ends ⌝ }
+// The line of an event, by its step and the numbers of its mark.
+fn put_line(
+    out: &mut [u8],
+    at: usize,
+    step: usize,
+    port: usize,
+    ancestors: usize,
+    bets: usize,
+) -> usize
     requires { ⌜ at + 68 ≤ length (now out) ⌝ }
-    ensures put { λ r. ⌜ ((e : Event) → read-event (now (event .entry)) ≡ tree e → Put (now (out .entry)) at (line-bytes step e) (now (out .exit)) r) ⌝ }
+    ensures put { λ r. ⌜ Put (now (out .entry)) at (number-line step port ancestors bets) (now (out .exit)) r ⌝ }
     ensures within { λ r. ⌜ r ≤ at + 68 ⌝ }
 {
-    let p = places_by(event, ends);
     let blank_at = put_number(out, at, step);
     let port_at = put_byte(out, blank_at, b' ');
-    let counts_at = put_port(out, port_at, p.port);
-    put_counts(out, counts_at, p.ancestors.count, p.bets.count)
+    let counts_at = put_port(out, port_at, port);
+    put_counts(out, counts_at, ancestors, bets)
+}
+
+// The lines of a log, three numbers each, from a step on.
+pub fn put_lines(out: &mut [u8], at: usize, first: usize, log: &[usize]) -> usize
+    requires { ⌜ first + length (now log) < 4294967296 ⌝ }
+    requires { ⌜ 3 * at + 68 * length (now log) ≤ 3 * length (now out) ⌝ }
+    ensures put { λ r. ⌜ Put (now (out .entry)) at (log-lines first (now (log .entry))) (now (out .exit)) r ⌝ }
+    ensures within { λ r. ⌜ 3 * r ≤ 3 * at + 68 * length (now (log .entry)) ⌝ }
+{
+    let mut used = at;
+    let mut step = first;
+    let mut j = 0;
+    while j + 3 <= log.len() {
+        used = put_line(out, used, step, log[j], log[j + 1], log[j + 2]);
+        step += 1;
+        j += 3;
+    }
+    used
 }
 
 // The stop line.

@@ -1,4 +1,4 @@
--- Document 01's bench line of the canonical form, and small programs beside it, computed from the definitions.
+-- The bench line of the canonical form (SPECIFICATION 11), and small programs beside it, computed from the definitions.
 use mathlib.Core.Path.{_≡_, refl}
 use mathlib.Core.List.{List, [], _∷_, _++_}
 use native.Mathlib.Decide.{ℕ-discrete, decLt}
@@ -12,7 +12,8 @@ use Rattle.records.specs.Format.Reader.{read}
 use Rattle.records.specs.Format.Items.{many, read-counted, read-clause}
 use Rattle.records.specs.Gate.Gate.{framed, of-version, read-record}
 use Rattle.canonical.specs.Form.Canonical.{canonical}
-use Rattle.canonical.specs.Writing.Service.{Reply, canonical-record}
+use Rattle.records.specs.Gate.Reply.{Reply}
+use Rattle.canonical.specs.Writing.Service.{canonical-record}
 
 -- the constant a, and f of one term
 abbrev pub a : Term

@@ -1,4 +1,4 @@
--- The canonical form (document 01, "Canonical form"; document 000, definition 2.1): the definitions that clauses make.
+-- The canonical form (SPECIFICATION 2): the definitions that clauses make.
 -- Choices: a predicate is a number together with an arity, as in a program's order; its definition is made from its own clauses, taken out of the
 -- list in their order; a clause's variables are renamed by a substitution, as those of a body are; nothing is simplified.
 use mathlib.Core.Bool.{Bool, _&&_, _||_, cond}
@@ -23,17 +23,17 @@ pub data Predicate : Type 0 where
 abbrev pub predicate-of : Clause → Predicate
 predicate-of (clause p v ts g) = predicate p (arity ts)
 
-abbrev pub same : Predicate → Predicate → Bool
-same (predicate p n) (predicate q m) = eqb p q && eqb n m
+abbrev pub same-predicate : Predicate → Predicate → Bool
+same-predicate (predicate p n) (predicate q m) = eqb p q && eqb n m
 
 -- predicates rise by number, then arity
-abbrev pub before : Predicate → Predicate → Bool
-before (predicate p n) (predicate q m) = ltb p q || (eqb p q && ltb n m)
+abbrev pub predicate-before : Predicate → Predicate → Bool
+predicate-before (predicate p n) (predicate q m) = ltb p q || (eqb p q && ltb n m)
 
 -- a rising list with x in it, once
 abbrev pub placed : Predicate → List Predicate → List Predicate
 placed x [] = x ∷ []
-placed x (y ∷ l) = cond (before x y) (x ∷ (y ∷ l)) (cond (same x y) (y ∷ l) (y ∷ placed x l))
+placed x (y ∷ l) = cond (predicate-before x y) (x ∷ (y ∷ l)) (cond (same-predicate x y) (y ∷ l) (y ∷ placed x l))
 
 -- the predicates of the clauses, rising, each once
 abbrev pub predicates : List Clause → List Predicate
@@ -43,7 +43,7 @@ predicates (c ∷ cs) = placed (predicate-of c) (predicates cs)
 -- the clauses of a predicate, in their order
 abbrev pub clauses-of : Predicate → List Clause → List Clause
 clauses-of x [] = []
-clauses-of x (c ∷ cs) = cond (same x (predicate-of c)) (c ∷ clauses-of x cs) (clauses-of x cs)
+clauses-of x (c ∷ cs) = cond (same-predicate x (predicate-of c)) (c ∷ clauses-of x cs) (clauses-of x cs)
 
 -- variable i becomes k + i
 abbrev pub numbered-from : ℕ → Substitution

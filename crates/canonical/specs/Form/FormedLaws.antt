@@ -1,9 +1,8 @@
 -- The definitions that well-formed clauses make are well formed, and only the head's variables and the locals occur in them.
-use mathlib.Core.Path.{_≡_, refl, sym, ap, _∙_}
-use mathlib.Core.Bool.{Bool, true, _&&_}
+use mathlib.Core.Path.{_≡_, refl}
+use mathlib.Core.Bool.{Bool, true}
 use mathlib.Core.List.{List, [], _∷_, _++_}
-use mathlib.Core.Option.{none, some}
-use Prim.Native.Nat.{ℕ, zero, suc, _+_, _≤_, _<_}
+use Prim.Native.Nat.{ℕ, suc, _+_, _≤_, _<_}
 use native.Mathlib.Omega.{arith}
 use lib.Dec.{ltb, leb}
 use lib.ListN.{length}
@@ -12,20 +11,19 @@ use Rattle.records.specs.Format.Syntax.{Term, Terms, Goal, Definition, Clause, 
 use Rattle.records.specs.Format.Syntax.Term.{var, app}
 use Rattle.records.specs.Format.Syntax.Terms.{nil, cons}
 use Rattle.records.specs.Format.Syntax.Goal.{truth, failure, equal, conj, disj, atom}
-use Rattle.records.specs.Format.Syntax.Definition.{definition}
 use Rattle.records.specs.Format.Syntax.Clause.{clause}
 use Rattle.records.specs.Format.Formed.{TermFormed, TermsFormed, GoalFormed, All, Counted, DefinitionFormed, ClauseFormed}
-use Rattle.records.specs.Gate.RecordRules.{term-variables, terms-variables, goal-variables, every, member, numbers, exactly, keys, rising, definition-rules, program-rules, clause-rules, clauses-rules}
+use Rattle.records.specs.Gate.RecordRules.{term-variables, terms-variables, goal-variables, every, member, numbers, exactly, definition-rules, program-rules, clause-rules, clauses-rules}
 use Rattle.records.specs.Gate.Bools.{and-both, every-append}
 use Rattle.terms.specs.Theory.Substitution.{substitute, substitute-all}
 use Rattle.terms.specs.Theory.FormedLaws.{substitute-formed}
 use Rattle.terms.specs.Theory.VariablesLaws.{occurs-listed}
-use Rattle.terms.specs.Theory.TestLaws.{every-all, all-listed}
+use Rattle.terms.specs.Theory.TestLaws.{all-listed}
 use Rattle.terms.specs.Body.Body.{substitute-goal}
 use Rattle.terms.specs.Body.BodyLaws.{substitute-goal-formed}
-use Rattle.canonical.specs.Form.Canonical.{Predicate, predicate, predicate-of, predicates, clauses-of, numbered-from, branch-from, branch, variable-count, locals-of, branches, defined-by, if-any, definitions, canonical}
+use Rattle.canonical.specs.Form.Canonical.{Predicate, predicate, predicate-of, predicates, clauses-of, numbered-from, branch-from, locals-of, branches, defined-by, if-any, definitions, canonical}
 use Rattle.canonical.specs.Writing.Service.{locals-fit}
-use Rattle.canonical.specs.Form.PredicateLaws.{Small, all-predicates, predicates-length, all-clauses-of}
+use Rattle.canonical.specs.Form.PredicateLaws.{ArityFits, all-predicates, predicates-length, all-clauses-of}
 use Rattle.canonical.specs.Form.LookupLaws.{canonical-rises}
 
 -- each of a list of variables is below m
@@ -62,11 +60,11 @@ module _ (k v m : ℕ) (room : k + v ≤ m) where
   numbered-goal-below (atom p ts) h = numbered-terms-below ts h
 
 -- a well-formed goal with variables below m only
-abbrev pub Within : ℕ → Goal → Type 0
-Within m g = GoalFormed g × (below m (goal-variables g) ≡ true)
+abbrev pub GoalBelow : ℕ → Goal → Type 0
+GoalBelow m g = GoalFormed g × (below m (goal-variables g) ≡ true)
 
 -- the parts of a clause: well formed, with variables below v
-pub record Parts (v : ℕ) (ts : Terms) (g : Goal) : Type 0 where
+pub record ClauseParts (v : ℕ) (ts : Terms) (g : Goal) : Type 0 where
   pub terms : TermsFormed ts
   pub goal : GoalFormed g
   pub terms-below : below v (terms-variables ts) ≡ true
@@ -80,14 +78,14 @@ module _ (k v m : ℕ) (room : k + v ≤ m) (small : m ≤ 65536) where
       (omega (arith, ltb-true x v (w .0)), below-formed l (w .1))
 
   -- a branch whose head variables are numbered from x on
-  branch-within : (x : ℕ) (ts : Terms) (g : Goal) → x + arity ts ≤ m → Parts v ts g → Within m (branch-from x (numbered-from k) ts g)
-  branch-within x nil g n c = (
+  branch-below : (x : ℕ) (ts : Terms) (g : Goal) → x + arity ts ≤ m → ClauseParts v ts g → GoalBelow m (branch-from x (numbered-from k) ts g)
+  branch-below x nil g n c = (
     substitute-goal-formed (numbered-from k) g (all-listed (λ i. k + i < 65536) (goal-variables g) (below-formed (goal-variables g) (c .goal-below))) (c .goal),
     numbered-goal-below k v m room g (c .goal-below),
   )
-  branch-within x (cons t ts) g n c =
+  branch-below x (cons t ts) g n c =
       let w = and-both (below v (term-variables t)) (below v (terms-variables ts)) (rw every-append at (c .terms-below)) in
-      let rest = branch-within (suc x) ts g (omega arith)
+      let rest = branch-below (suc x) ts g (omega arith)
       (record { terms = c .terms .1; goal = c .goal; terms-below = w .1; goal-below = c .goal-below }) in
       let at : TermFormed (substitute (numbered-from k) t) =
       substitute-formed (numbered-from k) t
@@ -97,10 +95,10 @@ module _ (k v m : ℕ) (room : k + v ≤ m) (small : m ≤ 65536) where
       (((omega arith, at), rest .0), rw (lt-ltb x m (omega arith)) under)
 
 -- what question 3 and question 4 say of a clause
-abbrev pub Kept : Clause → Type 0
-Kept c = ClauseFormed c × (clause-rules c ≡ true)
+abbrev pub ClauseKept : Clause → Type 0
+ClauseKept c = ClauseFormed c × (clause-rules c ≡ true)
 
-clause-parts : (p v : ℕ) (ts : Terms) (g : Goal) → Kept (clause p v ts g) → Parts v ts g
+clause-parts : (p v : ℕ) (ts : Terms) (g : Goal) → ClauseKept (clause p v ts g) → ClauseParts v ts g
 unfolding exactly
 clause-parts p v ts g h =
     let w = and-both (below v (terms-variables ts ++ goal-variables g)) (every (λ i. member i (terms-variables ts ++ goal-variables g)) (numbers 0 v)) (h .1) in
@@ -108,41 +106,41 @@ clause-parts p v ts g h =
     record { terms = h .0 .3; goal = h .0 .4; terms-below = y .0; goal-below = y .1 }
 
 -- the branches of clauses of arity n, whose variables are numbered from k on
-branches-within : (p n k m : ℕ) (c : Clause) (cs : List Clause) → n ≤ m → k + locals-of (c ∷ cs) ≤ m → m ≤ 65536
-    → All (λ d. Kept d × (predicate p n ≡ predicate-of d)) (c ∷ cs) → Within m (branches k c cs)
-branches-within p n k m (clause q v ts g) [] low room small h =
+branches-below : (p n k m : ℕ) (c : Clause) (cs : List Clause) → n ≤ m → k + locals-of (c ∷ cs) ≤ m → m ≤ 65536
+    → All (λ d. ClauseKept d × (predicate p n ≡ predicate-of d)) (c ∷ cs) → GoalBelow m (branches k c cs)
+branches-below p n k m (clause q v ts g) [] low room small h =
     let e : n ≡ arity ts = (let z = h .0 .1 in cc) in
-    branch-within k v m (omega arith) small 0 ts g (omega arith) (clause-parts q v ts g (h .0 .0))
-branches-within p n k m (clause q v ts g) (d ∷ cs) low room small h =
+    branch-below k v m (omega arith) small 0 ts g (omega arith) (clause-parts q v ts g (h .0 .0))
+branches-below p n k m (clause q v ts g) (d ∷ cs) low room small h =
     let e : n ≡ arity ts = (let z = h .0 .1 in cc) in
-    let one = branch-within k v m (omega arith) small 0 ts g (omega arith) (clause-parts q v ts g (h .0 .0)) in
-    let rest = branches-within p n (k + v) m d cs low (omega arith) small (h .1) in
+    let one = branch-below k v m (omega arith) small 0 ts g (omega arith) (clause-parts q v ts g (h .0 .0)) in
+    let rest = branches-below p n (k + v) m d cs low (omega arith) small (h .1) in
     ((one .0, rest .0), rw (every-append, one .1, rest .1))
 
 -- a definition that may be written
-abbrev pub Written : Definition → Type 0
-Written d = DefinitionFormed d × (definition-rules d ≡ true)
+abbrev pub DefinitionKept : Definition → Type 0
+DefinitionKept d = DefinitionFormed d × (definition-rules d ≡ true)
 
 -- a predicate whose number fits two bytes and whose arity is at most 16
 abbrev pub PredicateFormed : Predicate → Type 0
 PredicateFormed (predicate p n) = (p < 65536) × (n ≤ 16)
 
-definitions-written : (l : List Predicate) (cs : List Clause) → All PredicateFormed l → All Kept cs → every locals-fit (definitions l cs) ≡ true
-    → All Written (definitions l cs)
-definitions-written [] cs h k f = tt
-definitions-written (predicate p n ∷ l) cs h k f =
-    go (clauses-of (predicate p n) cs) (all-clauses-of Kept (predicate p n) cs k) f (definitions-written l cs (h .1) k)
+definitions-kept : (l : List Predicate) (cs : List Clause) → All PredicateFormed l → All ClauseKept cs → every locals-fit (definitions l cs) ≡ true
+    → All DefinitionKept (definitions l cs)
+definitions-kept [] cs h k f = tt
+definitions-kept (predicate p n ∷ l) cs h k f =
+    go (clauses-of (predicate p n) cs) (all-clauses-of ClauseKept (predicate p n) cs k) f (definitions-kept l cs (h .1) k)
   where
-    go : (gs : List Clause) → All (λ d. Kept d × (predicate p n ≡ predicate-of d)) gs
+    go : (gs : List Clause) → All (λ d. ClauseKept d × (predicate p n ≡ predicate-of d)) gs
         → every locals-fit (if-any (defined-by (predicate p n) gs) (definitions l cs)) ≡ true
-        → (every locals-fit (definitions l cs) ≡ true → All Written (definitions l cs))
-        → All Written (if-any (defined-by (predicate p n) gs) (definitions l cs))
+        → (every locals-fit (definitions l cs) ≡ true → All DefinitionKept (definitions l cs))
+        → All DefinitionKept (if-any (defined-by (predicate p n) gs) (definitions l cs))
     go [] a f i = i f
     go (c ∷ gs) a f i =
         let w = and-both (leb (locals-of (c ∷ gs)) 255) (every locals-fit (definitions l cs)) f in
         let b : locals-of (c ∷ gs) ≤ 255 = leb-true (locals-of (c ∷ gs)) 255 (w .0) in
         let r : n ≤ 16 = h .0 .1 in
-        let g = branches-within p n n (n + locals-of (c ∷ gs)) c gs (omega arith) (omega arith) (omega arith) a in
+        let g = branches-below p n n (n + locals-of (c ∷ gs)) c gs (omega arith) (omega arith) (omega arith) a in
         (((h .0 .0, h .0 .1, omega arith, g .0), g .1), i (w .1))
 
 definitions-length : (l : List Predicate) (cs : List Clause) → length (definitions l cs) ≤ length l
@@ -155,7 +153,7 @@ definitions-length (predicate p n ∷ l) cs = go (clauses-of (predicate p n) cs)
     go (c ∷ gs) i = omega arith
 
 -- clauses as their parts
-all-kept : (cs : List Clause) → All ClauseFormed cs → every clause-rules cs ≡ true → All Kept cs
+all-kept : (cs : List Clause) → All ClauseFormed cs → every clause-rules cs ≡ true → All ClauseKept cs
 all-kept [] h k = tt
 all-kept (c ∷ cs) h k = let w = and-both (clause-rules c) (every clause-rules cs) k in ((h .0, w .0), all-kept cs (h .1) (w .1))
 
@@ -163,34 +161,34 @@ all-predicates-formed : (cs : List Clause) → All ClauseFormed cs → All (λ c
 all-predicates-formed [] h = tt
 all-predicates-formed (clause p v ts g ∷ cs) h = ((h .0 .0, h .0 .1), all-predicates-formed cs (h .1))
 
-pub all-small : (cs : List Clause) → All ClauseFormed cs → All (λ c. Small (predicate-of c)) cs
-all-small [] h = tt
-all-small (clause p v ts g ∷ cs) h = let n = h .0 .1 in (omega arith, all-small cs (h .1))
+pub arities-fit : (cs : List Clause) → All ClauseFormed cs → All (λ c. ArityFits (predicate-of c)) cs
+arities-fit [] h = tt
+arities-fit (clause p v ts g ∷ cs) h = let n = h .0 .1 in (omega arith, arities-fit cs (h .1))
 
 -- definitions by what each has
-written-formed : (ds : List Definition) → All Written ds → All DefinitionFormed ds
-written-formed [] h = tt
-written-formed (d ∷ ds) h = (h .0 .0, written-formed ds (h .1))
+kept-formed : (ds : List Definition) → All DefinitionKept ds → All DefinitionFormed ds
+kept-formed [] h = tt
+kept-formed (d ∷ ds) h = (h .0 .0, kept-formed ds (h .1))
 
-written-rules : (ds : List Definition) → All Written ds → every definition-rules ds ≡ true
-written-rules [] h = refl
-written-rules (d ∷ ds) h = rw (h .0 .1) (written-rules ds (h .1))
+kept-rules : (ds : List Definition) → All DefinitionKept ds → every definition-rules ds ≡ true
+kept-rules [] h = refl
+kept-rules (d ∷ ds) h = rw (h .0 .1) (kept-rules ds (h .1))
 
 module _ (cs : List Clause) (formed : Counted ClauseFormed cs) (kept : clauses-rules cs ≡ true) (fit : every locals-fit (canonical cs) ≡ true) where
-  canonical-written : All Written (canonical cs)
+  canonical-kept : All DefinitionKept (canonical cs)
   unfolding canonical clauses-rules
-  canonical-written =
-      definitions-written (predicates cs) cs (all-predicates PredicateFormed cs (all-predicates-formed cs (formed .1))) (all-kept cs (formed .1) kept) fit
+  canonical-kept =
+      definitions-kept (predicates cs) cs (all-predicates PredicateFormed cs (all-predicates-formed cs (formed .1))) (all-kept cs (formed .1) kept) fit
 
   -- the canonical form is a well-formed program
   pub canonical-formed : Counted DefinitionFormed (canonical cs)
   unfolding canonical
   canonical-formed = (
     omega (arith, definitions-length (predicates cs) cs, predicates-length cs, formed .0),
-    written-formed (canonical cs) canonical-written,
+    kept-formed (canonical cs) canonical-kept,
   )
 
   -- that keeps the rules of question 4
   pub canonical-rules : program-rules (canonical cs) ≡ true
   unfolding program-rules
-  canonical-rules = rw (canonical-rises cs (all-small cs (formed .1)), written-rules (canonical cs) canonical-written)
+  canonical-rules = rw (canonical-rises cs (arities-fit cs (formed .1)), kept-rules (canonical cs) canonical-kept)

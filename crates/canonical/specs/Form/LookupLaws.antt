@@ -1,59 +1,47 @@
 -- What the calculus finds in a canonical form: the definition of a predicate is made from that predicate's clauses alone, in their order; without
 -- clauses there is none, and with clauses exactly one. So clauses of other predicates, before or after, change nothing.
 use mathlib.Core.Path.{_≡_, refl, sym, ap, _∙_}
-use mathlib.Core.Bool.{Bool, true, false, not, _&&_, _||_, cond}
+use mathlib.Core.Bool.{Bool, true, false, not, cond}
 use mathlib.Core.List.{List, [], _∷_, _++_, append-nil}
-use mathlib.Core.Option.{Option, none, some}
-use Prim.Native.Nat.{ℕ, zero, suc, _+_, _*_, _≤_, _<_}
+use mathlib.Core.Option.{Option, some}
+use Prim.Native.Nat.{ℕ, suc, _+_, _*_, _≤_, _<_}
 use native.Mathlib.Omega.{arith}
 use lib.Dec.{eqb, ltb}
 use borrow.Author.Tests.{eqb-true, ltb-false, le-ltb, not-true}
 use Rattle.records.specs.Format.Syntax.{Definition, Clause}
 use Rattle.records.specs.Format.Syntax.Definition.{definition}
 use Rattle.records.specs.Format.Formed.{All}
-use Rattle.records.specs.Gate.RecordRules.{rising-from, rising, key, keys}
+use Rattle.records.specs.Gate.RecordRules.{rising-from, rising, keys}
 use Rattle.records.specs.Gate.Bools.{and-both}
 use Rattle.terms.specs.Body.Body.{defines, definition-of}
-use Rattle.canonical.specs.Form.Canonical.{Predicate, predicate, predicate-of, same, predicates, clauses-of, defined-by, if-any, definitions, canonical}
-use Rattle.canonical.specs.Form.PredicateLaws.{rank, Small, same-equal, Rising, predicates-rise, listed, unlisted-none, clauses-of-append}
+use Rattle.canonical.specs.Form.Canonical.{Predicate, predicate, predicate-of, same-predicate, predicates, clauses-of, defined-by, if-any, definitions, canonical}
+use Rattle.canonical.specs.Form.PredicateLaws.{ArityFits, same-equal, Rising, predicates-rise, listed, unlisted-none, clauses-of-append}
 
 -- the definition that the clauses of p of arity n make
-abbrev pub definition-by : List Clause → ℕ → ℕ → Option Definition
-definition-by cs p n = defined-by (predicate p n) (clauses-of (predicate p n) cs)
+abbrev pub own-definition : List Clause → ℕ → ℕ → Option Definition
+own-definition cs p n = defined-by (predicate p n) (clauses-of (predicate p n) cs)
 
--- one of several definitions is found where its predicate stands
-found-where-listed : (l : List Predicate) (cs : List Clause) (p n : ℕ)
-    → definition-of (definitions l cs) p n ≡ cond (listed (predicate p n) l) (definition-by cs p n) none
+-- it is found among the definitions of predicates that list p of arity n, or of any if it has no clauses
+own-found : (l : List Predicate) (cs : List Clause) (p n : ℕ) → (listed (predicate p n) l ≡ false → clauses-of (predicate p n) cs ≡ [])
+    → definition-of (definitions l cs) p n ≡ own-definition cs p n
 unfolding definition-of
-found-where-listed [] cs p n = refl
-found-where-listed (predicate q m ∷ l) cs p n =
-    go (same (predicate p n) (predicate q m)) refl (clauses-of (predicate q m) cs) refl (found-where-listed l cs p n)
+own-found [] cs p n h = sym (ap (defined-by (predicate p n)) (h refl))
+own-found (predicate q m ∷ l) cs p n h =
+    go (same-predicate (predicate p n) (predicate q m)) refl (clauses-of (predicate q m) cs) refl (own-found l cs p n)
   where
-    either-none : (b : Bool) (o : Option Definition) → o ≡ none → cond b o none ≡ o
-    either-none true o e = refl
-    either-none false o e = sym e
-
-    go : (b : Bool) → same (predicate p n) (predicate q m) ≡ b → (gs : List Clause) → clauses-of (predicate q m) cs ≡ gs
-        → definition-of (definitions l cs) p n ≡ cond (listed (predicate p n) l) (definition-by cs p n) none
-        → definition-of (if-any (defined-by (predicate q m) gs) (definitions l cs)) p n
-        ≡ cond (b || listed (predicate p n) l) (definition-by cs p n) none
-    go true e [] f i =
-        let w : predicate p n ≡ predicate q m = same-equal (predicate p n) (predicate q m) e in
-        i ∙ either-none (listed (predicate p n) l) (definition-by cs p n) (ap (λ x. defined-by x (clauses-of x cs)) w ∙ ap (defined-by (predicate q m)) f)
-    go true e (c ∷ gs) f i =
-        let w : predicate p n ≡ predicate q m = same-equal (predicate p n) (predicate q m) e in
-        rw e (sym (ap (λ x. defined-by x (clauses-of x cs)) w ∙ ap (defined-by (predicate q m)) f))
-    go false e [] f i = i
-    go false e (c ∷ gs) f i = rw e i
+    go : (b : Bool) → same-predicate (predicate p n) (predicate q m) ≡ b → (gs : List Clause) → clauses-of (predicate q m) cs ≡ gs
+        → ((listed (predicate p n) l ≡ false → clauses-of (predicate p n) cs ≡ []) → definition-of (definitions l cs) p n ≡ own-definition cs p n)
+        → definition-of (if-any (defined-by (predicate q m) gs) (definitions l cs)) p n ≡ own-definition cs p n
+    go true e [] f later = later (λ z. ap (λ x. clauses-of x cs) (same-equal (predicate p n) (predicate q m) e) ∙ f)
+    go true e (c ∷ gs) f later =
+        rw e (sym (ap (λ x. defined-by x (clauses-of x cs)) (same-equal (predicate p n) (predicate q m) e) ∙ ap (defined-by (predicate q m)) f))
+    go false e [] f later = later (λ z. h (rw e z))
+    go false e (c ∷ gs) f later = rw e (later (λ z. h (rw e z)))
 
 -- the definition found in a canonical form is the one that the predicate's own clauses make, and there is none without clauses
-pub canonical-of : (cs : List Clause) (p n : ℕ) → definition-of (canonical cs) p n ≡ definition-by cs p n
+pub canonical-of : (cs : List Clause) (p n : ℕ) → definition-of (canonical cs) p n ≡ own-definition cs p n
 unfolding canonical
-canonical-of cs p n = found-where-listed (predicates cs) cs p n ∙ go (listed (predicate p n) (predicates cs)) refl
-  where
-    go : (b : Bool) → listed (predicate p n) (predicates cs) ≡ b → cond b (definition-by cs p n) none ≡ definition-by cs p n
-    go true e = refl
-    go false e = sym (ap (defined-by (predicate p n)) (unlisted-none (predicate p n) cs e))
+canonical-of cs p n = own-found (predicates cs) cs p n (unlisted-none (predicate p n) cs)
 
 -- it depends on the predicate's own clauses only, in their order
 pub canonical-own : (cs ds : List Clause) (p n : ℕ) → clauses-of (predicate p n) cs ≡ clauses-of (predicate p n) ds
@@ -86,7 +74,7 @@ definitions-rise from low (predicate p n ∷ l) cs b r =
     go [] i j = i
     go (c ∷ gs) i j = rw (le-ltb (p * 256 + n) low (omega (arith, r .0))) j
 
-pub canonical-rises : (cs : List Clause) → All (λ c. Small (predicate-of c)) cs → rising (keys (canonical cs)) ≡ true
+pub canonical-rises : (cs : List Clause) → All (λ c. ArityFits (predicate-of c)) cs → rising (keys (canonical cs)) ≡ true
 unfolding canonical
 canonical-rises cs h = definitions-rise 0 0 (predicates cs) cs (omega arith) (predicates-rise cs h)
 
@@ -127,7 +115,7 @@ at-most-one low (definition q m k g ∷ ds) p n h =
     go false e j i = i
 
 -- a predicate without clauses has no definition, and one with clauses exactly one
-pub canonical-one : (cs : List Clause) → All (λ c. Small (predicate-of c)) cs → (p n : ℕ)
-    → definitions-of (canonical cs) p n ≡ if-any (definition-by cs p n) []
+pub canonical-one : (cs : List Clause) → All (λ c. ArityFits (predicate-of c)) cs → (p n : ℕ)
+    → definitions-of (canonical cs) p n ≡ if-any (own-definition cs p n) []
 canonical-one cs h p n =
     at-most-one 0 (canonical cs) p n (canonical-rises cs h) ∙ ap (λ (o : Option Definition). if-any o []) (canonical-of cs p n)

@@ -1,26 +1,42 @@
 -- Laws of a clause list's predicates: they rise, each stands there once, and exactly those that have clauses.
 use mathlib.Core.Path.{_≡_, refl, sym, ap, _∙_}
+use mathlib.Core.Logic.{inl, inr}
 use mathlib.Core.Bool.{Bool, true, false, _&&_, _||_, cond}
 use mathlib.Core.List.{List, [], _∷_, _++_}
-use Prim.Native.Nat.{ℕ, zero, suc, _+_, _*_, _≤_, _<_}
+use Prim.Native.Nat.{ℕ, suc, _+_, _*_, _≤_, _<_}
 use native.Mathlib.Omega.{arith}
 use lib.Dec.{eqb, ltb}
 use lib.ListN.{length}
-use borrow.Author.Tests.{eqb-true, eqb-false, ltb-true, ltb-false}
+use borrow.Author.Tests.{eq-eqb, ne-eqb, eqb-true, eqb-false, lt-ltb, le-ltb, ltb-true, ltb-false}
 use Rattle.records.specs.Format.Syntax.{Clause}
-use Rattle.records.specs.Format.Syntax.Clause.{clause}
 use Rattle.records.specs.Format.Formed.{All}
 use Rattle.records.specs.Gate.Bools.{and-both}
-use Rattle.canonical.specs.Form.Canonical.{Predicate, predicate, predicate-of, same, before, placed, predicates, clauses-of}
+use Rattle.terms.specs.Theory.Variables.{Listed}
+use Rattle.canonical.specs.Form.Canonical.{Predicate, predicate, predicate-of, same-predicate, predicate-before, placed, predicates, clauses-of}
 
 -- the number by which a program's definitions rise
 abbrev pub rank : Predicate → ℕ
 rank (predicate p n) = p * 256 + n
 
-abbrev pub Small : Predicate → Type 0
-Small (predicate p n) = n < 256
+abbrev pub ranks : List Predicate → List ℕ
+ranks [] = []
+ranks (x ∷ l) = rank x ∷ ranks l
 
-pub same-equal : (x y : Predicate) → same x y ≡ true → x ≡ y
+-- an arity that fits a byte
+abbrev pub ArityFits : Predicate → Type 0
+ArityFits (predicate p n) = n < 256
+
+-- strictly rising ranks, the first of them at least `low`
+abbrev pub Rising : ℕ → List Predicate → Type 0
+Rising low [] = Unit {0}
+Rising low (x ∷ l) = (low ≤ rank x) × Rising (suc (rank x)) l
+
+-- x stands in the list
+abbrev pub listed : Predicate → List Predicate → Bool
+listed x [] = false
+listed x (y ∷ l) = same-predicate x y || listed x l
+
+pub same-equal : (x y : Predicate) → same-predicate x y ≡ true → x ≡ y
 same-equal (predicate p n) (predicate q m) h =
     let w = and-both (eqb p q) (eqb n m) h in
     let i : p ≡ q = eqb-true p q (w .0) in
@@ -28,35 +44,28 @@ same-equal (predicate p n) (predicate q m) h =
     cc
 
 -- the order of predicates is the order of their ranks
-pub before-rank : (x y : Predicate) → Small x → before x y ≡ true → rank x < rank y
-before-rank (predicate p n) (predicate q m) s h = go (ltb p q) refl h
+before-rank : (x y : Predicate) → ArityFits x → ArityFits y → ltb (rank x) (rank y) ≡ predicate-before x y
+before-rank (predicate p n) (predicate q m) s z = go (ltb p q) (eqb p q) (ltb n m) refl refl refl
   where
-    go : (b : Bool) → ltb p q ≡ b → (b || (eqb p q && ltb n m)) ≡ true → p * 256 + n < q * 256 + m
-    go true e k = omega (arith, ltb-true p q e)
-    go false e k =
-        let w = and-both (eqb p q) (ltb n m) k in
-        omega (arith, eqb-true p q (w .0), ltb-true n m (w .1))
+    go : (a b c : Bool) → ltb p q ≡ a → eqb p q ≡ b → ltb n m ≡ c → ltb (p * 256 + n) (q * 256 + m) ≡ (a || (b && c))
+    go true b c ea eb ec = lt-ltb (p * 256 + n) (q * 256 + m) (omega (arith, ltb-true p q ea))
+    go false true true ea eb ec = lt-ltb (p * 256 + n) (q * 256 + m) (omega (arith, eqb-true p q eb, ltb-true n m ec))
+    go false true false ea eb ec = le-ltb (p * 256 + n) (q * 256 + m) (omega (arith, eqb-true p q eb, ltb-false n m ec))
+    go false false c ea eb ec = le-ltb (p * 256 + n) (q * 256 + m) (omega (arith, ltb-false p q ea, eqb-false p q eb))
 
-pub after-rank : (x y : Predicate) → Small y → before x y ≡ false → same x y ≡ false → rank y < rank x
-after-rank (predicate p n) (predicate q m) s h k = go (ltb p q) (eqb p q) (ltb n m) (eqb n m) refl refl refl refl h k
+-- equal ranks are one predicate
+pub rank-same : (x y : Predicate) → ArityFits x → ArityFits y → eqb (rank y) (rank x) ≡ same-predicate x y
+rank-same (predicate p n) (predicate q m) s z = go (eqb p q) (eqb n m) refl refl
   where
-    go : (a b c d : Bool) → ltb p q ≡ a → eqb p q ≡ b → ltb n m ≡ c → eqb n m ≡ d → (a || (b && c)) ≡ false → (b && d) ≡ false
-        → q * 256 + m < p * 256 + n
-    go true b c d ea eb ec ed h k = absurd (let z : _≡_ {A = ℕ} 0 1 = cc in omega arith)
-    go false false c d ea eb ec ed h k = omega (arith, ltb-false p q ea, eqb-false p q eb)
-    go false true true d ea eb ec ed h k = absurd (let z : _≡_ {A = ℕ} 0 1 = cc in omega arith)
-    go false true false true ea eb ec ed h k = absurd (let z : _≡_ {A = ℕ} 0 1 = cc in omega arith)
-    go false true false false ea eb ec ed h k = omega (arith, eqb-true p q eb, ltb-false n m ec, eqb-false n m ed)
-
--- strictly rising ranks, the first of them at least `low`
-abbrev pub Rising : ℕ → List Predicate → Type 0
-Rising low [] = Unit {0}
-Rising low (x ∷ l) = (low ≤ rank x) × Rising (suc (rank x)) l
+    go : (a b : Bool) → eqb p q ≡ a → eqb n m ≡ b → eqb (q * 256 + m) (p * 256 + n) ≡ (a && b)
+    go true true ea eb = eq-eqb (q * 256 + m) (p * 256 + n) (omega (arith, eqb-true p q ea, eqb-true n m eb))
+    go true false ea eb = ne-eqb (q * 256 + m) (p * 256 + n) (λ i. omega (arith, eqb-true p q ea, eqb-false n m eb))
+    go false b ea eb = ne-eqb (q * 256 + m) (p * 256 + n) (λ i. omega (arith, eqb-false p q ea))
 
 -- a property of x and of each of a list holds of each of the list with x in it
 pub all-placed : (Φ : Predicate → Type 0) (x : Predicate) (l : List Predicate) → Φ x → All Φ l → All Φ (placed x l)
 all-placed Φ x [] h k = (h, tt)
-all-placed Φ x (y ∷ l) h k = go (before x y) (same x y) (all-placed Φ x l h (k .1))
+all-placed Φ x (y ∷ l) h k = go (predicate-before x y) (same-predicate x y) (all-placed Φ x l h (k .1))
   where
     go : (a b : Bool) → All Φ (placed x l) → All Φ (cond a (x ∷ (y ∷ l)) (cond b (y ∷ l) (y ∷ placed x l)))
     go true b i = (h, k)
@@ -67,27 +76,59 @@ pub all-predicates : (Φ : Predicate → Type 0) (cs : List Clause) → All (λ 
 all-predicates Φ [] h = tt
 all-predicates Φ (c ∷ cs) h = all-placed Φ (predicate-of c) (predicates cs) (h .0) (all-predicates Φ cs (h .1))
 
-placed-rises : (low : ℕ) (x : Predicate) (l : List Predicate) → low ≤ rank x → Small x → All Small l → Rising low l → Rising low (placed x l)
+placed-rises : (low : ℕ) (x : Predicate) (l : List Predicate) → low ≤ rank x → ArityFits x → All ArityFits l → Rising low l → Rising low (placed x l)
 placed-rises low x [] m s k r = (m, tt)
 placed-rises low x (y ∷ l) m s k r =
-    go (before x y) (same x y) refl refl (λ i. placed-rises (suc (rank y)) x l i s (k .1) (r .1))
+    go (predicate-before x y) (same-predicate x y) refl refl (λ i. placed-rises (suc (rank y)) x l i s (k .1) (r .1))
   where
-    go : (a b : Bool) → before x y ≡ a → same x y ≡ b → (suc (rank y) ≤ rank x → Rising (suc (rank y)) (placed x l))
+    go : (a b : Bool) → predicate-before x y ≡ a → same-predicate x y ≡ b → (suc (rank y) ≤ rank x → Rising (suc (rank y)) (placed x l))
         → Rising low (cond a (x ∷ (y ∷ l)) (cond b (y ∷ l) (y ∷ placed x l)))
-    go true b ea eb ih = (m, (before-rank x y s ea, r .1))
+    go true b ea eb ih = (m, (ltb-true (rank x) (rank y) (before-rank x y s (k .0) ∙ ea), r .1))
     go false true ea eb ih = r
-    go false false ea eb ih = (r .0, ih (after-rank x y (k .0) ea eb))
+    go false false ea eb ih =
+        (r .0, ih (omega (arith, ltb-false (rank x) (rank y) (before-rank x y s (k .0) ∙ ea), eqb-false (rank y) (rank x) (rank-same x y s (k .0) ∙ eb))))
 
 -- the predicates of clauses rise
-pub predicates-rise : (cs : List Clause) → All (λ c. Small (predicate-of c)) cs → Rising 0 (predicates cs)
+pub predicates-rise : (cs : List Clause) → All (λ c. ArityFits (predicate-of c)) cs → Rising 0 (predicates cs)
 predicates-rise [] h = tt
 predicates-rise (c ∷ cs) h =
-    placed-rises 0 (predicate-of c) (predicates cs) (omega arith) (h .0) (all-predicates Small cs (h .1)) (predicates-rise cs (h .1))
+    placed-rises 0 (predicate-of c) (predicates cs) (omega arith) (h .0) (all-predicates ArityFits cs (h .1)) (predicates-rise cs (h .1))
+
+-- the rank of each clause's predicate is among theirs
+placed-there : (x : Predicate) (l : List Predicate) → Listed (rank x) (ranks (placed x l))
+placed-there x [] = inl refl
+placed-there x (y ∷ l) = go (predicate-before x y) (same-predicate x y) refl (placed-there x l)
+  where
+    go : (a b : Bool) → same-predicate x y ≡ b → Listed (rank x) (ranks (placed x l))
+        → Listed (rank x) (ranks (cond a (x ∷ (y ∷ l)) (cond b (y ∷ l) (y ∷ placed x l))))
+    go true b e i = inl refl
+    go false true e i = inl (ap rank (same-equal x y e))
+    go false false e i = inr i
+
+placed-still : (k : ℕ) (x : Predicate) (l : List Predicate) → Listed k (ranks l) → Listed k (ranks (placed x l))
+placed-still k x [] m = absurd m
+placed-still k x (y ∷ l) m = go (predicate-before x y) (same-predicate x y) m (placed-still k x l)
+  where
+    go : (a b : Bool) → Listed k (ranks (y ∷ l)) → (Listed k (ranks l) → Listed k (ranks (placed x l)))
+        → Listed k (ranks (cond a (x ∷ (y ∷ l)) (cond b (y ∷ l) (y ∷ placed x l))))
+    go true b i later = inr i
+    go false true i later = i
+    go false false (inl i) later = inl i
+    go false false (inr i) later = inr (later i)
+
+pub all-ranked : (cs : List Clause) → All (λ c. Listed (rank (predicate-of c)) (ranks (predicates cs))) cs
+all-ranked [] = tt
+all-ranked (c ∷ cs) = (placed-there (predicate-of c) (predicates cs), still cs (all-ranked cs))
+  where
+    still : (ds : List Clause) → All (λ d. Listed (rank (predicate-of d)) (ranks (predicates cs))) ds
+        → All (λ d. Listed (rank (predicate-of d)) (ranks (placed (predicate-of c) (predicates cs)))) ds
+    still [] h = tt
+    still (d ∷ ds) h = (placed-still (rank (predicate-of d)) (predicate-of c) (predicates cs) (h .0), still ds (h .1))
 
 -- there are no more of them than clauses
 placed-length : (x : Predicate) (l : List Predicate) → length (placed x l) ≤ suc (length l)
 placed-length x [] = omega arith
-placed-length x (y ∷ l) = go (before x y) (same x y) (placed-length x l)
+placed-length x (y ∷ l) = go (predicate-before x y) (same-predicate x y) (placed-length x l)
   where
     go : (a b : Bool) → length (placed x l) ≤ suc (length l)
         → length (cond a (x ∷ (y ∷ l)) (cond b (y ∷ l) (y ∷ placed x l))) ≤ suc (suc (length l))
@@ -99,11 +140,6 @@ pub predicates-length : (cs : List Clause) → length (predicates cs) ≤ length
 predicates-length [] = omega arith
 predicates-length (c ∷ cs) = omega (arith, placed-length (predicate-of c) (predicates cs), predicates-length cs)
 
--- x stands in the list
-abbrev pub listed : Predicate → List Predicate → Bool
-listed x [] = false
-listed x (y ∷ l) = same x y || listed x l
-
 or-twice : (a b : Bool) → (a || b) ≡ (a || (a || b))
 or-twice true b = refl
 or-twice false b = refl
@@ -113,30 +149,30 @@ or-swap true true c = refl
 or-swap true false c = refl
 or-swap false b c = refl
 
-listed-placed : (x y : Predicate) (l : List Predicate) → listed x (placed y l) ≡ (same x y || listed x l)
+listed-placed : (x y : Predicate) (l : List Predicate) → listed x (placed y l) ≡ (same-predicate x y || listed x l)
 listed-placed x y [] = refl
-listed-placed x y (z ∷ l) = go (before y z) (same y z) refl (listed-placed x y l)
+listed-placed x y (z ∷ l) = go (predicate-before y z) (same-predicate y z) refl (listed-placed x y l)
   where
-    go : (a b : Bool) → same y z ≡ b → listed x (placed y l) ≡ (same x y || listed x l)
-        → listed x (cond a (y ∷ (z ∷ l)) (cond b (z ∷ l) (z ∷ placed y l))) ≡ (same x y || (same x z || listed x l))
+    go : (a b : Bool) → same-predicate y z ≡ b → listed x (placed y l) ≡ (same-predicate x y || listed x l)
+        → listed x (cond a (y ∷ (z ∷ l)) (cond b (z ∷ l) (z ∷ placed y l))) ≡ (same-predicate x y || (same-predicate x z || listed x l))
     go true b e i = refl
-    go false true e i = let w : y ≡ z = same-equal y z e in rw w (or-twice (same x z) (listed x l))
-    go false false e i = ap (λ (b : Bool). same x z || b) i ∙ or-swap (same x z) (same x y) (listed x l)
+    go false true e i = let w : y ≡ z = same-equal y z e in rw w (or-twice (same-predicate x z) (listed x l))
+    go false false e i = ap (λ (b : Bool). same-predicate x z || b) i ∙ or-swap (same-predicate x z) (same-predicate x y) (listed x l)
 
 -- a predicate that does not stand there has no clauses
 pub unlisted-none : (x : Predicate) (cs : List Clause) → listed x (predicates cs) ≡ false → clauses-of x cs ≡ []
 unlisted-none x [] h = refl
-unlisted-none x (c ∷ cs) h = go (same x (predicate-of c)) (sym (listed-placed x (predicate-of c) (predicates cs)) ∙ h) (unlisted-none x cs)
+unlisted-none x (c ∷ cs) h = go (same-predicate x (predicate-of c)) (sym (listed-placed x (predicate-of c) (predicates cs)) ∙ h) (unlisted-none x cs)
   where
     go : (b : Bool) → (b || listed x (predicates cs)) ≡ false → (listed x (predicates cs) ≡ false → clauses-of x cs ≡ [])
         → cond b (c ∷ clauses-of x cs) (clauses-of x cs) ≡ []
-    go true e i = absurd (let z : _≡_ {A = ℕ} 0 1 = cc in omega arith)
+    go true e i = cc
     go false e i = i e
 
 -- the clauses of a predicate in two lists, one after the other
 pub clauses-of-append : (x : Predicate) (cs ds : List Clause) → clauses-of x (cs ++ ds) ≡ clauses-of x cs ++ clauses-of x ds
 clauses-of-append x [] ds = refl
-clauses-of-append x (c ∷ cs) ds = go (same x (predicate-of c)) (clauses-of-append x cs ds)
+clauses-of-append x (c ∷ cs) ds = go (same-predicate x (predicate-of c)) (clauses-of-append x cs ds)
   where
     go : (b : Bool) → clauses-of x (cs ++ ds) ≡ clauses-of x cs ++ clauses-of x ds
         → cond b (c ∷ clauses-of x (cs ++ ds)) (clauses-of x (cs ++ ds)) ≡ cond b (c ∷ clauses-of x cs) (clauses-of x cs) ++ clauses-of x ds
@@ -147,9 +183,9 @@ clauses-of-append x (c ∷ cs) ds = go (same x (predicate-of c)) (clauses-of-app
 pub all-clauses-of : (Φ : Clause → Type 0) (x : Predicate) (cs : List Clause) → All Φ cs
     → All (λ c. Φ c × (x ≡ predicate-of c)) (clauses-of x cs)
 all-clauses-of Φ x [] h = tt
-all-clauses-of Φ x (c ∷ cs) h = go (same x (predicate-of c)) refl (all-clauses-of Φ x cs (h .1))
+all-clauses-of Φ x (c ∷ cs) h = go (same-predicate x (predicate-of c)) refl (all-clauses-of Φ x cs (h .1))
   where
-    go : (b : Bool) → same x (predicate-of c) ≡ b → All (λ d. Φ d × (x ≡ predicate-of d)) (clauses-of x cs)
+    go : (b : Bool) → same-predicate x (predicate-of c) ≡ b → All (λ d. Φ d × (x ≡ predicate-of d)) (clauses-of x cs)
         → All (λ d. Φ d × (x ≡ predicate-of d)) (cond b (c ∷ clauses-of x cs) (clauses-of x cs))
     go true e i = ((h .0, same-equal x (predicate-of c) e), i)
     go false e i = i

@@ -11,18 +11,19 @@ use Rattle.records.specs.Format.Syntax.Clause.{clause}
 use Rattle.records.specs.Format.Encode.{word, term-bytes, terms-bytes, goal-bytes, clause-bytes}
 use Rattle.records.specs.Format.Formed.{TermsFormed, GoalFormed, ClauseFormed}
 use Rattle.records.specs.Writing.Patched.{Put}
-use Rattle.records.specs.Ends.Walk.{Walk, walk, term-nodes, goal-nodes}
-use Rattle.records.specs.Ends.Walk.Walk.{on}
-use Rattle.records.specs.Ends.Steps.{On, ended}
-use Rattle.records.specs.Ends.Stands.{Stands, stands-first, stands-second, walk-term, walk-goal}
+use Rattle.records.specs.Ends.Traversal.{Traversal, traverse, term-nodes, goal-nodes}
+use Rattle.records.specs.Ends.Traversal.Traversal.{on}
+use Rattle.records.specs.Ends.Steps.{On, end-place}
+use Rattle.records.specs.Ends.Stands.{Stands, stands-first, stands-second, traverse-term, traverse-goal}
 use Rattle.terms.specs.Theory.Substitution.{substitute}
 use Rattle.terms.specs.Body.Body.{substitute-goal}
 use Rattle.terms.specs.Values.NodeBytes.{substituted-bytes, substituted-goal-bytes}
+use Rattle.terms.specs.Body.Numbering.{PutNodes, renamed}
+use Rattle.terms.specs.declared.numbering.Progress.{Progress}
 use Rattle.canonical.specs.Form.Canonical.{numbered-from, branch-from, branch}
-use Rattle.canonical.specs.Sorting.Clauses.{arity-of, clause-at, ClauseAt}
-use Rattle.canonical.specs.Writing.Filling.{Filling, filling-start, filling-more, filling-end, filling-room}
-use Rattle.canonical.specs.Writing.Renaming.{renamed, equation, Passes}
-use Rattle.canonical.specs.declared.branch.Progress.{Progress}
+use Rattle.canonical.specs.Sorting.Entries.{arity-of, clause-at, ClauseAt}
+use Rattle.canonical.specs.Writing.PartlyPut.{PartlyPut, partly-start, partly-more, partly-end, partly-room}
+use Rattle.canonical.specs.Writing.Equation.{equation}
 
 -- the writing at head variable x of k: the terms to come stand at pos, and the goal after them
 pub record Equating (s : List ℕ) (k base : ℕ) (whole before : List ℕ) (first : ℕ) (after : List ℕ) (at pos x : ℕ) : Type 0 where
@@ -33,7 +34,7 @@ pub record Equating (s : List ℕ) (k base : ℕ) (whole before : List ℕ) (fir
   pub goal-formed : GoalFormed goal
   pub end : ℕ
   pub stands : Stands s pos (terms-bytes terms ++ goal-bytes goal) end
-  pub filling : Filling before first whole after at (goal-bytes (branch-from x (numbered-from base) terms goal))
+  pub partly : PartlyPut before first whole after at (goal-bytes (branch-from x (numbered-from base) terms goal))
 
 equating-clause : {s : List ℕ} {place e : ℕ} (c : Clause) → ClauseFormed c → Stands s place (clause-bytes c) e → (base : ℕ) (before : List ℕ) (first : ℕ)
     → Equating s (arity-of c) base (goal-bytes (branch base c)) before first before first (place + 4) 0
@@ -45,19 +46,19 @@ equating-clause {s} {place} {e} (clause p v ts g) f w base before first = record
   goal-formed = f .4;
   end = e;
   stands = stands-second (word p ++ (arity ts ∷ (v ∷ []))) (terms-bytes ts ++ goal-bytes g) w;
-  filling = filling-start;
+  partly = partly-start;
 }
 
 pub equating-start : {s : List ℕ} {place k : ℕ} → ClauseAt s place → k ≡ arity-of (clause-at s place) → (base : ℕ) (before : List ℕ) (first : ℕ)
     → Equating s k base (goal-bytes (branch base (clause-at s place))) before first before first (place + 4) 0
 equating-start {s} {place} w e base before first = rw e (equating-clause (clause-at s place) (w .formed) (w .stands) base before first)
 
--- a walk over one term or one goal gives its bytes under the numbering
-renamed-term : (base : ℕ) (t : Term) (e : ℕ) (w : Walk) → w ≡ on (term-nodes t) e → renamed base w ≡ term-bytes (substitute (numbered-from base) t)
+-- a traversal over one term or one goal gives its bytes under the numbering
+renamed-term : (base : ℕ) (t : Term) (e : ℕ) (w : Traversal) → w ≡ on (term-nodes t) e → renamed base w ≡ term-bytes (substitute (numbered-from base) t)
 unfolding renamed
 renamed-term base t e w q = rw q (substituted-bytes (numbered-from base) t)
 
-renamed-goal : (base : ℕ) (g : Goal) (e : ℕ) (w : Walk) → w ≡ on (goal-nodes g) e → renamed base w ≡ goal-bytes (substitute-goal (numbered-from base) g)
+renamed-goal : (base : ℕ) (g : Goal) (e : ℕ) (w : Traversal) → w ≡ on (goal-nodes g) e → renamed base w ≡ goal-bytes (substitute-goal (numbered-from base) g)
 unfolding renamed
 renamed-goal base g e w q = rw q (substituted-goal-bytes (numbered-from base) g)
 
@@ -75,10 +76,10 @@ module _ {s whole before after : List ℕ} {k base first at pos x : ℕ} (u : Eq
     pub many : suc x + arity others ≡ k
     pub formed : TermsFormed others
     pub past : ℕ
-    pub walks : walk s pos 1 0 ≡ on (term-nodes term) past
+    pub walks : traverse s pos 1 0 ≡ on (term-nodes term) past
     pub stands : Stands s past (terms-bytes others ++ goal-bytes (u .goal)) (u .end)
     pub split : goal-bytes (branch-from x (numbered-from base) (u .terms) (u .goal))
-        ≡ equation x (renamed base (walk s pos 1 0)) ++ goal-bytes (branch-from (suc x) (numbered-from base) others (u .goal))
+        ≡ equation x (renamed base (traverse s pos 1 0)) ++ goal-bytes (branch-from (suc x) (numbered-from base) others (u .goal))
 
   turn : x < k → Turn
   turn h = go (u .terms) refl (u .many) (u .terms-formed) (u .stands)
@@ -88,7 +89,7 @@ module _ {s whole before after : List ℕ} {k base first at pos x : ℕ} (u : Eq
       go (cons t ts) q m f w =
           let v : Stands s pos (term-bytes t ++ (terms-bytes ts ++ goal-bytes (u .goal))) (u .end) =
           rw (append-assoc (term-bytes t) (terms-bytes ts) (goal-bytes (u .goal))) at w in
-          let y = walk-term t (f .0) (stands-first (term-bytes t) (terms-bytes ts ++ goal-bytes (u .goal)) v) in
+          let y = traverse-term t (f .0) (stands-first (term-bytes t) (terms-bytes ts ++ goal-bytes (u .goal)) v) in
           record {
             term = t;
             others = ts;
@@ -99,27 +100,27 @@ module _ {s whole before after : List ℕ} {k base first at pos x : ℕ} (u : Eq
             stands = stands-second (term-bytes t) (terms-bytes ts ++ goal-bytes (u .goal)) v;
             split =
                 ap (λ (l : Terms). goal-bytes (branch-from x (numbered-from base) l (u .goal))) q
-                ∙ branch-split x base t ts (u .goal) (renamed base (walk s pos 1 0)) (renamed-term base t (pos + length (term-bytes t)) (walk s pos 1 0) y);
+                ∙ branch-split x base t ts (u .goal) (renamed base (traverse s pos 1 0)) (renamed-term base t (pos + length (term-bytes t)) (traverse s pos 1 0) y);
           }
 
   module _ (h : x < k) where
-    pub equating-on : On (walk s pos 1 0)
+    pub equating-on : On (traverse s pos 1 0)
     equating-on = rw (turn h .walks) tt
 
-    pub equating-room : first + length whole ≤ length before → at + length (equation x (renamed base (walk s pos 1 0))) ≤ length after
+    pub equating-room : first + length whole ≤ length before → at + length (equation x (renamed base (traverse s pos 1 0))) ≤ length after
     equating-room r =
         omega (
           arith,
-          filling-room (u .filling) r,
+          partly-room (u .partly) r,
           ap length (turn h .split),
-          length-append (equation x (renamed base (walk s pos 1 0))) (goal-bytes (branch-from (suc x) (numbered-from base) (turn h .others) (u .goal))),
+          length-append (equation x (renamed base (traverse s pos 1 0))) (goal-bytes (branch-from (suc x) (numbered-from base) (turn h .others) (u .goal))),
         )
 
-    pub equating-next : {later : List ℕ} {p : Progress} → Passes (walk s pos 1 0) after at (equation x (renamed base (walk s pos 1 0))) later p
+    pub equating-next : {later : List ℕ} {p : Progress} → PutNodes (traverse s pos 1 0) after at (equation x (renamed base (traverse s pos 1 0))) later p
         → Equating s k base whole before first later (p .at) (p .pos) (x + 1)
     equating-next {later} {p} q =
         let t = turn h in
-        let e : p .pos ≡ t .past = q .end ∙ ap ended (t .walks) in
+        let e : p .pos ≡ t .past = q .end ∙ ap end-place (t .walks) in
         rw (add-one x) (record {
           terms = t .others;
           goal = u .goal;
@@ -128,7 +129,7 @@ module _ {s whole before after : List ℕ} {k base first at pos x : ℕ} (u : Eq
           goal-formed = u .goal-formed;
           end = u .end;
           stands = rw e (t .stands);
-          filling = filling-more (u .filling) (equation x (renamed base (walk s pos 1 0))) (t .split) (q .put);
+          partly = partly-more (u .partly) (equation x (renamed base (traverse s pos 1 0))) (t .split) (q .put);
         })
 
   -- after the last term the goal is left
@@ -140,21 +141,21 @@ module _ {s whole before after : List ℕ} {k base first at pos x : ℕ} (u : Eq
         go nil m = refl
         go (cons t ts) m = absurd (omega arith)
 
-    goal-walks : walk s pos 0 1 ≡ on (goal-nodes (u .goal)) (u .end)
-    goal-walks = walk-goal (u .goal) (u .goal-formed) (rw no-terms at (u .stands))
+    goal-traversed : traverse s pos 0 1 ≡ on (goal-nodes (u .goal)) (u .end)
+    goal-traversed = traverse-goal (u .goal) (u .goal-formed) (rw no-terms at (u .stands))
 
-    goal-left : goal-bytes (branch-from x (numbered-from base) (u .terms) (u .goal)) ≡ renamed base (walk s pos 0 1)
+    goal-left : goal-bytes (branch-from x (numbered-from base) (u .terms) (u .goal)) ≡ renamed base (traverse s pos 0 1)
     goal-left =
         ap (λ (l : Terms). goal-bytes (branch-from x (numbered-from base) l (u .goal))) no-terms
-        ∙ sym (renamed-goal base (u .goal) (u .end) (walk s pos 0 1) goal-walks)
+        ∙ sym (renamed-goal base (u .goal) (u .end) (traverse s pos 0 1) goal-traversed)
 
-    pub goal-on : On (walk s pos 0 1)
-    goal-on = rw goal-walks tt
+    pub goal-on : On (traverse s pos 0 1)
+    goal-on = rw goal-traversed tt
 
-    pub goal-room : first + length whole ≤ length before → at + length (renamed base (walk s pos 0 1)) ≤ length after
-    goal-room r = omega (arith, filling-room (u .filling) r, ap length goal-left)
+    pub goal-room : first + length whole ≤ length before → at + length (renamed base (traverse s pos 0 1)) ≤ length after
+    goal-room r = omega (arith, partly-room (u .partly) r, ap length goal-left)
 
-    pub equating-end : {later : List ℕ} {p : Progress} → Passes (walk s pos 0 1) after at (renamed base (walk s pos 0 1)) later p
+    pub equating-end : {later : List ℕ} {p : Progress} → PutNodes (traverse s pos 0 1) after at (renamed base (traverse s pos 0 1)) later p
         → Put before first whole later (p .at)
     equating-end q =
-        filling-end (filling-more (u .filling) (renamed base (walk s pos 0 1)) (goal-left ∙ sym (append-nil (renamed base (walk s pos 0 1)))) (q .put)) refl
+        partly-end (partly-more (u .partly) (renamed base (traverse s pos 0 1)) (goal-left ∙ sym (append-nil (renamed base (traverse s pos 0 1)))) (q .put)) refl

@@ -3,6 +3,7 @@ use Prim.Native.Nat.{ℕ, zero, suc, _+_, _-_, _*_, _≤_, _<_}
 use native.Mathlib.Nat.{zero-add, add-zero}
 use native.Mathlib.Omega.{arith}
 use mathlib.Core.Path.{_≡_, refl, sym, ap, _∙_}
+use mathlib.Core.Bool.{true≢false}
 use mathlib.Core.List.{List, [], _∷_, _++_, append-assoc, append-nil}
 use lib.ListN.{length, drop, length-append, length-drop}
 use lib.Seq.{drop-drop}
@@ -14,14 +15,13 @@ use Rattle.records.specs.Format.Encode.{each, term-bytes, terms-bytes, g
 use Rattle.records.specs.Format.Heads.{term-head-at, goal-head-at}
 use Rattle.records.specs.Format.HeadLaws.{Bytes, Known, bytes-all, bytes-drop}
 use Rattle.records.specs.Ends.HeadRoom.{goal-room}
-use Rattle.records.specs.Format.Reader.{Read, Parts, also, terms-of, goals-of, front, back, read}
+use Rattle.records.specs.Format.Reader.{Read, Parts, also, terms-of, goals-of, leading, back, read}
 use Rattle.records.specs.Format.Reader.Read.{unread, found}
 use Rattle.records.specs.Format.Reader.Parts.{parts}
-use Rattle.records.specs.Format.ReaderLaws.{complete-terms, over-terms, read-done, sound, Sound, parts-bytes, front-arity, bytes-split, formed-split}
-use Rattle.records.specs.Format.Items.{many}
-use Rattle.records.specs.Ends.Walk.{Node, Walk, walked, walk, before, place, walk-end, end-at}
-use Rattle.records.specs.Ends.Walk.Walk.{off, on}
-use Rattle.records.specs.Ends.WalkLaws.{step, walk-step}
+use Rattle.records.specs.Format.ReaderLaws.{complete-terms, over-terms, read-done, sound, ReadSound, parts-bytes, front-arity, bytes-split, formed-split}
+use Rattle.records.specs.Ends.Traversal.{Node, Traversal, traversed, traverse, before, place-of, traversal-end, end-at}
+use Rattle.records.specs.Ends.Traversal.Traversal.{off, on}
+use Rattle.records.specs.Ends.TraversalLaws.{step, traverse-step}
 use Rattle.records.specs.declared.ends.Found.{Found}
 use Rattle.records.specs.declared.ends.Found.the-variants.{At, Nothing}
 use Rattle.records.specs.declared.ends.Onward.{Onward}
@@ -57,21 +57,21 @@ abbrev pub onward : Found → (ℕ → Found) → Found
 onward (At e) k = k e
 onward Nothing k = Nothing
 
-walk-end-place : (at : ℕ) (o : Read Parts) → walk-end (walked at o) ≡ place at o
-walk-end-place at unread = refl
-walk-end-place at (found p n) = refl
+traversal-end-place : (at : ℕ) (o : Read Parts) → traversal-end (traversed at o) ≡ place-of at o
+traversal-end-place at unread = refl
+traversal-end-place at (found p n) = refl
 
 no-place : {P : Type 0} {e : ℕ} → Nothing ≡ At e → P
-no-place q = let z : _≡_ {A = ℕ} 0 1 = cc in absurd (omega arith)
+no-place q = absurd (true≢false cc)
 
-pub end-read : (s : List ℕ) (at t g : ℕ) → end-at s at t g ≡ place at (read (drop at s) t g)
-unfolding end-at walk
-end-read s at t g = walk-end-place at (read (drop at s) t g)
+pub end-read : (s : List ℕ) (at t g : ℕ) → end-at s at t g ≡ place-of at (read (drop at s) t g)
+unfolding end-at traverse
+end-read s at t g = traversal-end-place at (read (drop at s) t g)
 
 module _ (s : List ℕ) (at : ℕ) where
-  walk-end-before : (x : Node) (w : Walk) → walk-end (before x w) ≡ walk-end w
-  walk-end-before x off = refl
-  walk-end-before x (on l e) = refl
+  traversal-end-before : (x : Node) (w : Traversal) → traversal-end (before x w) ≡ traversal-end w
+  traversal-end-before x off = refl
+  traversal-end-before x (on l e) = refl
 
   -- one node, by its heads
   abbrev pub end-step : ℕ → ℕ → TermHead → GoalHead → Found
@@ -87,29 +87,29 @@ module _ (s : List ℕ) (at : ℕ) where
   end-step zero (suc g) h (Atom p k) = end-at s (at + 4) k g
   end-step zero (suc g) h NoGoal = Nothing
 
-  end-of-step : (t g : ℕ) (h : TermHead) (i : GoalHead) → walk-end (step s at t g h i) ≡ end-step t g h i
+  end-of-step : (t g : ℕ) (h : TermHead) (i : GoalHead) → traversal-end (step s at t g h i) ≡ end-step t g h i
   unfolding end-at
   end-of-step zero zero h i = refl
-  end-of-step (suc t) g (Variable v) i = walk-end-before _ (walk s (at + 3) t g)
-  end-of-step (suc t) g (Symbol f k) i = walk-end-before _ (walk s (at + 4) (k + t) g)
+  end-of-step (suc t) g (Variable v) i = traversal-end-before _ (traverse s (at + 3) t g)
+  end-of-step (suc t) g (Symbol f k) i = traversal-end-before _ (traverse s (at + 4) (k + t) g)
   end-of-step (suc t) g NoTerm i = refl
-  end-of-step zero (suc g) h Truth = walk-end-before _ (walk s (at + 1) zero g)
-  end-of-step zero (suc g) h Failure = walk-end-before _ (walk s (at + 1) zero g)
-  end-of-step zero (suc g) h Equal = walk-end-before _ (walk s (at + 1) 2 g)
-  end-of-step zero (suc g) h Conj = walk-end-before _ (walk s (at + 1) zero (suc (suc g)))
-  end-of-step zero (suc g) h Disj = walk-end-before _ (walk s (at + 1) zero (suc (suc g)))
-  end-of-step zero (suc g) h (Atom p k) = walk-end-before _ (walk s (at + 4) k g)
+  end-of-step zero (suc g) h Truth = traversal-end-before _ (traverse s (at + 1) zero g)
+  end-of-step zero (suc g) h Failure = traversal-end-before _ (traverse s (at + 1) zero g)
+  end-of-step zero (suc g) h Equal = traversal-end-before _ (traverse s (at + 1) 2 g)
+  end-of-step zero (suc g) h Conj = traversal-end-before _ (traverse s (at + 1) zero (suc (suc g)))
+  end-of-step zero (suc g) h Disj = traversal-end-before _ (traverse s (at + 1) zero (suc (suc g)))
+  end-of-step zero (suc g) h (Atom p k) = traversal-end-before _ (traverse s (at + 4) k g)
   end-of-step zero (suc g) h NoGoal = refl
 
   pub end-by-heads : (t g : ℕ) → end-at s at t g ≡ end-step t g (term-head-at s at) (goal-head-at s at)
   unfolding end-at
-  end-by-heads t g = ap walk-end (walk-step s at t g) ∙ end-of-step t g (term-head-at s at) (goal-head-at s at)
+  end-by-heads t g = ap traversal-end (traverse-step s at t g) ∙ end-of-step t g (term-head-at s at) (goal-head-at s at)
 
   -- what was read there, from where it ends
-  read-of : (t g e : ℕ) → end-at s at t g ≡ At e → (p : Parts) × (n : ℕ) × (read (drop at s) t g ≡ found p n) × (e ≡ at + n) × Sound (drop at s) t g p n
+  read-of : (t g e : ℕ) → end-at s at t g ≡ At e → (p : Parts) × (n : ℕ) × (read (drop at s) t g ≡ found p n) × (e ≡ at + n) × ReadSound (drop at s) t g p n
   read-of t g e q = go (read (drop at s) t g) refl (sym (end-read s at t g) ∙ q)
     where
-      go : (o : Read Parts) → read (drop at s) t g ≡ o → place at o ≡ At e → (p : Parts) × (n : ℕ) × (read (drop at s) t g ≡ found p n) × (e ≡ at + n) × Sound (drop at s) t g p n
+      go : (o : Read Parts) → read (drop at s) t g ≡ o → place-of at o ≡ At e → (p : Parts) × (n : ℕ) × (read (drop at s) t g ≡ found p n) × (e ≡ at + n) × ReadSound (drop at s) t g p n
       go unread h z = no-place z
       go (found p n) h z = (p, n, h, cc, sound (drop at s) t g p n h)
 
@@ -132,11 +132,11 @@ module _ (s : List ℕ) (at : ℕ) where
         let w = read-of t zero e q in
         end-read s at (t + n) g ∙ go (w .0) (w .1) (w .3) (w .4) ∙ sym (end-read s e n g)
       where
-        moved : (ts : Terms) (k : ℕ) (o : Read Parts) → e ≡ at + k → place at (also (over-terms ts) k o) ≡ place e o
+        moved : (ts : Terms) (k : ℕ) (o : Read Parts) → e ≡ at + k → place-of at (also (over-terms ts) k o) ≡ place-of e o
         moved ts k unread h = refl
         moved ts k (found p m) h = ap At (omega arith)
 
-        go : (p : Parts) (m : ℕ) → e ≡ at + m → Sound (drop at s) t zero p m → place at (read (drop at s) (t + n) g) ≡ place e (read (drop e s) n g)
+        go : (p : Parts) (m : ℕ) → e ≡ at + m → ReadSound (drop at s) t zero p m → place-of at (read (drop at s) (t + n) g) ≡ place-of e (read (drop e s) n g)
         go (parts ts (a ∷ gs)) m h v = absurd (omega (arith, v .goals))
         go (parts ts []) m h v =
             let b : drop at s ≡ terms-bytes ts ++ drop e s = v .bytes bytes-at ∙ rw (append-nil, h) (ap (λ (l : List ℕ). terms-bytes ts ++ l) (drop-drop m at s)) in
@@ -147,17 +147,17 @@ module _ (s : List ℕ) (at : ℕ) where
     pub end-never : (t n g : ℕ) → end-at s at t zero ≡ Nothing → end-at s at (t + n) g ≡ Nothing
     end-never t n g q = end-read s at (t + n) g ∙ go (read (drop at s) (t + n) g) refl
       where
-        go : (o : Read Parts) → read (drop at s) (t + n) g ≡ o → place at o ≡ Nothing
+        go : (o : Read Parts) → read (drop at s) (t + n) g ≡ o → place-of at o ≡ Nothing
         go unread h = refl
         go (found p m) h =
             let v = sound (drop at s) (t + n) g p m h in
             let f = formed-split t (terms-of p) (v .formed bytes-at .0) in
-            let b : drop at s ≡ terms-bytes (front t (terms-of p)) ++ (terms-bytes (back t (terms-of p)) ++ (each goal-bytes (goals-of p) ++ drop m (drop at s))) =
+            let b : drop at s ≡ terms-bytes (leading t (terms-of p)) ++ (terms-bytes (back t (terms-of p)) ++ (each goal-bytes (goals-of p) ++ drop m (drop at s))) =
             v .bytes bytes-at ∙ rw (bytes-split t (terms-of p)) (simp append-assoc) in
-            let c = complete-terms (front t (terms-of p)) (f .0) zero zero (terms-bytes (back t (terms-of p)) ++ (each goal-bytes (goals-of p) ++ drop m (drop at s))) in
-            let r : read (drop at s) t zero ≡ also (over-terms (front t (terms-of p))) (length (terms-bytes (front t (terms-of p)))) (found (parts nil []) 0) =
+            let c = complete-terms (leading t (terms-of p)) (f .0) zero zero (terms-bytes (back t (terms-of p)) ++ (each goal-bytes (goals-of p) ++ drop m (drop at s))) in
+            let r : read (drop at s) t zero ≡ also (over-terms (leading t (terms-of p))) (length (terms-bytes (leading t (terms-of p)))) (found (parts nil []) 0) =
             rw (b) (rw (front-arity t n (terms-of p) (v .terms), add-zero, read-done) at c) in
-            no-place (sym q ∙ end-read s at t zero ∙ ap (place at) r)
+            no-place (sym q ∙ end-read s at t zero ∙ ap (place-of at) r)
 
 -- what follows a goal's own head and terms: from where on, and how many goals the head announced
 abbrev pub announced : Found → Onward
@@ -192,7 +192,7 @@ module _ (s : List ℕ) (at : ℕ) (known : Known s) where
       let x : e′ ≡ e = cc in
       let y : d ≡ 0 = cc in
       (omega arith, omega arith, omega arith)
-  terms-fit k Nothing q h e d p = let w : _≡_ {A = ℕ} 0 1 = cc in absurd (omega arith)
+  terms-fit k Nothing q h e d p = absurd (true≢false cc)
 
 module _ (s : List ℕ) (at : ℕ) (known : Known s) where
   goal-by : (g : ℕ) (i : GoalHead) → end-step s at zero (suc g) (term-head-at s at) i ≡ goals-after s (next-by s at i) g
@@ -216,7 +216,7 @@ module _ (s : List ℕ) (at : ℕ) (known : Known s) where
   next-fits Conj f e d q = let r = goal-room s at known (sym f) Conj refl in let x : at + 1 ≡ e = cc in let y : 2 ≡ d = cc in omega arith
   next-fits Disj f e d q = let r = goal-room s at known (sym f) Disj refl in let x : at + 1 ≡ e = cc in let y : 2 ≡ d = cc in omega arith
   next-fits (Atom p k) f e d q = let r = goal-room s at known (sym f) (Atom p k) refl in let x = terms-fit s (at + 4) known k (end-at s (at + 4) k 0) refl (r .0) e d q in omega arith
-  next-fits NoGoal f e d q = let w : _≡_ {A = ℕ} 0 1 = cc in absurd (omega arith)
+  next-fits NoGoal f e d q = absurd (true≢false cc)
 
   -- for code that has the head h, or what is next, from a call
   pub next-arm : {h : GoalHead} → h ≡ goal-head-at s at → (i : GoalHead) → h ≡ i → next-by s at i ≡ next-goal s at

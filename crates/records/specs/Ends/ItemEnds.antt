@@ -3,16 +3,18 @@ use Prim.Native.Nat.{ℕ, suc, _+_, _-_, _≤_, _<_}
 use native.Mathlib.Nat.{add-zero, add-assoc}
 use native.Mathlib.Omega.{arith}
 use mathlib.Core.Path.{_≡_, refl, sym, ap, _∙_}
+use mathlib.Core.Bool.{true≢false}
 use mathlib.Core.List.{List, _∷_}
 use lib.ListN.{length, drop, length-append, length-drop}
 use lib.Seq.{drop-drop}
+use Rattle.records.specs.Format.Syntax as Syntax
 use Rattle.records.specs.Format.Heads.{ancestor-head-at, bet-head-at, word-at, definition-head-at, clause-head-at}
 use Rattle.records.specs.Format.HeadLaws.{Known, bytes-all, bytes-drop}
 use Rattle.records.specs.Format.Reader.{Read, Parts, also, read}
 use Rattle.records.specs.Format.Reader.Read.{unread, found}
-use Rattle.records.specs.Format.Items.{Reader, after, made, many, read-term, read-goal, ancestor-by, read-ancestor, binding-by, read-binding, bet-by, read-bet, definition-by, read-definition, clause-by, read-clause}
+use Rattle.records.specs.Format.Items.{Reader, then-read, made, many, read-term, read-goal, ancestor-by, read-ancestor, binding-by, read-binding, bet-by, read-bet, definition-by, read-definition, clause-by, read-clause}
 use Rattle.records.specs.Format.ItemLaws.{Laid, Exact}
-use Rattle.records.specs.Ends.Walk.{place, end-of, end-at}
+use Rattle.records.specs.Ends.Traversal.{place-of, end-of, end-at}
 use Rattle.records.specs.Ends.EndLaws.{end-read, onward}
 use Rattle.records.specs.declared.ends.Found.{Found}
 use Rattle.records.specs.declared.ends.Found.the-variants.{At, Nothing}
@@ -28,17 +30,17 @@ use Rattle.records.specs.declared.heads.Signature.{Signature}
 use Rattle.records.specs.declared.heads.Signature.the-variants.{Predicate, NoPredicate}
 
 -- what follows a head of k bytes ends where it ends from there on
-place-also : {A B : Type 0} (f : A → B) (at k : ℕ) (o : Read A) → place at (also f k o) ≡ place (at + k) o
+place-also : {A B : Type 0} (f : A → B) (at k : ℕ) (o : Read A) → place-of at (also f k o) ≡ place-of (at + k) o
 place-also f at k unread = refl
 place-also f at k (found a n) = ap At (sym (add-assoc at k n))
 
-place-made : {A B : Type 0} (f : A → B) (at : ℕ) (o : Read A) → place at (made f o) ≡ place at o
+place-made : {A B : Type 0} (f : A → B) (at : ℕ) (o : Read A) → place-of at (made f o) ≡ place-of at o
 place-made f at unread = refl
 place-made f at (found a n) = refl
 
 module _ (s : List ℕ) (at : ℕ) where
-  parts-place : {A : Type 0} (f : Parts → A) (k t g : ℕ) → place at (also f k (read (drop k (drop at s)) t g)) ≡ end-at s (at + k) t g
-  parts-place f k t g = place-also f at k (read (drop k (drop at s)) t g) ∙ ap (λ (l : List ℕ). place (at + k) (read l t g)) (drop-drop k at s) ∙ sym (end-read s (at + k) t g)
+  parts-place : {A : Type 0} (f : Parts → A) (k t g : ℕ) → place-of at (also f k (read (drop k (drop at s)) t g)) ≡ end-at s (at + k) t g
+  parts-place f k t g = place-also f at k (read (drop k (drop at s)) t g) ∙ ap (λ (l : List ℕ). place-of (at + k) (read l t g)) (drop-drop k at s) ∙ sym (end-read s (at + k) t g)
 
   -- one term, one goal
   pub term-ends : end-of read-term s at ≡ end-at s at 1 0
@@ -55,7 +57,7 @@ module _ (s : List ℕ) (at : ℕ) where
   ancestor-end-by (InDisj k) = end-at s (at + 2) 0 2
   ancestor-end-by NoAncestor = Nothing
 
-  ancestor-place : (i : AncestorHead) → place at (ancestor-by i (drop at s)) ≡ ancestor-end-by i
+  ancestor-place : (i : AncestorHead) → place-of at (ancestor-by i (drop at s)) ≡ ancestor-end-by i
   ancestor-place (Called p k) = parts-place _ 4 k 0
   ancestor-place (InConj k) = parts-place _ 2 0 2
   ancestor-place (InDisj k) = parts-place _ 2 0 2
@@ -63,19 +65,19 @@ module _ (s : List ℕ) (at : ℕ) where
 
   pub ancestor-ends : {h : AncestorHead} → h ≡ ancestor-head-at s at → (i : AncestorHead) → h ≡ i → ancestor-end-by i ≡ end-of read-ancestor s at
   unfolding end-of read-ancestor ancestor-head-at
-  ancestor-ends is i e = sym (ancestor-place i) ∙ ap (λ (j : AncestorHead). place at (ancestor-by j (drop at s))) (sym e ∙ is)
+  ancestor-ends is i e = sym (ancestor-place i) ∙ ap (λ (j : AncestorHead). place-of at (ancestor-by j (drop at s))) (sym e ∙ is)
 
   abbrev binding-end-by : Word → Found
   binding-end-by (Number v) = end-at s (at + 2) 1 0
   binding-end-by Short = Nothing
 
-  binding-place : (i : Word) → place at (binding-by i (drop at s)) ≡ binding-end-by i
+  binding-place : (i : Word) → place-of at (binding-by i (drop at s)) ≡ binding-end-by i
   binding-place (Number v) = parts-place _ 2 1 0
   binding-place Short = refl
 
   pub binding-ends : {h : Word} → h ≡ word-at s at → (i : Word) → h ≡ i → binding-end-by i ≡ end-of read-binding s at
   unfolding end-of read-binding word-at
-  binding-ends is i e = sym (binding-place i) ∙ ap (λ (j : Word). place at (binding-by j (drop at s))) (sym e ∙ is)
+  binding-ends is i e = sym (binding-place i) ∙ ap (λ (j : Word). place-of at (binding-by j (drop at s))) (sym e ∙ is)
 
   abbrev bet-end-by : BetHead → Found
   bet-end-by (Unifier n) = end-of (many read-binding n) s (at + 3)
@@ -83,50 +85,50 @@ module _ (s : List ℕ) (at : ℕ) where
   bet-end-by By = end-at s (at + 1) 0 1
   bet-end-by NoBet = Nothing
 
-  bet-place : (i : BetHead) → place at (bet-by i (drop at s)) ≡ bet-end-by i
+  bet-place : (i : BetHead) → place-of at (bet-by i (drop at s)) ≡ bet-end-by i
   unfolding end-of
-  bet-place (Unifier n) = place-also _ at 3 (many read-binding n (drop 3 (drop at s))) ∙ ap (λ (l : List ℕ). place (at + 3) (many read-binding n l)) (drop-drop 3 at s)
+  bet-place (Unifier n) = place-also _ at 3 (many read-binding n (drop 3 (drop at s))) ∙ ap (λ (l : List ℕ). place-of (at + 3) (many read-binding n l)) (drop-drop 3 at s)
   bet-place (Or k) = refl
   bet-place By = parts-place _ 1 0 1
   bet-place NoBet = refl
 
   pub bet-ends : {h : BetHead} → h ≡ bet-head-at s at → (i : BetHead) → h ≡ i → bet-end-by i ≡ end-of read-bet s at
   unfolding end-of read-bet bet-head-at
-  bet-ends is i e = sym (bet-place i) ∙ ap (λ (j : BetHead). place at (bet-by j (drop at s))) (sym e ∙ is)
+  bet-ends is i e = sym (bet-place i) ∙ ap (λ (j : BetHead). place-of at (bet-by j (drop at s))) (sym e ∙ is)
 
   abbrev definition-end-by : Signature → Found
   definition-end-by (Predicate p k n) = end-at s (at + 4) 0 1
   definition-end-by NoPredicate = Nothing
 
-  definition-place : (i : Signature) → place at (definition-by i (drop at s)) ≡ definition-end-by i
+  definition-place : (i : Signature) → place-of at (definition-by i (drop at s)) ≡ definition-end-by i
   definition-place (Predicate p k n) = parts-place _ 4 0 1
   definition-place NoPredicate = refl
 
   pub definition-ends : {h : Signature} → h ≡ definition-head-at s at → (i : Signature) → h ≡ i → definition-end-by i ≡ end-of read-definition s at
   unfolding end-of read-definition definition-head-at
-  definition-ends is i e = sym (definition-place i) ∙ ap (λ (j : Signature). place at (definition-by j (drop at s))) (sym e ∙ is)
+  definition-ends is i e = sym (definition-place i) ∙ ap (λ (j : Signature). place-of at (definition-by j (drop at s))) (sym e ∙ is)
 
   abbrev clause-end-by : Signature → Found
   clause-end-by (Predicate p k v) = end-at s (at + 4) k 1
   clause-end-by NoPredicate = Nothing
 
-  clause-place : (i : Signature) → place at (clause-by i (drop at s)) ≡ clause-end-by i
+  clause-place : (i : Signature) → place-of at (clause-by i (drop at s)) ≡ clause-end-by i
   clause-place (Predicate p k v) = parts-place _ 4 k 1
   clause-place NoPredicate = refl
 
   pub clause-ends : {h : Signature} → h ≡ clause-head-at s at → (i : Signature) → h ≡ i → clause-end-by i ≡ end-of read-clause s at
   unfolding end-of read-clause clause-head-at
-  clause-ends is i e = sym (clause-place i) ∙ ap (λ (j : Signature). place at (clause-by j (drop at s))) (sym e ∙ is)
+  clause-ends is i e = sym (clause-place i) ∙ ap (λ (j : Signature). place-of at (clause-by j (drop at s))) (sym e ∙ is)
 
 -- one thing, and then another one from where the first ends
 module _ {A B C : Type 0} (f : A → B → C) (ra : Reader A) (rb : Reader B) (s : List ℕ) (at : ℕ) where
-  pub after-ends : place at (after f (ra (drop at s)) rb (drop at s)) ≡ onward (end-of ra s at) (λ e. end-of rb s e)
+  pub after-ends : place-of at (then-read f (ra (drop at s)) rb (drop at s)) ≡ onward (end-of ra s at) (λ e. end-of rb s e)
   unfolding end-of
   after-ends = go (ra (drop at s))
     where
-      go : (o : Read A) → place at (after f o rb (drop at s)) ≡ onward (place at o) (λ e. place e (rb (drop e s)))
+      go : (o : Read A) → place-of at (then-read f o rb (drop at s)) ≡ onward (place-of at o) (λ e. place-of e (rb (drop e s)))
       go unread = refl
-      go (found a n) = place-also (f a) at n (rb (drop n (drop at s))) ∙ ap (λ (l : List ℕ). place (at + n) (rb l)) (drop-drop n at s)
+      go (found a n) = place-also (f a) at n (rb (drop n (drop at s))) ∙ ap (λ (l : List ℕ). place-of (at + n) (rb l)) (drop-drop n at s)
 
 module _ {A : Type 0} (r : Reader A) (s : List ℕ) where
   many-ends : (n at : ℕ) → end-of (many r (suc n)) s at ≡ onward (end-of r s at) (λ e. end-of (many r n) s e)
@@ -156,8 +158,8 @@ module _ {A : Type 0} {bytes : A → List ℕ} {Formed : A → Type 0} {r : Read
   unfolding end-of
   found-at at e q = go (r (drop at s)) refl q
     where
-      go : (o : Read A) → r (drop at s) ≡ o → place at o ≡ At e → (a : A) × (r (drop at s) ≡ found a (e - at)) × (e ≡ at + length (bytes a)) × Laid bytes Formed (drop at s) a (e - at)
-      go unread h z = let y : _≡_ {A = ℕ} 0 1 = cc in absurd (omega arith)
+      go : (o : Read A) → r (drop at s) ≡ o → place-of at o ≡ At e → (a : A) × (r (drop at s) ≡ found a (e - at)) × (e ≡ at + length (bytes a)) × Laid bytes Formed (drop at s) a (e - at)
+      go unread h z = absurd (true≢false cc)
       go (found a n) h z =
           let x : at + n ≡ e = cc in
           let y : n ≡ e - at = omega arith in
@@ -170,54 +172,35 @@ module _ {A : Type 0} {bytes : A → List ℕ} {Formed : A → Type 0} {r : Read
       let x : length (drop at s) ≡ length (bytes (v .0)) + length (drop (e - at) (drop at s)) = ap length (v .3 .front) ∙ length-append (bytes (v .0)) (drop (e - at) (drop at s)) in
       (omega (arith, v .2, long (v .0)), omega (arith, v .2, x, length-drop at s, long (v .0)))
 
+-- what an item of a kind is, and its reader
+abbrev pub ItemTree : Item → Type 0
+ItemTree Ancestor = Syntax.Ancestor
+ItemTree Bet = Syntax.Bet
+ItemTree Definition = Syntax.Definition
+ItemTree Clause = Syntax.Clause
+
+abbrev pub item-reader : (i : Item) → Reader (ItemTree i)
+item-reader Ancestor = read-ancestor
+item-reader Bet = read-bet
+item-reader Definition = read-definition
+item-reader Clause = read-clause
+
 -- where an item, and a row of items of one kind, ends
 unfoldable pub item-end : Item → List ℕ → ℕ → Found
-item-end Ancestor = end-of read-ancestor
-item-end Bet = end-of read-bet
-item-end Definition = end-of read-definition
-item-end Clause = end-of read-clause
+item-end i = end-of (item-reader i)
 
 unfoldable pub items-end : Item → ℕ → List ℕ → ℕ → Found
-items-end Ancestor n = end-of (many read-ancestor n)
-items-end Bet n = end-of (many read-bet n)
-items-end Definition n = end-of (many read-definition n)
-items-end Clause n = end-of (many read-clause n)
+items-end i n = end-of (many (item-reader i) n)
 
-module _ (s : List ℕ) where
-  pub no-items : (i : Item) (n at : ℕ) → n ≡ 0 → items-end i n s at ≡ At at
+module _ (s : List ℕ) (i : Item) where
+  pub no-items : (n at : ℕ) → n ≡ 0 → items-end i n s at ≡ At at
   unfolding items-end
-  no-items Ancestor = none-ends read-ancestor s
-  no-items Bet = none-ends read-bet s
-  no-items Definition = none-ends read-definition s
-  no-items Clause = none-ends read-clause s
+  no-items = none-ends (item-reader i) s
 
-  pub more-items : (i : Item) {f : Found} {e : ℕ} (n at : ℕ) → f ≡ item-end i s at → f ≡ At e → 0 < n → items-end i n s at ≡ items-end i (n - 1) s e
+  pub more-items : {f : Found} {e : ℕ} (n at : ℕ) → f ≡ item-end i s at → f ≡ At e → 0 < n → items-end i n s at ≡ items-end i (n - 1) s e
   unfolding item-end items-end
-  more-items Ancestor = more-ends read-ancestor s
-  more-items Bet = more-ends read-bet s
-  more-items Definition = more-ends read-definition s
-  more-items Clause = more-ends read-clause s
+  more-items = more-ends (item-reader i) s
 
-  pub never-items : (i : Item) {f : Found} (n at : ℕ) → f ≡ item-end i s at → f ≡ Nothing → 0 < n → items-end i n s at ≡ Nothing
+  pub never-items : {f : Found} (n at : ℕ) → f ≡ item-end i s at → f ≡ Nothing → 0 < n → items-end i n s at ≡ Nothing
   unfolding item-end items-end
-  never-items Ancestor = never-ends read-ancestor s
-  never-items Bet = never-ends read-bet s
-  never-items Definition = never-ends read-definition s
-  never-items Clause = never-ends read-clause s
-
-  -- an item's end by its kind
-  pub ancestor-item : (at : ℕ) {k : Item} {r : Found} → k ≡ Ancestor → r ≡ end-of read-ancestor s at → r ≡ item-end k s at
-  unfolding item-end
-  ancestor-item at e q = rw e q
-
-  pub bet-item : (at : ℕ) {k : Item} {r : Found} → k ≡ Bet → r ≡ end-of read-bet s at → r ≡ item-end k s at
-  unfolding item-end
-  bet-item at e q = rw e q
-
-  pub definition-item : (at : ℕ) {k : Item} {r : Found} → k ≡ Definition → r ≡ end-of read-definition s at → r ≡ item-end k s at
-  unfolding item-end
-  definition-item at e q = rw e q
-
-  pub clause-item : (at : ℕ) {k : Item} {r : Found} → k ≡ Clause → r ≡ end-of read-clause s at → r ≡ item-end k s at
-  unfolding item-end
-  clause-item at e q = rw e q
+  never-items = never-ends (item-reader i) s

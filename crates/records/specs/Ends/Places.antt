@@ -2,41 +2,36 @@
 use Prim.Native.Nat.{ℕ, _+_, _-_, _<_}
 use native.Mathlib.Omega.{arith}
 use mathlib.Core.Path.{_≡_, refl, sym, ap, _∙_}
+use mathlib.Core.Bool.{true≢false}
 use mathlib.Core.List.{List, [], _∷_, _++_}
 use lib.ListN.{length, getD}
 use lib.Seq.{getD-drop}
-use Rattle.records.specs.Format.Syntax.{Goal, Ancestor, Bet, Port, Event, Definition}
+use Rattle.records.specs.Format.Syntax.{Goal, Ancestor, Bet, Port, Event}
 use Rattle.records.specs.Format.Syntax.Event.{event}
-use Rattle.records.specs.Format.Syntax.Definition.{definition}
-use Rattle.records.specs.Format.Encode.{word, each, counted, goal-bytes, ancestor-bytes, bet-bytes, port-byte, event-bytes, definition-bytes, record-of}
-use Rattle.records.specs.Format.Formed.{GoalFormed, Counted, AncestorFormed, BetFormed, EventFormed, DefinitionFormed}
-use Rattle.records.specs.Format.Heads.{word-at, definition-head-at}
+use Rattle.records.specs.Format.Encode.{each, counted, goal-bytes, ancestor-bytes, bet-bytes, port-byte, event-bytes, record-of}
+use Rattle.records.specs.Format.Formed.{GoalFormed, Counted, AncestorFormed, EventFormed}
+use Rattle.records.specs.Format.Heads.{word-at}
 use Rattle.records.specs.Format.HeadLaws.{Known, bytes-all}
-use Rattle.records.specs.Format.Items.{read-definition}
 use Rattle.records.specs.Format.ItemLaws.{counted-exact}
 use Rattle.records.specs.Format.Exact.{ancestor-exact}
-use Rattle.records.specs.Ends.Walk.{end-of, end-at, walk-end}
+use Rattle.records.specs.Ends.Traversal.{end-at, traversal-end}
 use Rattle.records.specs.Gate.Gate.{Reading, Accepted, read-event}
 use Rattle.records.specs.Gate.Gate.Reading.{refused, tree}
 use Rattle.records.specs.Gate.GateLaws.{event-tree}
-use Rattle.records.specs.Gate.Rows.{Ends}
-use Rattle.records.specs.Ends.ItemEnds.{items-end, definition-ends}
+use Rattle.records.specs.Ends.ItemEnds.{items-end}
 use Rattle.records.specs.Gate.CountedEnds.{counted-end, row-end}
 use Rattle.records.specs.Writing.Emitted.{length-record-of}
-use Rattle.records.specs.Ends.Stands.{Stands, body-stands, stands-first, stands-second, stands-ends, word-stands, walk-goal, definition-stands}
+use Rattle.records.specs.Ends.Stands.{Stands, body-stands, stands-first, stands-second, stands-ends, word-stands, traverse-goal}
 use Rattle.records.specs.declared.put.Range.{Range}
 use Rattle.records.specs.declared.places.Row.{Row}
 use Rattle.records.specs.declared.places.Places.{Places}
 use Rattle.records.specs.declared.places.PartEnds.{PartEnds}
-use Rattle.records.specs.declared.places.DefinitionPlaces.{DefinitionPlaces}
 use Rattle.records.specs.declared.ends.Found.{Found}
 use Rattle.records.specs.declared.ends.Found.the-variants.{At, Nothing}
 use Rattle.records.specs.declared.ends.Item.{Item}
 use Rattle.records.specs.declared.ends.Item.the-variants.{Ancestor as AnAncestor}
 use Rattle.records.specs.declared.heads.Word.{Word}
 use Rattle.records.specs.declared.heads.Word.the-variants.{Number, Short}
-use Rattle.records.specs.declared.heads.Signature.{Signature}
-use Rattle.records.specs.declared.heads.Signature.the-variants.{Predicate, NoPredicate}
 
 -- a row of items whose count stands at `at`
 abbrev pub row-places : {A : Type 0} → (A → List ℕ) → ℕ → List A → Row
@@ -58,14 +53,15 @@ event-places (event p g u s) = record {
 unfoldable pub part-ends : Event → PartEnds
 part-ends (event p g u s) = record { goal = goal-end 4 g; ancestors = goal-end 4 g + length (counted ancestor-bytes u) }
 
-unfoldable pub definition-places : ℕ → Definition → DefinitionPlaces
-definition-places at (definition p k n g) = record { predicate = p; arity = k; locals = n; goal = record { from = at + 4; to = goal-end (at + 4) g } }
+-- these are where the parts end of the event that s is read as
+abbrev pub EndsOf : List ℕ → PartEnds → Type 0
+EndsOf s ends = (e : Event) → read-event s ≡ tree e → ends ≡ part-ends e
 
 lost : {P : Type 0} {d : ℕ} → Nothing ≡ At d → P
-lost e = let y : _≡_ {A = ℕ} 0 1 = cc in absurd (omega arith)
+lost e = absurd (true≢false cc)
 
 shorted : {P : Type 0} {n : ℕ} → Short ≡ Number n → P
-shorted e = let y : _≡_ {A = ℕ} 0 1 = cc in absurd (omega arith)
+shorted e = absurd (true≢false cc)
 
 -- what was found of a row, of one whose end is known, and of a goal, at a position
 pub record RowAt (s : List ℕ) (at : ℕ) (i : Item) (r : Row) : Type 0 where
@@ -74,18 +70,18 @@ pub record RowAt (s : List ℕ) (at : ℕ) (i : Item) (r : Row) : Type 0 where
 pub record RowTo (s : List ℕ) (at to : ℕ) (r : Row) : Type 0 where
   pub is : (n : ℕ) → word-at s at ≡ Number n → r ≡ record { count = n; from = at + 2; to = to }
 
-pub record GoalAt (s : List ℕ) (at : ℕ) (r : Range) : Type 0 where
+pub record GoalRange (s : List ℕ) (at : ℕ) (r : Range) : Type 0 where
   pub is : (e : ℕ) → end-at s at 0 1 ≡ At e → r ≡ record { from = at; to = e }
 
 -- an accepted event
-pub record Parts (s : List ℕ) (p : Port) (g : Goal) (u : List Ancestor) (b : List Bet) : Type 0 where
+pub record EventParts (s : List ℕ) (p : Port) (g : Goal) (u : List Ancestor) (b : List Bet) : Type 0 where
   pub formed : EventFormed (event p g u b)
   pub port-stands : Stands s 3 (port-byte p ∷ []) 4
   pub goal-stands : Stands s 4 (goal-bytes g) (goal-end 4 g)
   pub ancestors-stand : Stands s (goal-end 4 g) (counted ancestor-bytes u) (goal-end 4 g + length (counted ancestor-bytes u))
   pub bets-stand : Stands s (goal-end 4 g + length (counted ancestor-bytes u)) (counted bet-bytes b) (length s)
 
-pub event-parts : (s : List ℕ) → Known s → (p : Port) (g : Goal) (u : List Ancestor) (b : List Bet) → read-event s ≡ tree (event p g u b) → Parts s p g u b
+pub event-parts : (s : List ℕ) → Known s → (p : Port) (g : Goal) (u : List Ancestor) (b : List Bet) → read-event s ≡ tree (event p g u b) → EventParts s p g u b
 event-parts s known p g u b e =
     let w = event-tree s (bytes-all s known) (event p g u b) e in
     let whole : Stands s 3 (event-bytes (event p g u b)) (length s) = stands-record (w .laid) in
@@ -105,7 +101,7 @@ event-parts s known p g u b e =
 -- where a goal that stands somewhere ends, and a row of ancestors
 pub goal-found : {s : List ℕ} {at e : ℕ} (g : Goal) → GoalFormed g → Stands s at (goal-bytes g) e → end-at s at 0 1 ≡ At e
 unfolding end-at
-goal-found g f w = ap walk-end (walk-goal g f w)
+goal-found g f w = ap traversal-end (traverse-goal g f w)
 
 pub ancestors-found : {s : List ℕ} {at e : ℕ} (u : List Ancestor) → Counted AncestorFormed u → Stands s at (counted ancestor-bytes u) e → counted-end AnAncestor s at ≡ At e
 unfolding counted-end
@@ -113,7 +109,7 @@ ancestors-found u f w = stands-ends (counted-exact ancestor-exact) u f w
 
 -- what the code found is what the tree tells
 module _ (s : List ℕ) (known : Known s) where
-  pub ends-are : {goal : Range} {ancestors : Row} → GoalAt s 4 goal → RowAt s (goal .to) AnAncestor ancestors
+  pub ends-are : {goal : Range} {ancestors : Row} → GoalRange s 4 goal → RowAt s (goal .to) AnAncestor ancestors
       → (e : Event) → read-event s ≡ tree e → record { goal = goal .to; ancestors = ancestors .to } ≡ part-ends e
   unfolding part-ends
   ends-are {goal} {ancestors} ga ra (event p g u b) q =
@@ -124,7 +120,7 @@ module _ (s : List ℕ) (known : Known s) where
       (rw e1 at ra) .is (length u) (k + length (counted ancestor-bytes u)) (word-stands (length u) (each ancestor-bytes u) (w .formed .1 .0) (w .ancestors-stand)) (ancestors-found u (w .formed .1) (w .ancestors-stand)) in
       rw (e1, e2) refl
 
-  pub places-are : {ends : PartEnds} {ancestors bets : Row} → ((e : Event) → read-event s ≡ tree e → ends ≡ part-ends e)
+  pub places-are : {ends : PartEnds} {ancestors bets : Row} → EndsOf s ends
       → RowTo s (ends .goal) (ends .ancestors) ancestors → RowTo s (ends .ancestors) (length s) bets
       → (e : Event) → read-event s ≡ tree e → record { port = getD s 3 0; goal = record { from = 4; to = ends .goal }; ancestors = ancestors; bets = bets } ≡ event-places e
   unfolding part-ends event-places
@@ -145,22 +141,6 @@ accepted-long s known h = go (read-event s) refl h
     go : (r : Reading Event) → read-event s ≡ r → Accepted r → 3 < length s
     go (refused q) e z = absurd z
     go (tree (event p g u b)) e z = let w = event-parts s known p g u b e in omega (arith, w .bets-stand .end)
-
--- a definition's parts
-pub definition-is : (s : List ℕ) (at : ℕ) {h : Signature} {p k n : ℕ} {goal : Range} → h ≡ definition-head-at s at → h ≡ Predicate p k n → GoalAt s (at + 4) goal
-    → (d : Definition) (e : ℕ) → DefinitionFormed d → Stands s at (definition-bytes d) e → record { predicate = p; arity = k; locals = n; goal = goal } ≡ definition-places at d
-unfolding definition-places
-definition-is s at {h} {p} {k} {n} {goal} is q ga (definition p′ k′ n′ g) e f w =
-    let x : Predicate p′ k′ n′ ≡ Predicate p k n = sym (definition-stands p′ k′ n′ g f w) ∙ sym is ∙ q in
-    let v : Stands s (at + 4) (goal-bytes g) e = stands-second (word p′ ++ (k′ ∷ (n′ ∷ []))) (goal-bytes g) w in
-    let y : goal ≡ record { from = at + 4; to = e } = ga .is e (goal-found g (f .3) v) in
-    let a : p′ ≡ p = cc in
-    let b : k′ ≡ k = cc in
-    let c : n′ ≡ n = cc in
-    rw (y, a, b, c, v .end) refl
-
-pub definition-none : {P : Type 0} (s : List ℕ) (at : ℕ) {h : Signature} → h ≡ definition-head-at s at → h ≡ NoPredicate → Ends (end-of read-definition s at) → P
-definition-none s at is q w = absurd (rw (sym (definition-ends s at is NoPredicate q)) at w)
 
 -- for code that found a row
 module _ (s : List ℕ) (at : ℕ) (i : Item) {w : Word} (is : w ≡ word-at s at) where
@@ -189,11 +169,11 @@ module _ (s : List ℕ) (at to : ℕ) {w : Word} (is : w ≡ word-at s at) where
 
 -- for code that found a goal's end
 module _ (s : List ℕ) (at : ℕ) {f : Found} (is : f ≡ end-at s at 0 1) where
-  pub goal-is : {e : ℕ} → f ≡ At e → GoalAt s at (record { from = at; to = e })
+  pub goal-is : {e : ℕ} → f ≡ At e → GoalRange s at (record { from = at; to = e })
   goal-is {e} q = record { is = λ d r. same d (sym q ∙ is ∙ r) }
     where
       same : (d : ℕ) → At e ≡ At d → _≡_ {A = Range} (record { from = at; to = e }) (record { from = at; to = d })
       same d z = let x : e ≡ d = cc in rw x refl
 
-  pub goal-off : {r : Range} → f ≡ Nothing → GoalAt s at r
+  pub goal-off : {r : Range} → f ≡ Nothing → GoalRange s at r
   goal-off q = record { is = λ d r. lost (sym q ∙ is ∙ r) }

@@ -2,8 +2,7 @@
 use Prim.Native.Nat.{ℕ, suc, _+_, _-_, _≤_, _<_}
 use native.Mathlib.Omega.{arith}
 use mathlib.Core.Path.{_≡_, refl, sym, ap, ap₂, _∙_}
-use mathlib.Core.Bool.{Bool, true, false, _&&_}
-use mathlib.Core.Logic.{_↔_}
+use mathlib.Core.Bool.{Bool, true, false, _&&_, true≢false}
 use mathlib.Core.List.{List, [], _∷_}
 use lib.Dec.{eqb}
 use lib.ListN.{length, drop, take, getD}
@@ -11,9 +10,6 @@ use lib.Seq.{drop-cons}
 use borrow.Author.Tests.{eq-eqb, ne-eqb, eqb-true}
 use Rattle.records.specs.Gate.Bools.{and-both}
 use Rattle.records.specs.Ends.Range.{size, cut, Inside, length-cut}
-use Rattle.records.specs.Format.Items.{Reader}
-use Rattle.records.specs.Format.ItemLaws.{Exact}
-use Rattle.records.specs.Ends.Stands.{Stands, stands-cut, same-tree}
 use Rattle.records.specs.declared.put.Range.{Range}
 
 unfoldable pub same-bytes : List ℕ → List ℕ → Bool
@@ -25,8 +21,8 @@ same-bytes (x ∷ l) (y ∷ k) = eqb x y && same-bytes l k
 pub same-true : (l k : List ℕ) → same-bytes l k ≡ true → l ≡ k
 unfolding same-bytes
 same-true [] [] e = refl
-same-true [] (y ∷ k) e = let z : _≡_ {A = ℕ} 0 1 = cc in absurd (omega arith)
-same-true (x ∷ l) [] e = let z : _≡_ {A = ℕ} 0 1 = cc in absurd (omega arith)
+same-true [] (y ∷ k) e = absurd (true≢false cc)
+same-true (x ∷ l) [] e = absurd (true≢false cc)
 same-true (x ∷ l) (y ∷ k) e = let w = and-both (eqb x y) (same-bytes l k) e in ap₂ _∷_ (eqb-true x y (w .0)) (same-true l k (w .1))
 
 pub same-refl : (l : List ℕ) → same-bytes l l ≡ true
@@ -44,12 +40,6 @@ same-length (x ∷ l) (y ∷ k) h = rw (same-length l k (λ e. h (ap suc e))) (n
     no-matter : (b : Bool) → (b && false) ≡ false
     no-matter true = refl
     no-matter false = refl
-
--- byte equality of two parts is equality of the two trees
-pub same-part-tree : {A : Type 0} {bytes : A → List ℕ} {Formed : A → Type 0} {r : Reader A} → Exact bytes Formed r → {s u : List ℕ} {a e b d : ℕ} (x y : A) → Formed x → Formed y
-    → Stands s a (bytes x) e → Stands u b (bytes y) d → (same-bytes (cut s (record { from = a; to = e })) (cut u (record { from = b; to = d })) ≡ true) ↔ (x ≡ y)
-same-part-tree {bytes = bytes} w x y fx fy p q =
-    ((λ h. same-tree w x y fx fy (sym (stands-cut p) ∙ same-true _ _ h ∙ stands-cut q)), (λ h. rw (stands-cut p, stands-cut q, h) (same-refl (bytes y))))
 
 -- n bytes of s from a on, and of u from b on, after i of them
 unfoldable pub from-on : List ℕ → ℕ → ℕ → ℕ → List ℕ

@@ -14,7 +14,7 @@ use Rattle.records.specs.Format.Syntax.Goal.{truth, failure, equal, conj
 use Rattle.records.specs.Format.Syntax.Ancestor.{called, in-conj, in-disj}
 use Rattle.records.specs.Format.Syntax.Bet.{unifier, or, by}
 use Rattle.records.specs.Format.Syntax.Definition.{definition}
-use Rattle.records.specs.Format.Encode.{word, tag, term-bytes, terms-bytes, goal-bytes, ancestor-bytes, bet-bytes, definition-bytes, record-of}
+use Rattle.records.specs.Format.Encode.{word, tag, term-bytes, terms-bytes, goal-bytes, ancestor-bytes, bet-bytes, definition-bytes, record-of, each, counted}
 use Rattle.records.specs.Format.Formed.{TermFormed, TermsFormed, GoalFormed, AncestorFormed, BetFormed, DefinitionFormed}
 use Rattle.records.specs.Format.Heads.{term-head, goal-head, ancestor-head, bet-head, definition-head, word-head, term-head-at, goal-head-at, ancestor-head-at, bet-head-at, word-at, definition-head-at}
 use Rattle.records.specs.Format.HeadLaws.{joined-word}
@@ -25,8 +25,8 @@ use Rattle.records.specs.Format.Reader.Parts.{parts}
 use Rattle.records.specs.Format.Items.{Reader}
 use Rattle.records.specs.Format.ItemLaws.{Exact, parts-exact}
 use Rattle.records.specs.Format.Exact.{tag-is}
-use Rattle.records.specs.Ends.Walk.{walk, place, end-of, term-nodes, terms-nodes, goal-nodes}
-use Rattle.records.specs.Ends.Walk.Walk.{on}
+use Rattle.records.specs.Ends.Traversal.{traverse, place-of, end-of, term-nodes, terms-nodes, goal-nodes}
+use Rattle.records.specs.Ends.Traversal.Traversal.{on}
 use Rattle.records.specs.declared.ends.Found.the-variants.{At}
 use Rattle.records.specs.declared.heads.TermHead.{TermHead}
 use Rattle.records.specs.declared.heads.TermHead.the-variants.{Variable, Symbol}
@@ -96,24 +96,24 @@ stands-read {bytes = bytes} {r = r} w {s} {at} {e} a f h = ap r (h .bytes) ∙ w
 pub stands-ends : {A : Type 0} {bytes : A → List ℕ} {Formed : A → Type 0} {r : Reader A} → Exact bytes Formed r → {s : List ℕ} {at e : ℕ} (a : A) → Formed a → Stands s at (bytes a) e
     → end-of r s at ≡ At e
 unfolding end-of
-stands-ends w {s} {at} {e} a f h = ap (place at) (stands-read w a f h) ∙ ap At (sym (h .end))
+stands-ends w {s} {at} {e} a f h = ap (place-of at) (stands-read w a f h) ∙ ap At (sym (h .end))
 
--- the walk over what stands there
-pub walk-terms : {s : List ℕ} {at e : ℕ} (ts : Terms) → TermsFormed ts → Stands s at (terms-bytes ts) e → walk s at (arity ts) 0 ≡ on (terms-nodes ts) e
-unfolding walk
-walk-terms {s} {at} {e} ts f h =
+-- the traversal over what stands there
+pub traverse-terms : {s : List ℕ} {at e : ℕ} (ts : Terms) → TermsFormed ts → Stands s at (terms-bytes ts) e → traverse s at (arity ts) 0 ≡ on (terms-nodes ts) e
+unfolding traverse
+traverse-terms {s} {at} {e} ts f h =
     let r : read (drop at s) (arity ts) 0 ≡ found (parts ts []) (length (terms-bytes ts)) =
     ap (λ (l : List ℕ). read l (arity ts) 0) (h .bytes ∙ ap (λ (x : List ℕ). x ++ drop e s) (sym (append-nil (terms-bytes ts))))
     ∙ parts-exact (arity ts) 0 .complete (parts ts []) (refl, refl, f, tt) (drop e s) ∙ ap (λ (x : List ℕ). found (parts ts []) (length x)) (append-nil (terms-bytes ts)) in
     rw r (ap (on (terms-nodes ts ++ [])) (sym (h .end)) ∙ ap (λ (l : List _). on l e) (append-nil (terms-nodes ts)))
 
-pub walk-term : {s : List ℕ} {at e : ℕ} (t : Term) → TermFormed t → Stands s at (term-bytes t) e → walk s at 1 0 ≡ on (term-nodes t) e
-walk-term {s} {at} {e} t f h =
-    walk-terms (cons t nil) (f, tt) (rw (← append-nil (term-bytes t)) at h) ∙ ap (λ (l : List _). on l e) (append-nil (term-nodes t))
+pub traverse-term : {s : List ℕ} {at e : ℕ} (t : Term) → TermFormed t → Stands s at (term-bytes t) e → traverse s at 1 0 ≡ on (term-nodes t) e
+traverse-term {s} {at} {e} t f h =
+    traverse-terms (cons t nil) (f, tt) (rw (← append-nil (term-bytes t)) at h) ∙ ap (λ (l : List _). on l e) (append-nil (term-nodes t))
 
-pub walk-goal : {s : List ℕ} {at e : ℕ} (g : Goal) → GoalFormed g → Stands s at (goal-bytes g) e → walk s at 0 1 ≡ on (goal-nodes g) e
-unfolding walk
-walk-goal {s} {at} {e} g f h =
+pub traverse-goal : {s : List ℕ} {at e : ℕ} (g : Goal) → GoalFormed g → Stands s at (goal-bytes g) e → traverse s at 0 1 ≡ on (goal-nodes g) e
+unfolding traverse
+traverse-goal {s} {at} {e} g f h =
     let r : read (drop at s) 0 1 ≡ found (parts nil (g ∷ [])) (length (goal-bytes g)) =
     ap (λ (l : List ℕ). read l 0 1) (h .bytes ∙ ap (λ (x : List ℕ). x ++ drop e s) (sym (append-nil (goal-bytes g))))
     ∙ parts-exact 0 1 .complete (parts nil (g ∷ [])) (refl, refl, tt, (f, tt)) (drop e s) ∙ ap (λ (x : List ℕ). found (parts nil (g ∷ [])) (length x)) (append-nil (goal-bytes g)) in
@@ -177,10 +177,33 @@ module _ {s : List ℕ} {at e : ℕ} where
   unfolding word-at
   word-stands n x f w = ap word-head (w .bytes) ∙ rw (joined-word n f)
 
--- equal bytes are equal trees
-pub same-tree : {A : Type 0} {bytes : A → List ℕ} {Formed : A → Type 0} {r : Reader A} → Exact bytes Formed r → (a b : A) → Formed a → Formed b → bytes a ≡ bytes b → a ≡ b
-same-tree {A} {bytes} {Formed} {r} w a b fa fb e =
-    same (sym (w .complete a fa []) ∙ ap (λ (x : List ℕ). r (x ++ [])) e ∙ w .complete b fb [])
+-- two things one after the other, behind a head of its own bytes
+pub record Both (s : List ℕ) (at : ℕ) (x y : List ℕ) (e : ℕ) : Type 0 where
+  pub one : Stands s at x (at + length x)
+  pub other : Stands s (at + length x) y e
+
+both : {s : List ℕ} {at e : ℕ} (h x y : List ℕ) → Stands s at (h ++ (x ++ y)) e → Both s (at + length h) x y e
+both h x y w = record { one = stands-first x y (stands-second h (x ++ y) w); other = stands-second x y (stands-second h (x ++ y) w) }
+
+module _ {s : List ℕ} {at e : ℕ} where
+  -- the sides of an equality
+  pub equal-parts : (t u : Term) → Stands s at (goal-bytes (equal t u)) e → Both s (at + 1) (term-bytes t) (term-bytes u) e
+  equal-parts t u w = both (0x12 ∷ []) (term-bytes t) (term-bytes u) w
+
+  -- a stack: behind its count the top, and then the rest
+  pub stack-parts : {A : Type 0} (f : A → List ℕ) (x : A) (l : List A) → Stands s at (counted f (x ∷ l)) e → Both s (at + 2) (f x) (each f l) e
+  stack-parts f x l w = both (word (length (x ∷ l))) (f x) (each f l) w
+
+-- unique readability: two things that start the same bytes are one, and so is what follows them
+pub unique-front : {A : Type 0} {bytes : A → List ℕ} {Formed : A → Type 0} {r : Reader A} → Exact bytes Formed r → (a b : A) → Formed a → Formed b → (x y : List ℕ)
+    → bytes a ++ x ≡ bytes b ++ y → (a ≡ b) × (x ≡ y)
+unique-front {bytes = bytes} {r = r} w a b fa fb x y e =
+    let i : a ≡ b = same (sym (w .complete a fa x) ∙ ap r e ∙ w .complete b fb y) in
+    (i, sym (drop-at (bytes a) x (length (bytes a)) refl) ∙ ap (drop (length (bytes a))) e ∙ rw i (drop-at (bytes b) y (length (bytes b)) refl))
   where
     same : {m n : ℕ} → found a m ≡ found b n → a ≡ b
     same {m} {n} q = cc
+
+-- equal bytes are equal trees
+pub same-tree : {A : Type 0} {bytes : A → List ℕ} {Formed : A → Type 0} {r : Reader A} → Exact bytes Formed r → (a b : A) → Formed a → Formed b → bytes a ≡ bytes b → a ≡ b
+same-tree w a b fa fb e = unique-front w a b fa fb [] [] (ap (λ (x : List ℕ). x ++ []) e) .0

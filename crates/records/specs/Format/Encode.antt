@@ -1,4 +1,4 @@
--- The layout: the bytes of each record kind, exactly as document 01 lists them ("Records"). A reader of the format reads this page.
+-- The layout: the bytes of each record kind, as listed in SPECIFICATION 1. A reader of the format reads this page.
 use mathlib.Core.List.{List, [], _∷_, _++_}
 use Prim.Native.Nat.{ℕ, _+_, _-_, _/_, _%_}
 use lib.ListN.{length}

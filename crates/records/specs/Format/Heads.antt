@@ -1,4 +1,4 @@
--- The first bytes of what stands at a position: its kind and numbers (document 01, "Records"). Every byte that is out of range gives no head.
+-- The first bytes of what stands at a position: its kind and numbers (SPECIFICATION 1). Every byte that is out of range gives no head.
 use Prim.Native.Nat.{ℕ, _+_, _*_}
 use mathlib.Core.Bool.{Bool, true, false, _||_}
 use mathlib.Core.List.{List, [], _∷_}

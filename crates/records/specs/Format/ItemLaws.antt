@@ -3,6 +3,7 @@ use Prim.Native.Nat.{ℕ, zero, suc, _+_}
 use native.Mathlib.Nat.{add-zero}
 use native.Mathlib.Omega.{arith}
 use mathlib.Core.Path.{_≡_, refl, sym, ap, _∙_}
+use mathlib.Core.Bool.{true≢false}
 use mathlib.Core.List.{List, [], _∷_, _++_, append-assoc, append-nil}
 use lib.ListN.{length, drop, length-append}
 use lib.Seq.{drop-drop, drop-at}
@@ -15,8 +16,8 @@ use Rattle.records.specs.Format.HeadLaws.{Bytes, bytes-drop, WordLead, w
 use Rattle.records.specs.Format.Reader.{Read, Parts, also, terms-of, goals-of, read}
 use Rattle.records.specs.Format.Reader.Read.{unread, found}
 use Rattle.records.specs.Format.Reader.Parts.{parts}
-use Rattle.records.specs.Format.ReaderLaws.{complete-terms, complete-term, complete-goal, parts-bytes, over-terms, read-done, sound, Sound}
-use Rattle.records.specs.Format.Items.{Reader, after, made, many, counted-by, read-counted, first-term, first-goal, read-term, read-goal}
+use Rattle.records.specs.Format.ReaderLaws.{complete-terms, complete-term, complete-goal, parts-bytes, over-terms, read-done, sound, ReadSound}
+use Rattle.records.specs.Format.Items.{Reader, then-read, made, many, counted-by, read-counted, first-term, first-goal, read-term, read-goal}
 use Rattle.records.specs.declared.heads.Word.{Word}
 use Rattle.records.specs.declared.heads.Word.the-variants.{Number, Short}
 
@@ -51,7 +52,7 @@ parts-exact t g = record { complete = whole; sound = λ l b p n e. back l b p n 
         rw (append-assoc, ← h .0, ← h .1, ← add-zero (arity ts), complete-terms ts (h .2) zero (length gs) (each goal-bytes gs ++ s), goals-complete gs (h .3) s, join-nil ts gs)
         (ap (found (parts ts gs)) (sym (length-append (terms-bytes ts) (each goal-bytes gs))))
 
-    back : (l : List ℕ) → Bytes l → (p : Parts) (n : ℕ) → Sound l t g p n → Laid parts-bytes (PartsFormed t g) l p n
+    back : (l : List ℕ) → Bytes l → (p : Parts) (n : ℕ) → ReadSound l t g p n → Laid parts-bytes (PartsFormed t g) l p n
     back l b p n s = record { formed = (s .terms, s .goals, s .formed b .0, s .formed b .1); size = s .size; front = s .bytes b }
 
 module _ {B C : Type 0} {b-bytes : B → List ℕ} {c-bytes : C → List ℕ} {FB : B → Type 0} {FC : C → Type 0} where
@@ -71,7 +72,7 @@ module _ {B C : Type 0} {b-bytes : B → List ℕ} {c-bytes : C → List ℕ} {F
   also-laid x f r l e w h q c n = go (r (drop (length x) l)) refl
     where
       go : (o : Read B) → r (drop (length x) l) ≡ o → also f (length x) o ≡ found c n → Laid c-bytes FC l c n
-      go unread p z = let y : _≡_ {A = ℕ} 0 1 = cc in absurd (omega arith)
+      go unread p z = absurd (true≢false cc)
       go (found b m) p z =
           let v = w .sound (drop (length x) l) (bytes-drop (length x) l h) b m p in
           let y = q b (v .formed) in
@@ -82,43 +83,43 @@ module _ {B C : Type 0} {b-bytes : B → List ℕ} {c-bytes : C → List ℕ} {F
 module _ {A B C : Type 0} {a-bytes : A → List ℕ} {b-bytes : B → List ℕ} {FA : A → Type 0} {FB : B → Type 0} where
   -- one thing after the other
   pub after-laid : {c-bytes : C → List ℕ} {FC : C → Type 0} (f : A → B → C) (ra : Reader A) (rb : Reader B) → Exact a-bytes FA ra → Exact b-bytes FB rb
-      → ((a : A) (b : B) → FA a → FB b → (c-bytes (f a b) ≡ a-bytes a ++ b-bytes b) × FC (f a b)) → (l : List ℕ) → Bytes l → (c : C) (n : ℕ) → after f (ra l) rb l ≡ found c n → Laid c-bytes FC l c n
+      → ((a : A) (b : B) → FA a → FB b → (c-bytes (f a b) ≡ a-bytes a ++ b-bytes b) × FC (f a b)) → (l : List ℕ) → Bytes l → (c : C) (n : ℕ) → then-read f (ra l) rb l ≡ found c n → Laid c-bytes FC l c n
   after-laid {c-bytes} {FC} f ra rb wa wb q l h c n = go (ra l) refl
     where
-      go : (o : Read A) → ra l ≡ o → after f o rb l ≡ found c n → Laid c-bytes FC l c n
-      go unread p z = let y : _≡_ {A = ℕ} 0 1 = cc in absurd (omega arith)
+      go : (o : Read A) → ra l ≡ o → then-read f o rb l ≡ found c n → Laid c-bytes FC l c n
+      go unread p z = absurd (true≢false cc)
       go (found a m) p z =
           let v = wa .sound l h a m p in
           let e : length (a-bytes a) ≡ m = sym (v .size) in
           also-laid (a-bytes a) (f a) rb l (rw e (v .front)) wb h (λ b w. q a b (v .formed) w) c n (rw e z)
 
   pub after-complete : (f : A → B → C) (ra : Reader A) (rb : Reader B) → Exact a-bytes FA ra → Exact b-bytes FB rb
-      → (a : A) (b : B) → FA a → FB b → (x : List ℕ) → x ≡ a-bytes a ++ b-bytes b → (s : List ℕ) → after f (ra (x ++ s)) rb (x ++ s) ≡ found (f a b) (length x)
+      → (a : A) (b : B) → FA a → FB b → (x : List ℕ) → x ≡ a-bytes a ++ b-bytes b → (s : List ℕ) → then-read f (ra (x ++ s)) rb (x ++ s) ≡ found (f a b) (length x)
   after-complete f ra rb wa wb a b ha hb x q s =
       rw (q, append-assoc, wa .complete a ha (b-bytes b ++ s), drop-at (a-bytes a) (b-bytes b ++ s) (length (a-bytes a)) refl, wb .complete b hb s)
       (ap (found (f a b)) (sym (length-append (a-bytes a) (b-bytes b))))
 
 -- a row of n
-abbrev pub Row : {A : Type 0} → (A → Type 0) → ℕ → List A → Type 0
-Row Φ n l = (length l ≡ n) × All Φ l
+abbrev pub RowFormed : {A : Type 0} → (A → Type 0) → ℕ → List A → Type 0
+RowFormed Φ n l = (length l ≡ n) × All Φ l
 
 module _ {A : Type 0} {bytes : A → List ℕ} {Formed : A → Type 0} {r : Reader A} (w : Exact bytes Formed r) where
-  pub many-exact : (n : ℕ) → Exact (each bytes) (Row Formed n) (many r n)
+  pub many-exact : (n : ℕ) → Exact (each bytes) (RowFormed Formed n) (many r n)
   unfolding many
   many-exact zero = record { complete = none-complete; sound = λ l h xs n e. none-sound l xs n e }
     where
-      none-complete : (xs : List A) → Row Formed 0 xs → (s : List ℕ) → many r 0 (each bytes xs ++ s) ≡ found xs (length (each bytes xs))
+      none-complete : (xs : List A) → RowFormed Formed 0 xs → (s : List ℕ) → many r 0 (each bytes xs ++ s) ≡ found xs (length (each bytes xs))
       none-complete [] h s = refl
       none-complete (a ∷ xs) h s = absurd (omega (arith, h .0))
 
-      none-sound : (l : List ℕ) (xs : List A) (n : ℕ) → found [] 0 ≡ found xs n → Laid (each bytes) (Row Formed 0) l xs n
+      none-sound : (l : List ℕ) (xs : List A) (n : ℕ) → found [] 0 ≡ found xs n → Laid (each bytes) (RowFormed Formed 0) l xs n
       none-sound l xs n e =
           let p : _≡_ {A = List A} [] xs = cc in
           let q : 0 ≡ n = cc in
           rw (← p, ← q) (record { formed = (refl, tt); size = refl; front = refl })
   many-exact (suc n) = record { complete = more-complete (many-exact n); sound = λ l h xs m e. after-laid _∷_ r (many r n) w (many-exact n) (λ a xs x y. (refl, (ap suc (y .0), (x, y .1)))) l h xs m e }
     where
-      more-complete : Exact (each bytes) (Row Formed n) (many r n) → (xs : List A) → Row Formed (suc n) xs → (s : List ℕ) → many r (suc n) (each bytes xs ++ s) ≡ found xs (length (each bytes xs))
+      more-complete : Exact (each bytes) (RowFormed Formed n) (many r n) → (xs : List A) → RowFormed Formed (suc n) xs → (s : List ℕ) → many r (suc n) (each bytes xs ++ s) ≡ found xs (length (each bytes xs))
       more-complete v [] h s = absurd (omega (arith, h .0))
       more-complete v (a ∷ xs) h s = after-complete _∷_ r (many r n) w v a xs (h .1 .0) (omega (arith, h .0), h .1 .1) (bytes a ++ each bytes xs) refl s
 
@@ -132,7 +133,7 @@ module _ {A : Type 0} {bytes : A → List ℕ} {Formed : A → Type 0} {r : Read
       back : (l : List ℕ) → Bytes l → (k : Word) → WordLead l k → (xs : List A) (m : ℕ) → counted-by r k l ≡ found xs m → Laid (counted bytes) (Counted Formed) l xs m
       back l h (Number n) q xs m e =
           also-laid (word n) (λ x. x) (many r n) l (q .0) (many-exact n) h (λ b v. (ap (λ (k : ℕ). word k ++ each bytes b) (v .0), (rw (v .0) (q .1), v .1))) xs m e
-      back l h Short q xs m e = let y : _≡_ {A = ℕ} 0 1 = cc in absurd (omega arith)
+      back l h Short q xs m e = absurd (true≢false cc)
 
 -- one term, one goal
 pub term-exact : Exact term-bytes TermFormed read-term
@@ -143,7 +144,7 @@ term-exact = record { complete = λ t h s. whole t h s; sound = λ l b t n e. ba
     whole t h s = rw (complete-term t h 0 0 s, read-done) (ap (found t) (omega arith))
 
     back : (l : List ℕ) → Bytes l → (o : Read Parts) → read l 1 0 ≡ o → (t : Term) (n : ℕ) → made first-term o ≡ found t n → Laid term-bytes TermFormed l t n
-    back l b unread p t n e = let y : _≡_ {A = ℕ} 0 1 = cc in absurd (omega arith)
+    back l b unread p t n e = absurd (true≢false cc)
     back l b (found (parts nil gs) m) p t n e = absurd (omega (arith, sound l 1 0 (parts nil gs) m p .terms))
     back l b (found (parts (cons u (cons v ts)) gs) m) p t n e = absurd (omega (arith, sound l 1 0 (parts (cons u (cons v ts)) gs) m p .terms))
     back l b (found (parts (cons u nil) (a ∷ gs)) m) p t n e = absurd (omega (arith, sound l 1 0 (parts (cons u nil) (a ∷ gs)) m p .goals))
@@ -161,7 +162,7 @@ goal-exact = record { complete = λ a h s. whole a h s; sound = λ l b a n e. ba
     whole a h s = rw (complete-goal a h 0 s, read-done) (ap (found a) (omega arith))
 
     back : (l : List ℕ) → Bytes l → (o : Read Parts) → read l 0 1 ≡ o → (a : Goal) (n : ℕ) → made first-goal o ≡ found a n → Laid goal-bytes GoalFormed l a n
-    back l b unread p a n e = let y : _≡_ {A = ℕ} 0 1 = cc in absurd (omega arith)
+    back l b unread p a n e = absurd (true≢false cc)
     back l b (found (parts (cons t ts) gs) m) p a n e = absurd (omega (arith, sound l 0 1 (parts (cons t ts) gs) m p .terms))
     back l b (found (parts nil []) m) p a n e = absurd (omega (arith, sound l 0 1 (parts nil []) m p .goals))
     back l b (found (parts nil (x ∷ y ∷ gs)) m) p a n e = absurd (omega (arith, sound l 0 1 (parts nil (x ∷ y ∷ gs)) m p .goals))

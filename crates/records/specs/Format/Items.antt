@@ -32,9 +32,9 @@ abbrev pub Reader : Type 0 → Type 0
 Reader A = List ℕ → Read A
 
 -- one thing, and then another one from where the first ends
-abbrev pub after : {A B C : Type 0} → (A → B → C) → Read A → Reader B → List ℕ → Read C
-after f unread r l = unread
-after f (found a n) r l = also (f a) n (r (drop n l))
+abbrev pub then-read : {A B C : Type 0} → (A → B → C) → Read A → Reader B → List ℕ → Read C
+then-read f unread r l = unread
+then-read f (found a n) r l = also (f a) n (r (drop n l))
 
 -- what is made of a value
 abbrev pub made : {A B : Type 0} → (A → B) → Read A → Read B
@@ -44,7 +44,7 @@ made f (found a n) = found (f a) n
 -- a row of n
 unfoldable pub many : {A : Type 0} → Reader A → ℕ → Reader (List A)
 many r zero l = found [] 0
-many r (suc n) l = after _∷_ (r l) (many r n) l
+many r (suc n) l = then-read _∷_ (r l) (many r n) l
 
 -- a two-byte count, and so many
 abbrev pub counted-by : {A : Type 0} → Reader A → Word → Reader (List A)
@@ -75,13 +75,13 @@ unfoldable pub read-goal : Reader Goal
 read-goal l = made first-goal (read l 0 1)
 
 -- the half that a tag selects
-abbrev pub half : ℕ → Half
-half k = pick (eqb k 1) first second
+abbrev pub half-of : ℕ → Half
+half-of k = pick (eqb k 1) first second
 
 abbrev pub ancestor-by : AncestorHead → Reader Ancestor
 ancestor-by (Called p k) l = also (λ q. called p (terms-of q)) 4 (read (drop 4 l) k 0)
-ancestor-by (InConj k) l = also (λ q. in-conj (half k) (first-goal q) (second-goal q)) 2 (read (drop 2 l) 0 2)
-ancestor-by (InDisj k) l = also (λ q. in-disj (half k) (first-goal q) (second-goal q)) 2 (read (drop 2 l) 0 2)
+ancestor-by (InConj k) l = also (λ q. in-conj (half-of k) (first-goal q) (second-goal q)) 2 (read (drop 2 l) 0 2)
+ancestor-by (InDisj k) l = also (λ q. in-disj (half-of k) (first-goal q) (second-goal q)) 2 (read (drop 2 l) 0 2)
 ancestor-by NoAncestor l = unread
 
 unfoldable pub read-ancestor : Reader Ancestor
@@ -96,7 +96,7 @@ read-binding l = binding-by (word-head l) l
 
 abbrev pub bet-by : BetHead → Reader Bet
 bet-by (Unifier n) l = also unifier 3 (many read-binding n (drop 3 l))
-bet-by (Or k) l = found (or (half k)) 2
+bet-by (Or k) l = found (or (half-of k)) 2
 bet-by By l = also (λ q. by (first-goal q)) 1 (read (drop 1 l) 0 1)
 bet-by NoBet l = unread
 
@@ -122,7 +122,7 @@ pub data Stacks : Type 0 where
   stacks : List Ancestor → List Bet → Stacks
 
 unfoldable pub read-stacks : Reader Stacks
-read-stacks l = after stacks (read-counted read-ancestor l) (read-counted read-bet) l
+read-stacks l = then-read stacks (read-counted read-ancestor l) (read-counted read-bet) l
 
 abbrev pub port-of : ℕ → Read Port
 port-of b = pick (eqb b 1) (found call 1) (pick (eqb b 2) (found exit 1) (pick (eqb b 3) (found fail 1) (pick (eqb b 4) (found redo 1) unread)))
@@ -136,13 +136,13 @@ pub data Frame : Type 0 where
   frame : Goal → Stacks → Frame
 
 unfoldable pub read-frame : Reader Frame
-read-frame l = after frame (read-goal l) read-stacks l
+read-frame l = then-read frame (read-goal l) read-stacks l
 
-abbrev pub with-port : Port → Frame → Event
-with-port p (frame g (stacks u s)) = event p g u s
+abbrev pub event-of-frame : Port → Frame → Event
+event-of-frame p (frame g (stacks u s)) = event p g u s
 
 unfoldable pub read-event-bytes : Reader Event
-read-event-bytes l = after with-port (read-port l) read-frame l
+read-event-bytes l = then-read event-of-frame (read-port l) read-frame l
 
 abbrev pub read-program-bytes : Reader (List Definition)
 read-program-bytes = read-counted read-definition

@@ -33,10 +33,10 @@ abbrev pub goals-of : Parts → List Goal
 goals-of (parts ts gs) = gs
 
 -- the first k of some terms, and those after them
-abbrev pub front : ℕ → Terms → Terms
-front zero ts = nil
-front (suc k) nil = nil
-front (suc k) (cons t ts) = cons t (front k ts)
+abbrev pub leading : ℕ → Terms → Terms
+leading zero ts = nil
+leading (suc k) nil = nil
+leading (suc k) (cons t ts) = cons t (leading k ts)
 
 abbrev pub back : ℕ → Terms → Terms
 back zero ts = ts
@@ -48,13 +48,13 @@ abbrev pub over-variable : ℕ → Parts → Parts
 over-variable v p = parts (cons (var v) (terms-of p)) (goals-of p)
 
 abbrev pub over-symbol : ℕ → ℕ → Parts → Parts
-over-symbol f k p = parts (cons (app f (front k (terms-of p))) (back k (terms-of p))) (goals-of p)
+over-symbol f k p = parts (cons (app f (leading k (terms-of p))) (back k (terms-of p))) (goals-of p)
 
 abbrev pub over-goal : Goal → Parts → Parts
 over-goal g p = parts (terms-of p) (g ∷ goals-of p)
 
 abbrev pub over-atom : ℕ → ℕ → Parts → Parts
-over-atom f k p = parts (back k (terms-of p)) (atom f (front k (terms-of p)) ∷ goals-of p)
+over-atom f k p = parts (back k (terms-of p)) (atom f (leading k (terms-of p)) ∷ goals-of p)
 
 abbrev pub equal-of : Terms → List Goal → Parts
 equal-of nil gs = parts nil gs
@@ -73,11 +73,11 @@ abbrev pub over-pair : (Goal → Goal → Goal) → Parts → Parts
 over-pair op p = pair-of op (terms-of p) (goals-of p)
 
 -- what reads on with so many terms and goals to come
-abbrev pub Onward : Type 0
-Onward = ℕ → ℕ → Read Parts
+abbrev pub ReadOn : Type 0
+ReadOn = ℕ → ℕ → Read Parts
 
 -- one node by its heads; r1, r3 and r4 read on after 1, 3 and 4 bytes
-abbrev pub node : ℕ → ℕ → TermHead → GoalHead → Onward → Onward → Onward → Read Parts
+abbrev pub node : ℕ → ℕ → TermHead → GoalHead → ReadOn → ReadOn → ReadOn → Read Parts
 node zero zero h i r1 r3 r4 = found (parts nil []) 0
 node (suc t) g (Variable v) i r1 r3 r4 = also (over-variable v) 3 (r3 t g)
 node (suc t) g (Symbol f k) i r1 r3 r4 = also (over-symbol f k) 4 (r4 (k + t) g)
@@ -90,7 +90,7 @@ node zero (suc g) h Disj r1 r3 r4 = also (over-pair disj) 1 (r1 zero (suc (suc g
 node zero (suc g) h (Atom p k) r1 r3 r4 = also (over-atom p k) 4 (r4 k g)
 node zero (suc g) h NoGoal r1 r3 r4 = unread
 
-abbrev stop : Onward
+abbrev stop : ReadOn
 stop t g = unread
 
 unfoldable pub read : List ℕ → ℕ → ℕ → Read Parts

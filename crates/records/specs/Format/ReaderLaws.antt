@@ -4,6 +4,7 @@ use Prim.Native.Nat.{ℕ, zero, suc, _+_}
 use native.Mathlib.Nat.{suc-add, zero-add, add-zero}
 use native.Mathlib.Omega.{arith}
 use mathlib.Core.Path.{_≡_, refl, sym, ap, _∙_}
+use mathlib.Core.Bool.{true≢false}
 use mathlib.Core.List.{List, [], _∷_, _++_, append-assoc, append-nil}
 use lib.ListN.{length, drop, length-append}
 use lib.Seq.{drop-drop}
@@ -16,7 +17,7 @@ use Rattle.records.specs.Format.Encode.{word, each, term-bytes, terms-by
 use Rattle.records.specs.Format.Formed.{TermFormed, TermsFormed, GoalFormed, All}
 use Rattle.records.specs.Format.Heads.{term-head, goal-head}
 use Rattle.records.specs.Format.HeadLaws.{Bytes, bytes-drop, TermLead, GoalLead, term-lead, goal-lead, joined-word}
-use Rattle.records.specs.Format.Reader.{Read, Parts, also, terms-of, goals-of, front, back, over-variable, over-symbol, over-goal, over-atom, over-equal, over-pair, Onward, node, read}
+use Rattle.records.specs.Format.Reader.{Read, Parts, also, terms-of, goals-of, leading, back, over-variable, over-symbol, over-goal, over-atom, over-equal, over-pair, ReadOn, node, read}
 use Rattle.records.specs.Format.Reader.Read.{unread, found}
 use Rattle.records.specs.Format.Reader.Parts.{parts}
 use Rattle.records.specs.declared.heads.TermHead.{TermHead}
@@ -55,7 +56,7 @@ join (cons t ts) us = cons t (join ts us)
 abbrev pub over-terms : Terms → Parts → Parts
 over-terms ts p = parts (join ts (terms-of p)) (goals-of p)
 
-front-join : (ts us : Terms) → front (arity ts) (join ts us) ≡ ts
+front-join : (ts us : Terms) → leading (arity ts) (join ts us) ≡ ts
 front-join nil us = refl
 front-join (cons t ts) us = ap (cons t) (front-join ts us)
 
@@ -120,25 +121,25 @@ complete-goal (atom f ts) h n s =
 abbrev pub parts-bytes : Parts → List ℕ
 parts-bytes p = terms-bytes (terms-of p) ++ each goal-bytes (goals-of p)
 
-pub record Sound (l : List ℕ) (t g : ℕ) (p : Parts) (n : ℕ) : Type 0 where
+pub record ReadSound (l : List ℕ) (t g : ℕ) (p : Parts) (n : ℕ) : Type 0 where
   pub terms : arity (terms-of p) ≡ t
   pub goals : length (goals-of p) ≡ g
   pub size : n ≡ length (parts-bytes p)
   pub bytes : Bytes l → l ≡ parts-bytes p ++ drop n l
   pub formed : Bytes l → TermsFormed (terms-of p) × All GoalFormed (goals-of p)
 
-abbrev Sounds : List ℕ → Onward → Type 0
-Sounds l r = (t g : ℕ) (p : Parts) (n : ℕ) → r t g ≡ found p n → Sound l t g p n
+abbrev Sounds : List ℕ → ReadOn → Type 0
+Sounds l r = (t g : ℕ) (p : Parts) (n : ℕ) → r t g ≡ found p n → ReadSound l t g p n
 
 abbrev Step : Type 0
 Step = Parts → Parts
 
 pub never : {P : Type 0} {p : Parts} {n : ℕ} → unread ≡ found p n → P
-never e = let z : _≡_ {A = ℕ} 0 1 = cc in absurd (omega arith)
+never e = absurd (true≢false cc)
 
 -- what a node makes of what was read after it
-carried : (f : Step) (k : ℕ) (r : Read Parts) (l : List ℕ) (t g : ℕ) (p : Parts) (n : ℕ) → ((q : Parts) (m : ℕ) → r ≡ found q m → Sound l t g (f q) (k + m))
-    → also f k r ≡ found p n → Sound l t g p n
+carried : (f : Step) (k : ℕ) (r : Read Parts) (l : List ℕ) (t g : ℕ) (p : Parts) (n : ℕ) → ((q : Parts) (m : ℕ) → r ≡ found q m → ReadSound l t g (f q) (k + m))
+    → also f k r ≡ found p n → ReadSound l t g p n
 carried f k unread l t g p n s e = never e
 carried f k (found q m) l t g p n s e =
     let a : f q ≡ p = cc in
@@ -146,9 +147,9 @@ carried f k (found q m) l t g p n s e =
     rw (← a, ← b) (s q m refl)
 
 -- a node that stands before what was read: its own bytes x in front, if what it makes of the parts has these bytes
-over : (x : List ℕ) (l : List ℕ) (t g t′ g′ : ℕ) (f : Step) (q : Parts) (m : ℕ) → Sound (drop (length x) l) t g q m → arity (terms-of (f q)) ≡ t′ → length (goals-of (f q)) ≡ g′
+over : (x : List ℕ) (l : List ℕ) (t g t′ g′ : ℕ) (f : Step) (q : Parts) (m : ℕ) → ReadSound (drop (length x) l) t g q m → arity (terms-of (f q)) ≡ t′ → length (goals-of (f q)) ≡ g′
     → parts-bytes (f q) ≡ x ++ parts-bytes q → (Bytes l → l ≡ x ++ drop (length x) l)
-    → (Bytes l → TermsFormed (terms-of q) × All GoalFormed (goals-of q) → TermsFormed (terms-of (f q)) × All GoalFormed (goals-of (f q))) → Sound l t′ g′ (f q) (length x + m)
+    → (Bytes l → TermsFormed (terms-of q) × All GoalFormed (goals-of q) → TermsFormed (terms-of (f q)) × All GoalFormed (goals-of (f q))) → ReadSound l t′ g′ (f q) (length x + m)
 over x l t g t′ g′ f q m s et eg eb ex ef = record {
   terms = et;
   goals = eg;
@@ -159,7 +160,7 @@ over x l t g t′ g′ f q m s et eg eb ex ef = record {
   formed = λ h. ef h (s .formed (bytes-drop (length x) l h));
 }
 
-pub front-arity : (k n : ℕ) (ts : Terms) → arity ts ≡ k + n → arity (front k ts) ≡ k
+pub front-arity : (k n : ℕ) (ts : Terms) → arity ts ≡ k + n → arity (leading k ts) ≡ k
 front-arity zero n ts e = refl
 front-arity (suc k) n nil e = omega arith
 front-arity (suc k) n (cons t ts) e = ap suc (front-arity k n ts (omega arith))
@@ -169,18 +170,18 @@ back-arity zero n ts e = omega arith
 back-arity (suc k) n nil e = omega arith
 back-arity (suc k) n (cons t ts) e = back-arity k n ts (omega arith)
 
-pub bytes-split : (k : ℕ) (ts : Terms) → terms-bytes ts ≡ terms-bytes (front k ts) ++ terms-bytes (back k ts)
+pub bytes-split : (k : ℕ) (ts : Terms) → terms-bytes ts ≡ terms-bytes (leading k ts) ++ terms-bytes (back k ts)
 bytes-split zero ts = refl
 bytes-split (suc k) nil = refl
 bytes-split (suc k) (cons t ts) = rw (append-assoc, ← bytes-split k ts)
 
-pub formed-split : (k : ℕ) (ts : Terms) → TermsFormed ts → TermsFormed (front k ts) × TermsFormed (back k ts)
+pub formed-split : (k : ℕ) (ts : Terms) → TermsFormed ts → TermsFormed (leading k ts) × TermsFormed (back k ts)
 formed-split zero ts h = (tt, h)
 formed-split (suc k) nil h = (tt, tt)
 formed-split (suc k) (cons t ts) h = let w = formed-split k ts (h .1) in ((h .0, w .0), w .1)
 
 -- with no more than k terms, the first k are all
-pub none-back : (k : ℕ) (ts : Terms) → arity ts ≡ k → (front k ts ≡ ts) × (back k ts ≡ nil)
+pub none-back : (k : ℕ) (ts : Terms) → arity ts ≡ k → (leading k ts ≡ ts) × (back k ts ≡ nil)
 none-back zero nil e = (refl, refl)
 none-back zero (cons t ts) e = absurd (omega arith)
 none-back (suc k) nil e = absurd (omega arith)
@@ -191,13 +192,13 @@ none-left nil e = refl
 none-left (cons t ts) e = absurd (omega arith)
 
 -- one goal with no parts, before what was read
-goal-sound : (a : Goal) (c : ℕ) → goal-bytes a ≡ c ∷ [] → GoalFormed a → (l : List ℕ) (g : ℕ) (q : Parts) (m : ℕ) → (Bytes l → l ≡ c ∷ drop 1 l) → Sound (drop 1 l) zero g q m
-    → Sound l zero (suc g) (over-goal a q) (1 + m)
+goal-sound : (a : Goal) (c : ℕ) → goal-bytes a ≡ c ∷ [] → GoalFormed a → (l : List ℕ) (g : ℕ) (q : Parts) (m : ℕ) → (Bytes l → l ≡ c ∷ drop 1 l) → ReadSound (drop 1 l) zero g q m
+    → ReadSound l zero (suc g) (over-goal a q) (1 + m)
 goal-sound a c e w l g (parts ts gs) m h s =
     let z : ts ≡ nil = none-left ts (s .terms) in
     over (c ∷ []) l zero g zero (suc g) (over-goal a) (parts ts gs) m s (s .terms) (ap suc (s .goals)) (rw (z, e)) h (λ b f. (f .0, (w, f .1)))
 
-equal-sound : (l : List ℕ) (g : ℕ) (q : Parts) (m : ℕ) → (Bytes l → l ≡ 0x12 ∷ drop 1 l) → Sound (drop 1 l) 2 g q m → Sound l zero (suc g) (over-equal q) (1 + m)
+equal-sound : (l : List ℕ) (g : ℕ) (q : Parts) (m : ℕ) → (Bytes l → l ≡ 0x12 ∷ drop 1 l) → ReadSound (drop 1 l) 2 g q m → ReadSound l zero (suc g) (over-equal q) (1 + m)
 equal-sound l g (parts nil gs) m h s = absurd (omega (arith, s .terms))
 equal-sound l g (parts (cons t nil) gs) m h s = absurd (omega (arith, s .terms))
 equal-sound l g (parts (cons t (cons u nil)) gs) m h s =
@@ -205,7 +206,7 @@ equal-sound l g (parts (cons t (cons u nil)) gs) m h s =
 equal-sound l g (parts (cons t (cons u (cons v ts))) gs) m h s = absurd (omega (arith, s .terms))
 
 pair-sound : (op : Goal → Goal → Goal) (c : ℕ) → ((x y : Goal) → goal-bytes (op x y) ≡ c ∷ (goal-bytes x ++ goal-bytes y)) → ((x y : Goal) → GoalFormed x → GoalFormed y → GoalFormed (op x y))
-    → (l : List ℕ) (g : ℕ) (q : Parts) (m : ℕ) → (Bytes l → l ≡ c ∷ drop 1 l) → Sound (drop 1 l) zero (suc (suc g)) q m → Sound l zero (suc g) (over-pair op q) (1 + m)
+    → (l : List ℕ) (g : ℕ) (q : Parts) (m : ℕ) → (Bytes l → l ≡ c ∷ drop 1 l) → ReadSound (drop 1 l) zero (suc (suc g)) q m → ReadSound l zero (suc g) (over-pair op q) (1 + m)
 pair-sound op c lay form l g (parts ts []) m h s = absurd (omega (arith, s .goals))
 pair-sound op c lay form l g (parts ts (x ∷ [])) m h s = absurd (omega (arith, s .goals))
 pair-sound op c lay form l g (parts ts (x ∷ y ∷ gs)) m h s =
@@ -214,26 +215,26 @@ pair-sound op c lay form l g (parts ts (x ∷ y ∷ gs)) m h s =
     over (c ∷ []) l zero (suc (suc g)) zero (suc g) (over-pair op) (parts ts (x ∷ y ∷ gs)) m s (s .terms) (ap suc e) (rw (z, lay x y) (simp append-assoc)) h
     (λ b f. (f .0, (form x y (f .1 .0) (f .1 .1 .0), f .1 .1 .1)))
 
-atom-sound : (p k : ℕ) (l : List ℕ) (g : ℕ) (q : Parts) (m : ℕ) → (Bytes l → GoalLead l (Atom p k)) → Sound (drop 4 l) k g q m → Sound l zero (suc g) (over-atom p k q) (4 + m)
+atom-sound : (p k : ℕ) (l : List ℕ) (g : ℕ) (q : Parts) (m : ℕ) → (Bytes l → GoalLead l (Atom p k)) → ReadSound (drop 4 l) k g q m → ReadSound l zero (suc g) (over-atom p k q) (4 + m)
 atom-sound p k l g (parts ts gs) m h s =
     let w = none-back k ts (s .terms) in
     over (0x15 ∷ (word p ++ (k ∷ []))) l k g zero (suc g) (over-atom p k) (parts ts gs) m s (ap arity (w .1)) (ap suc (s .goals))
     (rw (w .0, w .1, s .terms) (simp append-assoc)) (λ b. h b .0) (λ b f. rw (w .0, w .1) (tt, ((h b .1, rw (s .terms) (h b .2), f .0), f .1)))
 
-symbol-sound : (f k : ℕ) (l : List ℕ) (t g : ℕ) (q : Parts) (m : ℕ) → (Bytes l → TermLead l (Symbol f k)) → Sound (drop 4 l) (k + t) g q m → Sound l (suc t) g (over-symbol f k q) (4 + m)
+symbol-sound : (f k : ℕ) (l : List ℕ) (t g : ℕ) (q : Parts) (m : ℕ) → (Bytes l → TermLead l (Symbol f k)) → ReadSound (drop 4 l) (k + t) g q m → ReadSound l (suc t) g (over-symbol f k q) (4 + m)
 symbol-sound f k l t g (parts ts gs) m h s =
     let a = front-arity k t ts (s .terms) in
     over (0x02 ∷ (word f ++ (k ∷ []))) l (k + t) g (suc t) g (over-symbol f k) (parts ts gs) m s (ap suc (back-arity k t ts (s .terms))) (s .goals)
-    (ap (λ (n : ℕ). 0x02 ∷ (word f ++ (n ∷ ((terms-bytes (front k ts) ++ terms-bytes (back k ts)) ++ each goal-bytes gs)))) a
+    (ap (λ (n : ℕ). 0x02 ∷ (word f ++ (n ∷ ((terms-bytes (leading k ts) ++ terms-bytes (back k ts)) ++ each goal-bytes gs)))) a
     ∙ ap (λ (r : List ℕ). 0x02 ∷ (word f ++ (k ∷ (r ++ each goal-bytes gs)))) (sym (bytes-split k ts))) (λ b. h b .0)
     (λ b w. let v = formed-split k ts (w .0) in (((h b .1, rw a (h b .2), v .0), v .1), w .1))
 
-variable-sound : (v : ℕ) (l : List ℕ) (t g : ℕ) (q : Parts) (m : ℕ) → (Bytes l → TermLead l (Variable v)) → Sound (drop 3 l) t g q m → Sound l (suc t) g (over-variable v q) (3 + m)
+variable-sound : (v : ℕ) (l : List ℕ) (t g : ℕ) (q : Parts) (m : ℕ) → (Bytes l → TermLead l (Variable v)) → ReadSound (drop 3 l) t g q m → ReadSound l (suc t) g (over-variable v q) (3 + m)
 variable-sound v l t g (parts ts gs) m h s =
     over (0x01 ∷ word v) l t g (suc t) g (over-variable v) (parts ts gs) m s (ap suc (s .terms)) (s .goals) refl (λ b. h b .0) (λ b w. ((h b .1, w .0), w .1))
 
-node-sound : (l : List ℕ) (t g : ℕ) (h : TermHead) (i : GoalHead) (r1 r3 r4 : Onward) → (Bytes l → TermLead l h) → (Bytes l → GoalLead l i)
-    → Sounds (drop 1 l) r1 → Sounds (drop 3 l) r3 → Sounds (drop 4 l) r4 → (p : Parts) (n : ℕ) → node t g h i r1 r3 r4 ≡ found p n → Sound l t g p n
+node-sound : (l : List ℕ) (t g : ℕ) (h : TermHead) (i : GoalHead) (r1 r3 r4 : ReadOn) → (Bytes l → TermLead l h) → (Bytes l → GoalLead l i)
+    → Sounds (drop 1 l) r1 → Sounds (drop 3 l) r3 → Sounds (drop 4 l) r4 → (p : Parts) (n : ℕ) → node t g h i r1 r3 r4 ≡ found p n → ReadSound l t g p n
 node-sound l zero zero h i r1 r3 r4 x y s1 s3 s4 p n = λ e.
     let q : parts nil [] ≡ p = cc in
     let z : 0 ≡ n = cc in
@@ -251,10 +252,10 @@ node-sound l zero (suc g) h Disj r1 r3 r4 x y s1 s3 s4 p n =
 node-sound l zero (suc g) h (Atom f k) r1 r3 r4 x y s1 s3 s4 p n = carried (over-atom f k) 4 (r4 k g) l zero (suc g) p n (λ q m e. atom-sound f k l g q m y (s4 k g q m e))
 node-sound l zero (suc g) h NoGoal r1 r3 r4 x y s1 s3 s4 p n = never
 
-nothing-sound : (t g : ℕ) (p : Parts) (n : ℕ) → node t g NoTerm NoGoal (λ _ _. unread) (λ _ _. unread) (λ _ _. unread) ≡ found p n → Sound [] t g p n
+nothing-sound : (t g : ℕ) (p : Parts) (n : ℕ) → node t g NoTerm NoGoal (λ _ _. unread) (λ _ _. unread) (λ _ _. unread) ≡ found p n → ReadSound [] t g p n
 nothing-sound t g = node-sound [] t g NoTerm NoGoal _ _ _ (λ _. tt) (λ _. tt) (λ _ _ _ _. never) (λ _ _ _ _. never) (λ _ _ _ _. never)
 
-pub sound : (l : List ℕ) (t g : ℕ) (p : Parts) (n : ℕ) → read l t g ≡ found p n → Sound l t g p n
+pub sound : (l : List ℕ) (t g : ℕ) (p : Parts) (n : ℕ) → read l t g ≡ found p n → ReadSound l t g p n
 unfolding read
 sound =
     down (λ l. Sounds l (read l)) (λ t g. nothing-sound t g)

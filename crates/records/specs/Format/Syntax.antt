@@ -1,4 +1,4 @@
--- Abstract syntax: what the desk's records say (document 01, "Records").
+-- Abstract syntax: what the desk's records say (SPECIFICATION 1).
 -- Choices: terms and argument lists are declared together, since terms hold argument lists and argument lists hold terms; an atom among the
 -- ancestors is a constructor of its own, so that no other goal can stand there; stacks are lists with their top first; an event is a data type
 -- with one constructor, so that a rule can match into it. Equality is decidable throughout.
@@ -68,12 +68,10 @@ pub data Event : Type 0 where
 -- predicate, arity, number of locals, body; variables below the arity are the head's, the next ones the locals
 pub data Definition : Type 0 where
   definition : ℕ → ℕ → ℕ → Goal → Definition
-  deriving Discrete as Definition-discrete
 
 -- predicate, number of variables, head arguments, body
 pub data Clause : Type 0 where
   clause : ℕ → ℕ → Terms → Goal → Clause
-  deriving Discrete as Clause-discrete
 
 -- The library's decision for lists does not unfold elsewhere; this one computes.
 unfoldable pub list? : {A : Type 0} → Discrete A → Discrete (List A)
@@ -114,11 +112,3 @@ bet? = Bet-discrete bindings? Half-discrete goal?
 unfoldable pub event? : Discrete Event
 unfolding goal? ancestor? bet? list?
 event? = Event-discrete Port-discrete goal? (list? ancestor?) (list? bet?)
-
-unfoldable pub definition? : Discrete Definition
-unfolding ℕ-discrete goal?
-definition? = Definition-discrete ℕ-discrete goal?
-
-unfoldable pub clause? : Discrete Clause
-unfolding ℕ-discrete terms? goal?
-clause? = Clause-discrete ℕ-discrete terms? goal?

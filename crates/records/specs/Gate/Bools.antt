@@ -1,6 +1,6 @@
 -- Laws of tests on lists: of every element, of membership, and of rising numbers.
 use mathlib.Core.Path.{_≡_, refl, sym, ap, _∙_}
-use mathlib.Core.Bool.{Bool, true, false, _&&_, _||_, and-assoc, or-assoc, or-comm}
+use mathlib.Core.Bool.{Bool, true, false, _&&_, _||_, and-assoc, or-assoc, or-comm, true≢false}
 use mathlib.Core.Logic.{dite}
 use mathlib.Core.List.{List, [], _∷_, _++_}
 use Prim.Native.Nat.{ℕ, zero, suc, _+_, _≤_, _<_}
@@ -20,7 +20,7 @@ same-truth false false f g = refl
 -- both halves of a test that is true
 pub and-both : (a b : Bool) → (a && b) ≡ true → (a ≡ true) × (b ≡ true)
 and-both true b e = (refl, e)
-and-both false b e = let z : _≡_ {A = ℕ} 0 1 = cc in absurd (omega arith)
+and-both false b e = absurd (true≢false cc)
 
 -- every part of two lists, one after the other
 pub every-append : {A : Type 0} (f : A → Bool) (l k : List A) → every f (l ++ k) ≡ (every f l && every f k)

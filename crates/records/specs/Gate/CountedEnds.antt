@@ -3,68 +3,51 @@ use Prim.Native.Nat.{ℕ, _+_, _-_}
 use mathlib.Core.Path.{_≡_, refl, sym, _∙_}
 use mathlib.Core.Bool.{Bool, true, false, _&&_}
 use mathlib.Core.List.{List}
-use lib.ListN.{drop}
-use Rattle.records.specs.Format.Syntax.{Goal}
-use Rattle.records.specs.Gate.RecordRules.{every, keys, rising, bet-rules, definition-rules, clause-rules, query-rules, program-rules, clauses-rules}
+use Rattle.records.specs.Gate.RecordRules.{every, keys, rising, definition-rules, query-rules, program-rules, clauses-rules}
 use Rattle.records.specs.Gate.Question.Asked.{rules}
 use Rattle.records.specs.Format.Heads.{word-at}
-use Rattle.records.specs.Format.Reader.{Read}
-use Rattle.records.specs.Format.Reader.Read.{unread, found}
-use Rattle.records.specs.Format.Items.{Reader, many, read-counted, read-goal, read-ancestor, read-bet, read-definition, read-clause, read-program-bytes, read-clauses-bytes}
-use Rattle.records.specs.Ends.Walk.{end-of, end-at}
-use Rattle.records.specs.Ends.ItemEnds.{goal-ends, items-end}
-use Rattle.records.specs.Gate.Rows.{Ends, holds, kept-at, row-at, kept-row, kept-both, counted-ends, counted-never}
+use Rattle.records.specs.Format.Items.{read-counted, read-goal, read-definition, read-program-bytes, read-clauses-bytes}
+use Rattle.records.specs.Ends.Traversal.{end-of, end-at}
+use Rattle.records.specs.Ends.ItemEnds.{item-reader, goal-ends, items-end}
+use Rattle.records.specs.Gate.Rows.{Ends, kept-at, kept-row, kept-both, counted-ends, counted-never, items-kept, item-rules, no-rules}
 use Rattle.records.specs.Gate.Rows as rows
-use Rattle.records.specs.Gate.ItemsKept.{items-kept}
-use Rattle.records.specs.Gate.Gate.{framed, of-version, read-query, read-program, read-clauses, verdict}
+use Rattle.records.specs.Gate.Ranks.{ranks-end, ranks-rise}
+use Rattle.records.specs.declared.rules.Ranked.the-variants.{Definitions}
+use Rattle.records.specs.Gate.Gate.{read-query, read-program, read-clauses, verdict}
 use Rattle.records.specs.declared.gate.Verdict.{Verdict}
 use Rattle.records.specs.declared.gate.Verdict.the-variants.{Grammar}
+use Rattle.records.specs.declared.gate.Opening.{Opening}
+use Rattle.records.specs.declared.gate.Opening.the-variants.{Open}
 use Rattle.records.specs.declared.ends.Found.{Found}
 use Rattle.records.specs.declared.ends.Found.the-variants.{At, Nothing}
 use Rattle.records.specs.declared.ends.Item.{Item}
-use Rattle.records.specs.declared.ends.Item.the-variants.{Ancestor, Bet, Definition as Defined, Clause}
+use Rattle.records.specs.declared.ends.Item.the-variants.{Definition as Defined, Clause}
 use Rattle.records.specs.declared.heads.Word.{Word}
 use Rattle.records.specs.declared.heads.Word.the-variants.{Number, Short}
-use Rattle.records.specs.Gate.GateEnds.{judged-at, unreadable, readable}
+use Rattle.records.specs.Gate.GateEnds.{opening-of, judged-at, unreadable, readable}
 
 -- a count, and so many items of one kind
 unfoldable pub counted-end : Item → List ℕ → ℕ → Found
-counted-end Ancestor = end-of (read-counted read-ancestor)
-counted-end Bet = end-of (read-counted read-bet)
-counted-end Defined = end-of (read-counted read-definition)
-counted-end Clause = end-of (read-counted read-clause)
+counted-end i = end-of (read-counted (item-reader i))
 
 -- the rules of each of them
 unfoldable pub counted-kept : Item → List ℕ → ℕ → Bool
-counted-kept Ancestor s at = true
-counted-kept Bet s at = kept-at (every bet-rules) (read-counted read-bet) s at
-counted-kept Defined s at = kept-at (every definition-rules) (read-counted read-definition) s at
-counted-kept Clause s at = kept-at (every clause-rules) (read-counted read-clause) s at
+counted-kept i = kept-at (every (item-rules i)) (read-counted (item-reader i))
 
 module _ (s : List ℕ) (at : ℕ) {w : Word} (is : w ≡ word-at s at) where
   pub row-end : (i : Item) {n : ℕ} → w ≡ Number n → items-end i n s (at + 2) ≡ counted-end i s at
   unfolding items-end counted-end
-  row-end Ancestor q = sym (counted-ends read-ancestor s at is q)
-  row-end Bet q = sym (counted-ends read-bet s at is q)
-  row-end Defined q = sym (counted-ends read-definition s at is q)
-  row-end Clause q = sym (counted-ends read-clause s at is q)
+  row-end i q = sym (counted-ends (item-reader i) s at is q)
 
   pub no-row : (i : Item) → w ≡ Short → Nothing ≡ counted-end i s at
   unfolding counted-end
-  no-row Ancestor q = sym (counted-never read-ancestor s at is q)
-  no-row Bet q = sym (counted-never read-bet s at is q)
-  no-row Defined q = sym (counted-never read-definition s at is q)
-  no-row Clause q = sym (counted-never read-clause s at is q)
-
-  every-row : {A : Type 0} (kept : A → Bool) (r : Reader A) {n : ℕ} → w ≡ Number n → every kept (row-at r n s (at + 2)) ≡ kept-at (every kept) (read-counted r) s at
-  every-row kept r {n} q = sym (rows.counted-kept r s at (every kept) is q ∙ kept-row (every kept) r n s (at + 2) refl)
+  no-row i q = sym (counted-never (item-reader i) s at is q)
 
   pub row-kept : (i : Item) {n : ℕ} → w ≡ Number n → items-kept i n s (at + 2) ≡ counted-kept i s at
   unfolding items-kept counted-kept
-  row-kept Ancestor q = refl
-  row-kept Bet q = every-row bet-rules read-bet q
-  row-kept Defined q = every-row definition-rules read-definition q
-  row-kept Clause q = every-row clause-rules read-clause q
+  row-kept i {n} q =
+      let rules = every (item-rules i) in
+      sym (rows.counted-kept (item-reader i) s at rules is q ∙ kept-row rules (item-reader i) n s (at + 2) refl)
 
   pub row-found : (i : Item) {n : ℕ} → w ≡ Number n → Ends (counted-end i s at) → Ends (items-end i n s (at + 2))
   row-found i q x = rw (row-end i q) x
@@ -76,8 +59,8 @@ module _ (s : List ℕ) (at : ℕ) {w : Word} (is : w ≡ word-at s at) where
 unfoldable pub program-rises : List ℕ → Bool
 program-rises s = kept-at (λ ds. rising (keys ds)) read-program-bytes s 3
 
-pub program-row : (s : List ℕ) {w : Word} {n : ℕ} → w ≡ word-at s 3 → w ≡ Number n → rising (keys (row-at read-definition n s 5)) ≡ program-rises s
-unfolding program-rises
+pub program-row : (s : List ℕ) {w : Word} {n : ℕ} → w ≡ word-at s 3 → w ≡ Number n → ranks-rise Definitions 0 n s 5 ≡ program-rises s
+unfolding program-rises ranks-rise
 program-row s {w} {n} is q = sym (rows.counted-kept read-definition s 3 (λ ds. rising (keys ds)) is q ∙ kept-row (λ ds. rising (keys ds)) read-definition n s 5 refl)
 
 pub program-parts : (s : List ℕ) → kept-at program-rules read-program-bytes s 3 ≡ (program-rises s && counted-kept Defined s 3)
@@ -85,7 +68,8 @@ unfolding program-rules program-rises counted-kept
 program-parts s = kept-both (λ ds. rising (keys ds)) (every definition-rules) read-program-bytes s 3
 
 module _ (s : List ℕ) {w : Word} (is : w ≡ word-at s 3) (h : Ends (end-of read-program-bytes s 3)) where
-  pub definitions-found : {n : ℕ} → w ≡ Number n → Ends (end-of (many read-definition n) s 5)
+  pub definitions-found : {n : ℕ} → w ≡ Number n → Ends (ranks-end Definitions n s 5)
+  unfolding ranks-end
   definitions-found q = rw (counted-ends read-definition s 3 is q) at h
 
   pub definitions-lost : {P : Type 0} → w ≡ Short → P
@@ -106,33 +90,28 @@ unfolding clauses-rules counted-kept
 clauses-parts s = refl
 
 -- the other record kinds
-module _ (s : List ℕ) (f : framed s ≡ true) (v : of-version s ≡ true) {p : Found} where
+module _ (s : List ℕ) {o : Opening} (asked : o ≡ opening-of s) (granted : o ≡ Open) {p : Found} where
   pub query-unread : p ≡ end-at s 3 0 1 → p ≡ Nothing → Grammar ≡ verdict (read-query s)
-  query-unread is q = unreadable read-goal query-rules s f v {p = p} (is ∙ sym (goal-ends s 3)) q
+  query-unread is q = unreadable read-goal query-rules s asked granted {p = p} (is ∙ sym (goal-ends s 3)) q
 
   pub query-judged : {e : ℕ} {r : Verdict} → p ≡ end-at s 3 0 1 → p ≡ At e → r ≡ judged-at s e true → r ≡ verdict (read-query s)
-  unfolding kept-at
-  query-judged is q w = w ∙ readable read-goal query-rules s f v {p = p} (is ∙ sym (goal-ends s 3)) q (sym (always (read-goal (drop 3 s))))
-    where
-      always : (o : Read Goal) → holds query-rules o ≡ true
-      always unread = refl
-      always (found a n) = refl
+  query-judged is q w = w ∙ readable read-goal query-rules s asked granted {p = p} (is ∙ sym (goal-ends s 3)) q (no-rules read-goal s 3)
 
   pub program-unread : p ≡ counted-end Defined s 3 → p ≡ Nothing → Grammar ≡ verdict (read-program s)
   unfolding counted-end
-  program-unread is q = unreadable read-program-bytes program-rules s f v {p = p} is q
+  program-unread is q = unreadable read-program-bytes program-rules s asked granted {p = p} is q
 
   pub program-judged : {e : ℕ} {k : Bool} {r : Verdict} → p ≡ counted-end Defined s 3 → p ≡ At e → k ≡ kept-at program-rules read-program-bytes s 3 → r ≡ judged-at s e k → r ≡ verdict (read-program s)
   unfolding counted-end
-  program-judged is q w y = y ∙ readable read-program-bytes program-rules s f v {p = p} is q w
+  program-judged is q w y = y ∙ readable read-program-bytes program-rules s asked granted {p = p} is q w
 
   pub clauses-unread : p ≡ counted-end Clause s 3 → p ≡ Nothing → Grammar ≡ verdict (read-clauses s)
   unfolding counted-end
-  clauses-unread is q = unreadable read-clauses-bytes clauses-rules s f v {p = p} is q
+  clauses-unread is q = unreadable read-clauses-bytes clauses-rules s asked granted {p = p} is q
 
   pub clauses-judged : {e : ℕ} {k : Bool} {r : Verdict} → p ≡ counted-end Clause s 3 → p ≡ At e → k ≡ counted-kept Clause s 3 → r ≡ judged-at s e k → r ≡ verdict (read-clauses s)
   unfolding counted-end
-  clauses-judged is q w y = y ∙ readable read-clauses-bytes clauses-rules s f v {p = p} is q (w ∙ sym (clauses-parts s))
+  clauses-judged is q w y = y ∙ readable read-clauses-bytes clauses-rules s asked granted {p = p} is q (w ∙ sym (clauses-parts s))
 
   pub program-found : {e : ℕ} → p ≡ counted-end Defined s 3 → p ≡ At e → Ends (end-of read-program-bytes s 3)
   unfolding counted-end

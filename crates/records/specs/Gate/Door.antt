@@ -1,9 +1,11 @@
 -- The door of the services: the questions that are put to the records and the output before anything else. The first no decides.
 use mathlib.Core.Path.{_≡_}
+use mathlib.Core.List.{List}
 use Prim.Native.Nat.{ℕ}
 use lib.Dec.{leb}
 use Rattle.records.specs.Gate.Question.{of-program, of-event, output}
-use Rattle.records.specs.Gate.Gate.{Reading, tree}
+use Rattle.records.specs.Format.Syntax.{Event, Definition}
+use Rattle.records.specs.Gate.Gate.{Reading, tree, read-program, read-event}
 use Rattle.records.specs.Gate.Reply.{Answer, refused, gives, on-yes, through}
 
 -- 1 to 4 of a program or a clause record
@@ -26,12 +28,12 @@ unfoldable pub door : {A B : Type 0} → Reading A → Reading B → Answer (Tre
 unfolding through program-door event-door
 door p e = through refused (program-door p) (λ a. through refused (event-door e) (λ b. gives (record { program = a; event = b })))
 
--- two records that pass, and what they say
-pub record Passed {A B : Type 0} (p : Reading A) (e : Reading B) : Type 0 where
-  pub program : A
-  pub program-reads : p ≡ tree program
-  pub event : B
-  pub reads : e ≡ tree event
+-- a program record and an event record that pass, and what they say
+pub record Passed (program s : List ℕ) : Type 0 where
+  pub definitions : List Definition
+  pub program-reads : read-program program ≡ tree definitions
+  pub event : Event
+  pub reads : read-event s ≡ tree event
 
 -- 5 of an output of `room` bytes, and then what follows
 unfoldable pub with-room : {A : Type 0} → ℕ → Answer A → Answer A

@@ -1,11 +1,12 @@
 -- Laws of the door: each of its outcomes, and what passing it says of the records and the output.
-use mathlib.Core.Path.{_≡_, refl, _∙_}
+use mathlib.Core.Path.{_≡_, refl, ap, _∙_}
+use mathlib.Core.Bool.{Bool, true, false, true≢false}
+use mathlib.Core.List.{List}
 use Prim.Native.Nat.{ℕ, _≤_, _<_}
-use native.Mathlib.Omega.{arith}
 use lib.Dec.{leb}
 use borrow.Author.Tests.{le-leb, lt-leb, leb-true}
-use Rattle.records.specs.Gate.Question.{Asked, framing, version, grammar, rules, of-program, of-event, output, number}
-use Rattle.records.specs.Gate.Gate.{Reading, tree, verdict, program-number, event-number}
+use Rattle.records.specs.Gate.Question.{Asked, framing, version, grammar, rules, of-program, of-event, output, question-number}
+use Rattle.records.specs.Gate.Gate.{Reading, tree, read-program, read-event, verdict, program-number, event-number}
 use Rattle.records.specs.Gate.Reply.{Answer, refused, gives, on-yes, through, answer-number}
 use Rattle.records.specs.Gate.ReplyLaws.{number-refuses, number-gives, yes-gives, through-gives, through-number}
 use Rattle.records.specs.Gate.Door.{program-door, event-door, Trees, door, Passed, with-room, gate}
@@ -23,16 +24,25 @@ pub room-gives : {A : Type 0} (room : ℕ) (next : Answer A) {x : A} → with-ro
 unfolding with-room
 room-gives room next e = let w = yes-gives output (leb 32768 room) next e in (leb-true 32768 room (w .0), w .1)
 
+-- what follows an output's question
+pub room-then : {A B : Type 0} (room : ℕ) (x : A) (next : A → Answer B) → through refused (with-room room (gives x)) next ≡ with-room room (next x)
+unfolding with-room on-yes through
+room-then room x next = go (leb 32768 room)
+  where
+    go : (b : Bool) → through refused (on-yes output b (gives x)) next ≡ on-yes output b (next x)
+    go true = refl
+    go false = refl
+
 -- one record: what passes its door is what it says
 module _ {A : Type 0} where
-  program-gives : (r : Reading A) {a : A} → program-door r ≡ gives a → r ≡ tree a
+  pub program-gives : (r : Reading A) {a : A} → program-door r ≡ gives a → r ≡ tree a
   unfolding program-door
-  program-gives (Reading.refused q) e = absurd (let z : _≡_ {A = ℕ} 0 1 = cc in omega arith)
+  program-gives (Reading.refused q) e = absurd (true≢false cc)
   program-gives (tree b) e = cc
 
-  event-gives : (r : Reading A) {a : A} → event-door r ≡ gives a → r ≡ tree a
+  pub event-gives : (r : Reading A) {a : A} → event-door r ≡ gives a → r ≡ tree a
   unfolding event-door
-  event-gives (Reading.refused q) e = absurd (let z : _≡_ {A = ℕ} 0 1 = cc in omega arith)
+  event-gives (Reading.refused q) e = absurd (true≢false cc)
   event-gives (tree b) e = cc
 
   -- by the number 0
@@ -44,7 +54,7 @@ module _ {A : Type 0} where
 
   -- the number of the verdict is the door's
   pub program-door-number : (r : Reading A) → program-number (verdict r) ≡ answer-number (program-door r)
-  unfolding program-door answer-number number
+  unfolding program-door answer-number question-number
   program-door-number (Reading.refused framing) = refl
   program-door-number (Reading.refused version) = refl
   program-door-number (Reading.refused grammar) = refl
@@ -52,7 +62,7 @@ module _ {A : Type 0} where
   program-door-number (tree a) = refl
 
   pub event-door-number : (r : Reading A) → event-number (verdict r) ≡ answer-number (event-door r)
-  unfolding event-door answer-number number
+  unfolding event-door answer-number question-number
   event-door-number (Reading.refused framing) = refl
   event-door-number (Reading.refused version) = refl
   event-door-number (Reading.refused grammar) = refl
@@ -74,27 +84,45 @@ module _ {A B : Type 0} (p : Reading A) (e : Reading B) where
   unfolding door program-door event-door through
   door-both h k = rw (h, k)
 
+  pub gate-room : {a : A} {b : B} (room : ℕ) → p ≡ tree a → e ≡ tree b → gate p e room ≡ with-room room (gives (record { program = a; event = b }))
+  unfolding gate through
+  gate-room room h k = rw (door-both h k)
+
   pub gate-both : {a : A} {b : B} {room : ℕ} → p ≡ tree a → e ≡ tree b → 32768 ≤ room → gate p e room ≡ gives (record { program = a; event = b })
   unfolding gate through
-  gate-both {a} {b} h k n = rw (door-both h k) (room-enough (gives (record { program = a; event = b })) n)
+  gate-both {a} {b} {room} h k n = gate-room room h k ∙ (room-enough (gives (record { program = a; event = b })) n)
 
   -- what passes is what both say
-  door-gives : {t : Trees A B} → door p e ≡ gives t → Passed p e
+  pub door-gives : {t : Trees A B} → door p e ≡ gives t → (p ≡ tree (t .program)) × (e ≡ tree (t .event))
   unfolding door
-  door-gives h =
+  door-gives {t} h =
       let w = through-gives (program-door p) _ h in
       let v = through-gives (event-door e) _ (w .2) in
-      record { program = w .0; program-reads = program-gives p (w .1); event = v .0; reads = event-gives e (v .1) }
+      let same : record { program = w .0; event = v .0 } ≡ t = cc in
+      (program-gives p (w .1) ∙ ap (λ x. tree (x .program)) same, event-gives e (v .1) ∙ ap (λ x. tree (x .event)) same)
 
-  -- by the number 0
-  pub door-open : {n : ℕ} → n ≡ answer-number (door p e) → n ≡ 0 → Passed p e
-  door-open i z = door-gives (number-gives (door p e) i z .1)
-
-  pub gate-open : (room : ℕ) {n : ℕ} → n ≡ answer-number (gate p e room) → n ≡ 0 → Passed p e × (32768 ≤ room)
+  pub gate-gives : (room : ℕ) {t : Trees A B} → gate p e room ≡ gives t → (p ≡ tree (t .program)) × (e ≡ tree (t .event)) × (32768 ≤ room)
   unfolding gate
+  gate-gives room {t} h =
+      let w = through-gives (door p e) _ h in
+      let k = room-gives room (gives (w .0)) (w .2) in
+      let same : w .0 ≡ t = cc in
+      let r = door-gives (w .1) in
+      (r .0 ∙ ap (λ x. tree (x .program)) same, r .1 ∙ ap (λ x. tree (x .event)) same, k .0)
+
+-- by the number 0
+module _ (program s : List ℕ) {n : ℕ} where
+  pub door-open : n ≡ answer-number (door (read-program program) (read-event s)) → n ≡ 0 → Passed program s
+  door-open i z =
+      let w = number-gives (door (read-program program) (read-event s)) i z in
+      let g = door-gives (read-program program) (read-event s) (w .1) in
+      record { definitions = w .0 .program; program-reads = g .0; event = w .0 .event; reads = g .1 }
+
+  pub gate-open : (room : ℕ) → n ≡ answer-number (gate (read-program program) (read-event s) room) → n ≡ 0 → Passed program s × (32768 ≤ room)
   gate-open room i z =
-      let w = through-gives (door p e) _ (number-gives (gate p e room) i z .1) in
-      (door-gives (w .1), room-gives room (gives (w .0)) (w .2) .0)
+      let w = number-gives (gate (read-program program) (read-event s) room) i z in
+      let g = gate-gives (read-program program) (read-event s) room (w .1) in
+      (record { definitions = w .0 .program; program-reads = g .0; event = w .0 .event; reads = g .1 }, g .2)
 
 -- the numbers of the door and the gate, from the numbers of their parts
 module _ {A B : Type 0} (p : Reading A) (e : Reading B) {n : ℕ} where
@@ -119,7 +147,7 @@ module _ {A B : Type 0} (p : Reading A) (e : Reading B) {n : ℕ} where
   -- it says yes, and the output is too short or long enough
   module _ {room : ℕ} (i : n ≡ answer-number (door p e)) (z : n ≡ 0) where
     pub number-short : room < 32768 → 5 ≡ answer-number (gate p e room)
-    unfolding gate through answer-number number
+    unfolding gate through answer-number question-number
     number-short h = let w = number-gives (door p e) i z in rw (w .1, room-short (gives (w .0)) h)
 
     pub number-open : 32768 ≤ room → 0 ≡ answer-number (gate p e room)

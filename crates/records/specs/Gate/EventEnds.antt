@@ -2,7 +2,7 @@
 use Prim.Native.Nat.{ℕ, _+_, _-_, _≤_, _<_}
 use native.Mathlib.Omega.{arith}
 use mathlib.Core.Path.{_≡_, refl, sym, ap, _∙_}
-use mathlib.Core.Bool.{Bool, true}
+use mathlib.Core.Bool.{Bool, true, true≢false}
 use mathlib.Core.List.{List, [], _∷_}
 use lib.Dec.{eqb}
 use lib.ListN.{length, drop, getD, length-drop}
@@ -10,26 +10,26 @@ use lib.Seq.{drop-cons}
 use borrow.Author.Tests.{ne-eqb, eqb-false}
 use Rattle.records.specs.Format.Syntax.{Port}
 use Rattle.records.specs.Format.Syntax.Port.{call, exit, fail, redo}
-use Rattle.records.specs.Format.Syntax.Event.{event}
 use Rattle.records.specs.Gate.RecordRules.{every, bet-rules, event-rules}
-use Rattle.records.specs.Gate.Question.Asked.{rules}
 use Rattle.records.specs.Format.HeadLaws.{by-test}
 use Rattle.records.specs.Format.Reader.{Read}
 use Rattle.records.specs.Format.Reader.Read.{unread, found}
-use Rattle.records.specs.Format.Items.{Stacks, Frame, read-counted, read-goal, read-ancestor, read-bet, read-port, port-of, read-stacks, read-frame, with-port, read-event-bytes}
+use Rattle.records.specs.Format.Items.{Stacks, Frame, read-counted, read-goal, read-ancestor, read-bet, read-port, port-of, read-stacks, read-frame, event-of-frame, read-event-bytes}
 use Rattle.records.specs.Format.Items.Stacks.{stacks}
 use Rattle.records.specs.Format.Items.Frame.{frame}
-use Rattle.records.specs.Ends.Walk.{place, end-of, end-at}
+use Rattle.records.specs.Ends.Traversal.{place-of, end-of, end-at}
 use Rattle.records.specs.Ends.EndLaws.{onward}
 use Rattle.records.specs.Ends.ItemEnds.{goal-ends, after-ends}
 use Rattle.records.specs.Gate.Rows.{kept-at, kept-after}
-use Rattle.records.specs.Gate.Gate.{framed, of-version, read-event, verdict}
+use Rattle.records.specs.Gate.Gate.{read-event, verdict}
 use Rattle.records.specs.declared.gate.Verdict.{Verdict}
 use Rattle.records.specs.declared.gate.Verdict.the-variants.{Grammar}
+use Rattle.records.specs.declared.gate.Opening.{Opening}
+use Rattle.records.specs.declared.gate.Opening.the-variants.{Open}
 use Rattle.records.specs.declared.ends.Found.{Found}
 use Rattle.records.specs.declared.ends.Found.the-variants.{At, Nothing}
 use Rattle.records.specs.declared.ends.Item.the-variants.{Ancestor, Bet}
-use Rattle.records.specs.Gate.GateEnds.{judged-at, unreadable, readable}
+use Rattle.records.specs.Gate.GateEnds.{opening-of, judged-at, unreadable, readable}
 use Rattle.records.specs.Gate.CountedEnds.{counted-end, counted-kept}
 
 -- an event: a port, a goal, ancestors, and then its bets
@@ -40,21 +40,21 @@ pub past-port : (s : List ℕ) (at : ℕ) → length s ≤ at → Nothing ≡ po
 unfolding port-end end-of
 past-port s at h = go (drop at s) (rw length-drop (omega arith))
   where
-    go : (l : List ℕ) → length l ≡ 0 → Nothing ≡ place at (read-port l)
+    go : (l : List ℕ) → length l ≡ 0 → Nothing ≡ place-of at (read-port l)
     go [] e = refl
     go (b ∷ l) e = absurd (omega arith)
 
-port-byte-at : (s : List ℕ) (at : ℕ) → at < length s → port-end s at ≡ place at (port-of (getD s at 0))
+port-byte-at : (s : List ℕ) (at : ℕ) → at < length s → port-end s at ≡ place-of at (port-of (getD s at 0))
 unfolding port-end end-of
 port-byte-at s at h = rw (drop-cons s at 0 h)
 
-port-in : (at k : ℕ) → 1 ≤ k → k ≤ 4 → place at (port-of k) ≡ At (at + 1)
+port-in : (at k : ℕ) → 1 ≤ k → k ≤ 4 → place-of at (port-of k) ≡ At (at + 1)
 port-in at k a b =
     by-test P (eqb k 1) (found call 1) _ (λ _. refl) (λ e1. by-test P (eqb k 2) (found exit 1) _ (λ _. refl) (λ e2. by-test P (eqb k 3) (found fail 1) _ (λ _. refl)
     (λ e3. by-test P (eqb k 4) (found redo 1) unread (λ _. refl) (λ e4. absurd (none (eqb-false k 1 e1) (eqb-false k 2 e2) (eqb-false k 3 e3) (eqb-false k 4 e4))))))
   where
     P : Read Port → Type 0
-    P o = place at o ≡ At (at + 1)
+    P o = place-of at o ≡ At (at + 1)
 
     none : (k ≡ 1 → ⊥) → (k ≡ 2 → ⊥) → (k ≡ 3 → ⊥) → (k ≡ 4 → ⊥) → ⊥
     none e1 e2 e3 e4 = omega arith
@@ -85,7 +85,7 @@ stacks-end s at = after-ends stacks (read-counted read-ancestor) (read-counted r
 
 frame-end : (s : List ℕ) (at : ℕ) → end-of read-frame s at ≡ onward (end-at s at 0 1) (λ e. end-of read-stacks s e)
 unfolding read-frame end-of
-frame-end s at = after-ends frame read-goal read-stacks s at ∙ ap (λ (f : Found). onward f (λ e. place e (read-stacks (drop e s)))) (goal-ends s at)
+frame-end s at = after-ends frame read-goal read-stacks s at ∙ ap (λ (f : Found). onward f (λ e. place-of e (read-stacks (drop e s)))) (goal-ends s at)
 
 frame-whole : (s : List ℕ) (g : ℕ) → end-of read-frame s g ≡ onward (onward (end-at s g 0 1) (λ e. counted-end Ancestor s e)) (λ e. counted-end Bet s e)
 frame-whole s g = frame-end s g ∙ go (end-at s g 0 1)
@@ -96,7 +96,7 @@ frame-whole s g = frame-end s g ∙ go (end-at s g 0 1)
 
 event-frame : (s : List ℕ) → end-of read-event-bytes s 3 ≡ onward (port-end s 3) (λ e. end-of read-frame s e)
 unfolding read-event-bytes end-of port-end
-event-frame s = after-ends with-port read-port read-frame s 3
+event-frame s = after-ends event-of-frame read-port read-frame s 3
 
 pub event-end : (s : List ℕ) → end-of read-event-bytes s 3 ≡ onward (bets-place s) (λ e. counted-end Bet s e)
 unfolding bets-place
@@ -113,13 +113,13 @@ stacks-rules (stacks u s) = every bet-rules s
 frame-rules : Frame → Bool
 frame-rules (frame g k) = stacks-rules k
 
-event-rules-frame : (p : Port) (f : Frame) → event-rules (with-port p f) ≡ frame-rules f
+event-rules-frame : (p : Port) (f : Frame) → event-rules (event-of-frame p f) ≡ frame-rules f
 unfolding event-rules frame-rules stacks-rules
 event-rules-frame p (frame g (stacks u s)) = refl
 
 kept-frame : (s : List ℕ) (g : ℕ) → port-end s 3 ≡ At g → kept-at event-rules read-event-bytes s 3 ≡ kept-at frame-rules read-frame s g
 unfolding kept-at port-end read-event-bytes
-kept-frame s g e = kept-after with-port read-port read-frame event-rules frame-rules s 3 g event-rules-frame e
+kept-frame s g e = kept-after event-of-frame read-port read-frame event-rules frame-rules s 3 g event-rules-frame e
 
 kept-stacks : (s : List ℕ) (g k : ℕ) → end-at s g 0 1 ≡ At k → kept-at frame-rules read-frame s g ≡ kept-at stacks-rules read-stacks s k
 unfolding kept-at read-frame frame-rules
@@ -134,7 +134,7 @@ unfolding bets-place
 event-kept s b e = go (port-end s 3) refl e
   where
     nowhere : {P : Type 0} → Nothing ≡ At b → P
-    nowhere q = let y : _≡_ {A = ℕ} 0 1 = cc in absurd (omega arith)
+    nowhere q = absurd (true≢false cc)
 
     inner : (g : ℕ) (f : Found) → end-at s g 0 1 ≡ f → onward f (λ e. counted-end Ancestor s e) ≡ At b → kept-at frame-rules read-frame s g ≡ counted-kept Bet s b
     inner g (At k) q z = kept-stacks s g k q ∙ kept-bets s k b z
@@ -161,9 +161,9 @@ module _ (s : List ℕ) (b : ℕ) {f : Found} (is : f ≡ counted-end Bet s b) w
   unfolding bets-verdict
   bets-unread q = rw (← is, q)
 
-module _ (s : List ℕ) (f : framed s ≡ true) (v : of-version s ≡ true) {p : Found} (is : p ≡ bets-place s) where
+module _ (s : List ℕ) {o : Opening} (asked : o ≡ opening-of s) (granted : o ≡ Open) {p : Found} (is : p ≡ bets-place s) where
   pub event-unread : p ≡ Nothing → Grammar ≡ verdict (read-event s)
-  event-unread q = unreadable read-event-bytes event-rules s f v {p = Nothing} (sym (event-end s ∙ ap (λ (x : Found). onward x (λ e. counted-end Bet s e)) (sym is ∙ q))) refl
+  event-unread q = unreadable read-event-bytes event-rules s asked granted {p = Nothing} (sym (event-end s ∙ ap (λ (x : Found). onward x (λ e. counted-end Bet s e)) (sym is ∙ q))) refl
 
   pub event-judged : {b : ℕ} {r : Verdict} → p ≡ At b → r ≡ bets-verdict s b → r ≡ verdict (read-event s)
   unfolding bets-verdict
@@ -173,8 +173,8 @@ module _ (s : List ℕ) (f : framed s ≡ true) (v : of-version s ≡ true) {p :
       ends = event-end s ∙ ap (λ (x : Found). onward x (λ e. counted-end Bet s e)) (sym is ∙ q)
 
       go : (g : Found) → counted-end Bet s b ≡ g → bets-judged s b g ≡ verdict (read-event s)
-      go (At e) z = readable read-event-bytes event-rules s f v {p = At e} (sym (ends ∙ z)) refl (sym (event-kept s b (sym is ∙ q)))
-      go Nothing z = unreadable read-event-bytes event-rules s f v {p = Nothing} (sym (ends ∙ z)) refl
+      go (At e) z = readable read-event-bytes event-rules s asked granted {p = At e} (sym (ends ∙ z)) refl (sym (event-kept s b (sym is ∙ q)))
+      go Nothing z = unreadable read-event-bytes event-rules s asked granted {p = Nothing} (sym (ends ∙ z)) refl
 
 -- the bets' place, goal by goal
 module _ (s : List ℕ) {p : Found} (is : p ≡ port-end s 3) where

@@ -75,7 +75,7 @@ abbrev pub verdict : {A : Type 0} → Reading A → Verdict
 verdict (refused q) = asked-verdict q
 verdict (tree a) = Passed
 
--- the paper's number of each answer for a program or a clause record; a query's or an event's is 10 more where it is a refusal
+-- the number (SPECIFICATION 7) of each answer for a program or a clause record; a query's or an event's is 10 more where it is a refusal
 abbrev pub program-number : Verdict → ℕ
 program-number Passed = 0
 program-number Framing = 1

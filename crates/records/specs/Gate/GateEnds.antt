@@ -2,7 +2,7 @@
 use Prim.Native.Nat.{ℕ, suc, _+_, _-_, _≤_, _<_}
 use native.Mathlib.Omega.{arith}
 use mathlib.Core.Path.{_≡_, refl, sym, _∙_}
-use mathlib.Core.Bool.{Bool, true, false}
+use mathlib.Core.Bool.{Bool, true, false, true≢false}
 use mathlib.Core.List.{List, [], _∷_}
 use lib.Dec.{eqb, leb}
 use lib.ListN.{length, drop, getD}
@@ -13,11 +13,13 @@ use Rattle.records.specs.Format.Heads.{pick, joined, word-at}
 use Rattle.records.specs.Format.Reader.{Read}
 use Rattle.records.specs.Format.Reader.Read.{unread, found}
 use Rattle.records.specs.Format.Items.{Reader}
-use Rattle.records.specs.Ends.Walk.{place, end-of}
+use Rattle.records.specs.Ends.Traversal.{place-of, end-of}
 use Rattle.records.specs.Gate.Rows.{holds, kept-at}
 use Rattle.records.specs.Gate.Gate.{Reading, ask, framed, of-version, judged, read-record, verdict}
 use Rattle.records.specs.declared.gate.Verdict.{Verdict}
 use Rattle.records.specs.declared.gate.Verdict.the-variants.{Passed, Framing, Version, Grammar, Rules}
+use Rattle.records.specs.declared.gate.Opening.{Opening}
+use Rattle.records.specs.declared.gate.Opening.the-variants.{Open, Refused}
 use Rattle.records.specs.declared.ends.Found.{Found}
 use Rattle.records.specs.declared.ends.Found.the-variants.{At, Nothing}
 use Rattle.records.specs.declared.heads.Word.{Word}
@@ -56,13 +58,13 @@ unfolding framed word-at
 no-frame [] a is e = absurd (omega arith)
 no-frame (x ∷ []) a is e = absurd (omega arith)
 no-frame (x ∷ y ∷ []) a is e = absurd (omega arith)
-no-frame (x ∷ y ∷ z ∷ l) {w} a is e = let q : Number (joined x y) ≡ Short = sym is ∙ e in let y : _≡_ {A = ℕ} 0 1 = cc in absurd (omega arith)
+no-frame (x ∷ y ∷ z ∷ l) {w} a is e = let q : Number (joined x y) ≡ Short = sym is ∙ e in absurd (true≢false cc)
 
 pub framed-length : (s : List ℕ) → framed s ≡ true → (3 ≤ length s) × (length s ≤ 32768)
 unfolding framed
-framed-length [] h = let y : _≡_ {A = ℕ} 0 1 = cc in absurd (omega arith)
-framed-length (x ∷ []) h = let y : _≡_ {A = ℕ} 0 1 = cc in absurd (omega arith)
-framed-length (x ∷ y ∷ []) h = let y : _≡_ {A = ℕ} 0 1 = cc in absurd (omega arith)
+framed-length [] h = absurd (true≢false cc)
+framed-length (x ∷ []) h = absurd (true≢false cc)
+framed-length (x ∷ y ∷ []) h = absurd (true≢false cc)
 framed-length (x ∷ y ∷ z ∷ l) h = (omega arith, leb-true _ _ (and-both (leb (length (x ∷ y ∷ z ∷ l)) 32768) (eqb (joined x y) (length (z ∷ l))) h .0))
 
 -- question 2 by the third byte
@@ -72,6 +74,33 @@ version-by [] a = absurd (omega arith)
 version-by (x ∷ []) a = absurd (omega arith)
 version-by (x ∷ y ∷ []) a = absurd (omega arith)
 version-by (x ∷ y ∷ z ∷ l) a = refl
+
+-- questions 1 and 2: the first no decides
+unfoldable pub opening-of : List ℕ → Opening
+opening-of s = pick (framed s) (pick (of-version s) Open (Refused Version)) (Refused Framing)
+
+module _ (s : List ℕ) where
+  pub unframed : {b : Bool} → b ≡ framed s → b ≡ false → Refused Framing ≡ opening-of s
+  unfolding opening-of
+  unframed is e = rw (← is, e)
+
+  pub other-version : {b : Bool} → framed s ≡ true → b ≡ of-version s → b ≡ false → Refused Version ≡ opening-of s
+  unfolding opening-of
+  other-version f is e = rw (f, ← is, e)
+
+  pub opened : {b : Bool} → framed s ≡ true → b ≡ of-version s → b ≡ true → Open ≡ opening-of s
+  unfolding opening-of
+  opened f is e = rw (f, ← is, e)
+
+  -- what is open is framed and of version 1
+  open-framed : opening-of s ≡ Open → (framed s ≡ true) × (of-version s ≡ true)
+  unfolding opening-of
+  open-framed = go (framed s) (of-version s)
+    where
+      go : (f v : Bool) → pick f (pick v Open (Refused Version)) (Refused Framing) ≡ Open → (f ≡ true) × (v ≡ true)
+      go true true e = (refl, refl)
+      go true false e = absurd (true≢false cc)
+      go false v e = absurd (true≢false cc)
 
 -- where the grammar reads a body that ends at e
 unfoldable pub judged-at : List ℕ → ℕ → Bool → Verdict
@@ -87,32 +116,40 @@ module _ (s : List ℕ) (e : ℕ) where
   last-byte k b h q = rw (eq-eqb e (length s) h, q)
 
 module _ {A : Type 0} (r : Reader A) (kept : A → Bool) (s : List ℕ) where
-  pub unframed : {b : Bool} → b ≡ framed s → b ≡ false → Framing ≡ verdict (read-record r kept s)
-  unfolding read-record
-  unframed is e = rw (← is, e)
+  -- the whole gate, where questions 1 and 2 refuse, and where they do not
+  pub refuses : {o : Opening} {v : Verdict} → o ≡ opening-of s → o ≡ Refused v → v ≡ verdict (read-record r kept s)
+  unfolding opening-of read-record
+  refuses {v = v} is q = go (framed s) (of-version s) (sym is ∙ q)
+    where
+      go : (a b : Bool) → pick a (pick b Open (Refused Version)) (Refused Framing) ≡ Refused v → v ≡ verdict (ask framing a (ask version b (judged kept (length s - 3) (r (drop 3 s)))))
+      go true true e = absurd (true≢false cc)
+      go true false e = cc
+      go false b e = cc
 
-  module _ (f : framed s ≡ true) where
-    pub other-version : {b : Bool} → b ≡ of-version s → b ≡ false → Version ≡ verdict (read-record r kept s)
-    unfolding read-record
-    other-version is e = rw (f, ← is, e)
+  module _ {o : Opening} (asked : o ≡ opening-of s) (granted : o ≡ Open) where
+    is-framed : framed s ≡ true
+    is-framed = open-framed s (sym asked ∙ granted) .0
 
-    pub unreadable : of-version s ≡ true → {p : Found} → p ≡ end-of r s 3 → p ≡ Nothing → Grammar ≡ verdict (read-record r kept s)
+    is-version-1 : of-version s ≡ true
+    is-version-1 = open-framed s (sym asked ∙ granted) .1
+
+    pub unreadable : {p : Found} → p ≡ end-of r s 3 → p ≡ Nothing → Grammar ≡ verdict (read-record r kept s)
     unfolding read-record end-of
-    unreadable v is q = rw (f, v) (go (r (drop 3 s)) (sym is ∙ q))
+    unreadable ends q = rw (is-framed, is-version-1) (go (r (drop 3 s)) (sym ends ∙ q))
       where
-        go : (o : Read A) → place 3 o ≡ Nothing → Grammar ≡ verdict (judged kept (length s - 3) o)
+        go : (o : Read A) → place-of 3 o ≡ Nothing → Grammar ≡ verdict (judged kept (length s - 3) o)
         go unread e = refl
-        go (found a n) e = let y : _≡_ {A = ℕ} 0 1 = cc in absurd (omega arith)
+        go (found a n) e = absurd (true≢false cc)
 
-    pub readable : of-version s ≡ true → {p : Found} {e : ℕ} {b : Bool} → p ≡ end-of r s 3 → p ≡ At e → b ≡ kept-at kept r s 3 → judged-at s e b ≡ verdict (read-record r kept s)
+    pub readable : {p : Found} {e : ℕ} {b : Bool} → p ≡ end-of r s 3 → p ≡ At e → b ≡ kept-at kept r s 3 → judged-at s e b ≡ verdict (read-record r kept s)
     unfolding read-record end-of kept-at judged-at
-    readable v {e = e} {b} is q k = rw (f, v, k) (go (r (drop 3 s)) (sym is ∙ q))
+    readable {e = e} {b} ends q k = rw (is-framed, is-version-1, k) (go (r (drop 3 s)) (sym ends ∙ q))
       where
         same : (n : ℕ) → 3 + n ≡ e → eqb e (length s) ≡ eqb n (length s - 3)
         same n x = by (eqb n (length s - 3)) refl
           where
             by : (t : Bool) → eqb n (length s - 3) ≡ t → eqb e (length s) ≡ t
-            by true y = eq-eqb e (length s) (omega (arith, eqb-true n (length s - 3) y, framed-length s f .0))
+            by true y = eq-eqb e (length s) (omega (arith, eqb-true n (length s - 3) y, framed-length s is-framed .0))
             by false y = ne-eqb e (length s) (λ z. eqb-false n (length s - 3) y (omega arith))
 
         tell : (t c : Bool) (a : A) → pick t (pick c Passed Rules) Grammar ≡ verdict (ask grammar t (ask rules c (Reading.tree a)))
@@ -120,6 +157,6 @@ module _ {A : Type 0} (r : Reader A) (kept : A → Bool) (s : List ℕ) where
         tell true false a = refl
         tell false c a = refl
 
-        go : (o : Read A) → place 3 o ≡ At e → pick (eqb e (length s)) (pick (holds kept o) Passed Rules) Grammar ≡ verdict (judged kept (length s - 3) o)
-        go unread z = let y : _≡_ {A = ℕ} 0 1 = cc in absurd (omega arith)
+        go : (o : Read A) → place-of 3 o ≡ At e → pick (eqb e (length s)) (pick (holds kept o) Passed Rules) Grammar ≡ verdict (judged kept (length s - 3) o)
+        go unread z = absurd (true≢false cc)
         go (found a n) z = let y : 3 + n ≡ e = cc in rw (same n y) (tell (eqb n (length s - 3)) (kept a) a)

@@ -24,8 +24,7 @@ use Rattle.records.specs.Format.Reader.{Read}
 use Rattle.records.specs.Format.Reader.Read.{unread, found}
 use Rattle.records.specs.Format.Items.{Reader}
 use Rattle.records.specs.Format.ItemLaws.{Exact, counted-exact, goal-exact}
-use Rattle.records.specs.Format.Exact.{nothing, definition-exact, clause-exact}
-use Rattle.records.specs.Format.EventExact.{event-exact}
+use Rattle.records.specs.Format.Exact.{unread-found, definition-exact, clause-exact, event-exact}
 use Rattle.records.specs.Gate.Gate.{Reading, ask, framed, of-version, judged, read-record, read-query, read-event, read-program, read-clauses}
 use Rattle.records.specs.Gate.Gate.Reading.{refused, tree}
 
@@ -53,14 +52,14 @@ same-tree {A} {x} {y} e = cc
 -- a question that was passed
 passed : {A : Type 0} (q : Asked) (b : Bool) (r : Reading A) (a : A) → ask q b r ≡ tree a → (b ≡ true) × (r ≡ tree a)
 passed q true r a e = (refl, e)
-passed q false r a e = let z : _≡_ {A = ℕ} 0 1 = cc in absurd (omega arith)
+passed q false r a e = absurd (true≢false cc)
 
 -- the first three bytes of a record, by questions 1 and 2
 frame-of : (s : List ℕ) → Bytes s → framed s ≡ true → of-version s ≡ true → (s ≡ word (length s - 2) ++ (1 ∷ drop 3 s)) × (3 ≤ length s) × (length s ≤ 32768)
 unfolding framed of-version
-frame-of [] h p q = let y : _≡_ {A = ℕ} 0 1 = cc in absurd (omega arith)
-frame-of (x ∷ []) h p q = let y : _≡_ {A = ℕ} 0 1 = cc in absurd (omega arith)
-frame-of (x ∷ y ∷ []) h p q = let y : _≡_ {A = ℕ} 0 1 = cc in absurd (omega arith)
+frame-of [] h p q = absurd (true≢false cc)
+frame-of (x ∷ []) h p q = absurd (true≢false cc)
+frame-of (x ∷ y ∷ []) h p q = absurd (true≢false cc)
 frame-of (x ∷ y ∷ z ∷ l) h p q =
     let w = and-both (leb (length (x ∷ y ∷ z ∷ l)) 32768) (eqb (joined x y) (length (z ∷ l))) p in
     let e : joined x y ≡ length (x ∷ y ∷ z ∷ l) - 2 = omega (arith, eqb-true (joined x y) (length (z ∷ l)) (w .1)) in (
@@ -103,7 +102,7 @@ module _ {A : Type 0} {bytes : A → List ℕ} {Formed : A → Type 0} {r : Read
 module _ {A : Type 0} {bytes : A → List ℕ} {Formed : A → Type 0} {r : Reader A} (w : Exact bytes Formed r) (kept : A → Bool) where
   judged-tree : (s : List ℕ) → Bytes s → framed s ≡ true → of-version s ≡ true → (o : Read A) → r (drop 3 s) ≡ o
       → (a : A) → judged kept (length s - 3) o ≡ tree a → RecordOf bytes Formed kept s a
-  judged-tree s h f v unread p a e = let y : _≡_ {A = ℕ} 0 1 = cc in absurd (omega arith)
+  judged-tree s h f v unread p a e = absurd (true≢false cc)
   judged-tree s h f v (found b m) p a e =
       let q = passed grammar (eqb m (length s - 3)) _ a e in
       let k = passed rules (kept b) _ a (q .1) in
@@ -129,7 +128,7 @@ module _ {A : Type 0} {bytes : A → List ℕ} {Formed : A → Type 0} {r : Read
   -- a question refuses only where it is the first to say no,
   judged-refused : (s : List ℕ) → Bytes s → framed s ≡ true → of-version s ≡ true → (o : Read A) → r (drop 3 s) ≡ o
       → OnRefused (FirstNo bytes Formed kept s) (judged kept (length s - 3) o)
-  judged-refused s h f v unread p = (f, v, λ a g l. nothing (sym p ∙ body-read w s a g l))
+  judged-refused s h f v unread p = (f, v, λ a g l. unread-found (sym p ∙ body-read w s a g l))
   judged-refused s h f v (found b m) p = asked-in-turn _ grammar (eqb m (length s - 3)) _ not-laid laid
     where
       same-size : (a : A) {n : ℕ} → found b m ≡ found a n → m ≡ n

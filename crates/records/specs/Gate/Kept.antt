@@ -1,8 +1,8 @@
--- Question 4 item by item, over the variables that a walk meets: what the code for the record rules goes by.
+-- Question 4 item by item, over the variables that a traversal meets: what the code for the record rules goes by.
 use Prim.Native.Nat.{ℕ, _+_, _-_, max}
 use native.Mathlib.Omega.{arith}
 use mathlib.Core.Path.{_≡_, refl, sym, ap, _∙_}
-use mathlib.Core.Bool.{Bool, true}
+use mathlib.Core.Bool.{Bool, true, true≢false}
 use mathlib.Core.List.{List, [], _∷_, _++_, append-nil}
 use lib.Dec.{leb}
 use lib.ListN.{length, drop}
@@ -21,10 +21,9 @@ use Rattle.records.specs.Format.Reader.Read.{unread, found}
 use Rattle.records.specs.Format.Reader.Parts.{parts}
 use Rattle.records.specs.Format.ReaderLaws.{sound}
 use Rattle.records.specs.Format.Items.{many, first-term, first-goal, read-binding, bet-by, read-bet, read-definition, read-clause}
-use Rattle.records.specs.Ends.Walk.{Node, node-variables, term-nodes, terms-nodes, goal-nodes, parts-nodes, walked, walk, place, end-of}
-use Rattle.records.specs.Ends.Walk.Walk.{on}
+use Rattle.records.specs.Ends.Traversal.{Node, node-variables, term-nodes, terms-nodes, goal-nodes, parts-nodes, traversed, traverse, place-of, end-of}
 use Rattle.records.specs.Ends.Steps.{On, met, along, raised}
-use Rattle.records.specs.Ends.Top.{top, every-below}
+use Rattle.records.specs.Ends.Above.{above, every-below}
 use Rattle.records.specs.Gate.Rows.{Ends, holds, kept-at}
 use Rattle.records.specs.declared.heads.Word.{Word}
 use Rattle.records.specs.declared.heads.Word.the-variants.{Number}
@@ -56,14 +55,13 @@ goal-met (conj a b) = rw (variables-append, goal-met a, goal-met b)
 goal-met (disj a b) = rw (variables-append, goal-met a, goal-met b)
 goal-met (atom p ts) = terms-met ts
 
--- one more than the greatest variable
-pub along-raised : (m : ℕ) (l : List ℕ) → along raised m l ≡ max m (top l)
-unfolding top
+-- one more than the greatest number of a list, gathered along it
+pub along-raised : (m : ℕ) (l : List ℕ) → along raised m l ≡ max m (above l)
 along-raised m [] = omega arith
 along-raised m (v ∷ l) = omega (arith, along-raised (max m (v + 1)) l)
 
-pub top-met : (l : List ℕ) → along raised 0 l ≡ top l
-top-met l = omega (arith, along-raised 0 l)
+above-met : (l : List ℕ) → along raised 0 l ≡ above l
+above-met l = omega (arith, along-raised 0 l)
 
 -- the parts that were read, by their number
 one-term : (p : Parts) → arity (terms-of p) ≡ 1 → length (goals-of p) ≡ 0 → node-variables (parts-nodes p) ≡ term-variables (first-term p)
@@ -82,46 +80,46 @@ no-terms nil e = refl
 no-terms (cons t ts) e = absurd (omega arith)
 
 module _ (s : List ℕ) (at : ℕ) where
-  -- what an item's head announces was read, as a walk
-  through : {A : Type 0} (f : Parts → A) (k t g : ℕ) → Ends (place at (also f k (read (drop k (drop at s)) t g))) → On (walk s (at + k) t g)
-  unfolding walk
+  -- what an item's head announces was read, as a traversal
+  through : {A : Type 0} (f : Parts → A) (k t g : ℕ) → Ends (place-of at (also f k (read (drop k (drop at s)) t g))) → On (traverse s (at + k) t g)
+  unfolding traverse
   through f k t g h = rw (← drop-drop k at s) (go (read (drop k (drop at s)) t g) h)
     where
-      go : (o : Read Parts) → Ends (place at (also f k o)) → On (walked (at + k) o)
+      go : (o : Read Parts) → Ends (place-of at (also f k o)) → On (traversed (at + k) o)
       go unread w = w
       go (found p n) w = tt
 
   -- a rule on what was read, by the variables met
   ruled : {A : Type 0} (f : Parts → A) (kept : A → Bool) (rule : List ℕ → Bool) (k t g : ℕ) → ((p : Parts) → arity (terms-of p) ≡ t → length (goals-of p) ≡ g → kept (f p) ≡ rule (node-variables (parts-nodes p)))
-      → Ends (place at (also f k (read (drop k (drop at s)) t g))) → holds kept (also f k (read (drop k (drop at s)) t g)) ≡ rule (met (walk s (at + k) t g))
-  unfolding walk
+      → Ends (place-of at (also f k (read (drop k (drop at s)) t g))) → holds kept (also f k (read (drop k (drop at s)) t g)) ≡ rule (met (traverse s (at + k) t g))
+  unfolding traverse
   ruled f kept rule k t g q h = rw (← drop-drop k at s) (go (read (drop k (drop at s)) t g) refl h)
     where
-      go : (o : Read Parts) → read (drop k (drop at s)) t g ≡ o → Ends (place at (also f k o)) → holds kept (also f k o) ≡ rule (met (walked (at + k) o))
+      go : (o : Read Parts) → read (drop k (drop at s)) t g ≡ o → Ends (place-of at (also f k o)) → holds kept (also f k o) ≡ rule (met (traversed (at + k) o))
       go unread e w = absurd w
       go (found p n) e w = let v = sound (drop k (drop at s)) t g p n e in q p (v .terms) (v .goals)
 
   -- a definition: only the head's variables and the locals occur
-  pub definition-through : {h : Signature} {p k n : ℕ} → h ≡ definition-head-at s at → h ≡ Predicate p k n → Ends (end-of read-definition s at) → On (walk s (at + 4) 0 1)
+  pub definition-through : {h : Signature} {p k n : ℕ} → h ≡ definition-head-at s at → h ≡ Predicate p k n → Ends (end-of read-definition s at) → On (traverse s (at + 4) 0 1)
   unfolding end-of read-definition definition-head-at
   definition-through {h} {p} {k} {n} is e w = through (λ q. definition p k n (first-goal q)) 4 0 1 (rw (sym is ∙ e) at w)
 
   pub definition-kept : {h : Signature} {p k n : ℕ} → h ≡ definition-head-at s at → h ≡ Predicate p k n → Ends (end-of read-definition s at)
-      → kept-at definition-rules read-definition s at ≡ leb (along raised 0 (met (walk s (at + 4) 0 1))) (k + n)
+      → kept-at definition-rules read-definition s at ≡ leb (along raised 0 (met (traverse s (at + 4) 0 1))) (k + n)
   unfolding kept-at end-of read-definition definition-head-at
   definition-kept {h} {p} {k} {n} is e w =
       let x : definition-head (drop at s) ≡ Predicate p k n = sym is ∙ e in
       rw x (ruled (λ q. definition p k n (first-goal q)) definition-rules (λ l. leb (along raised 0 l) (k + n)) 4 0 1
-      (λ q t g. every-below (k + n) (goal-variables (first-goal q)) ∙ ap (λ (m : ℕ). leb m (k + n)) (sym (top-met _ ∙ ap top (one-goal q g ∙ ap (λ (l : List ℕ). l ++ goal-variables (first-goal q)) (no-terms (terms-of q) t)))))
+      (λ q t g. every-below (k + n) (goal-variables (first-goal q)) ∙ ap (λ (m : ℕ). leb m (k + n)) (sym (above-met (node-variables (parts-nodes q)) ∙ ap above (one-goal q g ∙ ap (λ (l : List ℕ). l ++ goal-variables (first-goal q)) (no-terms (terms-of q) t)))))
       (rw x at w))
 
   -- a clause: exactly its variables occur
-  pub clause-through : {h : Signature} {p k v : ℕ} → h ≡ clause-head-at s at → h ≡ Predicate p k v → Ends (end-of read-clause s at) → On (walk s (at + 4) k 1)
+  pub clause-through : {h : Signature} {p k v : ℕ} → h ≡ clause-head-at s at → h ≡ Predicate p k v → Ends (end-of read-clause s at) → On (traverse s (at + 4) k 1)
   unfolding end-of read-clause clause-head-at
   clause-through {h} {p} {k} {v} is e w = through (λ q. clause p v (terms-of q) (first-goal q)) 4 k 1 (rw (sym is ∙ e) at w)
 
   pub clause-kept : {h : Signature} {p k v : ℕ} → h ≡ clause-head-at s at → h ≡ Predicate p k v → Ends (end-of read-clause s at)
-      → kept-at clause-rules read-clause s at ≡ exactly v (met (walk s (at + 4) k 1))
+      → kept-at clause-rules read-clause s at ≡ exactly v (met (traverse s (at + 4) k 1))
   unfolding kept-at end-of read-clause clause-head-at
   clause-kept {h} {p} {k} {v} is e w =
       let x : clause-head (drop at s) ≡ Predicate p k v = sym is ∙ e in
@@ -131,17 +129,17 @@ module _ (s : List ℕ) (at : ℕ) where
   pub record Pair (v : ℕ) (b : Binding) : Type 0 where
     pub term : Term
     pub is : b ≡ bind v term
-    pub through : On (walk s (at + 2) 1 0)
-    pub variables : met (walk s (at + 2) 1 0) ≡ term-variables term
+    pub through : On (traverse s (at + 2) 1 0)
+    pub variables : met (traverse s (at + 2) 1 0) ≡ term-variables term
 
   pub pair-read : {h : Word} {v n : ℕ} {b : Binding} → h ≡ word-at s at → h ≡ Number v → read-binding (drop at s) ≡ found b n → Pair v b
-  unfolding read-binding word-at walk
+  unfolding read-binding word-at traverse
   pair-read {h} {v} {n} {b} is e q =
       let x : word-head (drop at s) ≡ Number v = sym is ∙ e in
       go (read (drop 2 (drop at s)) 1 0) refl (rw x at q)
     where
       go : (o : Read Parts) → read (drop 2 (drop at s)) 1 0 ≡ o → also (λ p. bind v (first-term p)) 2 o ≡ found b n → Pair v b
-      go unread p z = let y : _≡_ {A = ℕ} 0 1 = cc in absurd (omega arith)
+      go unread p z = absurd (true≢false cc)
       go (found p m) e z =
           let w = sound (drop 2 (drop at s)) 1 0 p m e in
           let d : read (drop (at + 2) s) 1 0 ≡ found p m = ap (λ (l : List ℕ). read l 1 0) (sym (drop-drop 2 at s)) ∙ e in
@@ -153,7 +151,7 @@ module _ (s : List ℕ) (at : ℕ) where
   unfolding end-of read-bet bet-head-at
   unifier-through {h} {n} is e w = rw (← drop-drop 3 at s) (go (many read-binding n (drop 3 (drop at s))) (rw (sym is ∙ e) at w))
     where
-      go : (o : Read (List Binding)) → Ends (place at (also Bet.unifier 3 o)) → Ends (place (at + 3) o)
+      go : (o : Read (List Binding)) → Ends (place-of at (also Bet.unifier 3 o)) → Ends (place-of (at + 3) o)
       go unread z = z
       go (found l m) z = tt
 

@@ -11,7 +11,7 @@ use lib.ListN.{length, getD, set, replicate, length-set, length-replicate, getD-
 use lib.Seq.{getD-set-same, getD-set-other}
 use borrow.Author.Tests.{eq-eqb, ne-eqb, eqb-true, ltb-true}
 use Rattle.records.specs.Gate.RecordRules.{every, member}
-use Rattle.records.specs.Gate.Bools.{same-truth, and-both, every-same, member-append, member-swap}
+use Rattle.records.specs.Gate.Bools.{same-truth, and-both, every-same, member-append}
 use Rattle.records.specs.Gate.Sets.{has-variable, with-variable, is-marked, marked, all-marked, Marks}
 use Rattle.records.specs.Gate.SetLaws.{has-none, has-with}
 
@@ -61,9 +61,6 @@ mark-one {marks} {l} {x} m h = record {
   words = length-marked marks x ∙ m .words;
   same = λ y k. is-marked-marked marks x y (omega (arith, m .words)) ∙ ap (λ (b : Bool). eqb y x || b) (m .same y k);
 }
-
-pub mark-last : {marks l : List ℕ} {x : ℕ} → Marks marks l → x < 65536 → Marks (marked marks x) (l ++ (x ∷ []))
-mark-last {marks} {l} {x} m h = marks-same (λ y. member-swap y (x ∷ []) l) (mark-one m h)
 
 -- the variables of a list more
 pub mark-all : {marks k : List ℕ} (l : List ℕ) → every (λ x. ltb x 65536) l ≡ true → Marks marks k → Marks (all-marked marks l) (l ++ k)

@@ -1,4 +1,4 @@
--- The gate's questions with the numbers that document 01 gives them ("The gate at each call"). A refusal names its question, so it is never 0.
+-- The gate's questions with their numbers (SPECIFICATION 7). A refusal names its question, so it is never 0.
 use mathlib.Core.HLevel.{Discrete}
 use Prim.Native.Nat.{ℕ, _+_}
 
@@ -37,12 +37,12 @@ pub data Question : Type 0 where
   fits : Question
   deriving Discrete as Question-discrete
 
-unfoldable pub number : Question → ℕ
-number (of-program a) = asked-number a
-number (of-event a) = 10 + asked-number a
-number output = 5
-number possible = 6
-number matches = 7
-number values = 8
-number locals = 9
-number fits = 10
+unfoldable pub question-number : Question → ℕ
+question-number (of-program a) = asked-number a
+question-number (of-event a) = 10 + asked-number a
+question-number output = 5
+question-number possible = 6
+question-number matches = 7
+question-number values = 8
+question-number locals = 9
+question-number fits = 10

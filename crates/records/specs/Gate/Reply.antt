@@ -5,7 +5,8 @@ use mathlib.Core.HLevel.{Discrete}
 use mathlib.Core.List.{List, _++_}
 use Prim.Native.Nat.{ℕ}
 use lib.ListN.{length, drop}
-use Rattle.records.specs.Gate.Question.{Question, number as question-number}
+use Rattle.records.specs.Gate.Question.{Question, question-number}
+use Rattle.records.specs.declared.put.Receipt.{Receipt}
 
 pub data Answer (A : Type 0) : Type 0 where
   refused : Question → Answer A
@@ -43,3 +44,14 @@ reply-with bytes out (gives a) = record { number = 0; output = bytes a ++ drop (
 pub record Replied (r : Reply) (number : ℕ) (after : List ℕ) : Type 0 where
   pub number-is : number ≡ r .number
   pub output-is : after ≡ r .output
+
+-- how long what is written is; a refusal writes nothing
+unfoldable pub answer-length : {A : Type 0} → (A → List ℕ) → Answer A → ℕ
+answer-length bytes (refused q) = 0
+answer-length bytes (gives a) = length (bytes a)
+
+-- the same where the code tells how many bytes it wrote
+pub record Receipted {A : Type 0} (bytes : A → List ℕ) (a : Answer A) (before : List ℕ) (receipt : Receipt) (after : List ℕ) : Type 0 where
+  pub number-is : receipt .number ≡ answer-number a
+  pub length-is : receipt .length ≡ answer-length bytes a
+  pub output-is : after ≡ reply-with bytes before a .output

@@ -1,15 +1,17 @@
 -- Laws of answers and replies: numbers name questions, 0 says that something was given, and a refusal leaves the output untouched.
 use mathlib.Core.Path.{_≡_, refl, sym, ap, _∙_}
-use mathlib.Core.Bool.{Bool, true, false, cond}
+use mathlib.Core.Bool.{Bool, true, false, cond, true≢false}
 use mathlib.Core.Logic.{_↔_}
 use mathlib.Core.List.{List}
 use Prim.Native.Nat.{ℕ, _≤_}
+use native.Mathlib.Nat.{zero-add}
 use native.Mathlib.Omega.{arith}
 use lib.Dec.{eqb}
 use lib.ListN.{length}
 use lib.Seq.{length-front, length-take-le}
-use Rattle.records.specs.Gate.Question.{Question, of-program, of-event, output, possible, matches, values, locals, fits, framing, version, grammar, rules, number as question-number}
-use Rattle.records.specs.Gate.Reply.{Answer, refused, gives, on-yes, through, answer-number, reply-with}
+use Rattle.records.specs.Gate.Question.{Question, of-program, of-event, output, possible, matches, values, locals, fits, framing, version, grammar, rules, question-number}
+use Rattle.records.specs.Writing.Patched.{Put, put-front}
+use Rattle.records.specs.Gate.Reply.{Answer, refused, gives, on-yes, through, answer-number, reply-with, Replied, answer-length, Receipted}
 
 -- the question that has a number (where none has it, this is of no account)
 question-of : ℕ → Question
@@ -75,12 +77,12 @@ number-gives (gives a) e z = (a, refl)
 pub yes-gives : {A : Type 0} (q : Question) (b : Bool) (next : Answer A) {x : A} → on-yes q b next ≡ gives x → (b ≡ true) × (next ≡ gives x)
 unfolding on-yes
 yes-gives q true next e = (refl, e)
-yes-gives q false next e = absurd (let z : _≡_ {A = ℕ} 0 1 = cc in omega arith)
+yes-gives q false next e = absurd (true≢false cc)
 
 -- what is given came through an answer that gave
 pub through-gives : {A B : Type 0} (a : Answer A) (next : A → Answer B) {y : B} → through refused a next ≡ gives y → (x : A) × (a ≡ gives x) × (next x ≡ gives y)
 unfolding through
-through-gives (refused q) next e = absurd (let z : _≡_ {A = ℕ} 0 1 = cc in omega arith)
+through-gives (refused q) next e = absurd (true≢false cc)
 through-gives (gives a) next e = (a, refl, e)
 
 -- what is made of what is given has its number
@@ -116,3 +118,21 @@ module _ {A : Type 0} (bytes : A → List ℕ) (out : List ℕ) where
   unfolding reply-with
   reply-length (refused q) h = refl
   reply-length (gives x) h = length-front out (bytes x) (length (bytes x)) (sym (length-take-le (length (bytes x)) out (h x refl)))
+
+  -- code that refuses, and code that writes what is given
+  pub replied-refused : {a : Answer A} {q : Question} {n : ℕ} → a ≡ refused q → n ≡ question-number q → Replied (reply-with bytes out a) n out
+  unfolding reply-with
+  replied-refused e i = rw e (record { number-is = i; output-is = refl })
+
+  pub replied-given : {a : Answer A} {x : A} {after : List ℕ} {n : ℕ} → a ≡ gives x → Put out 0 (bytes x) after n → length (bytes x) ≤ length out → Replied (reply-with bytes out a) 0 after
+  unfolding reply-with
+  replied-given e p h = rw e (record { number-is = refl; output-is = put-front p h })
+
+  pub receipted-refused : {a : Answer A} {q : Question} {n : ℕ} → a ≡ refused q → n ≡ question-number q → Receipted bytes a out (record { number = n; length = 0 }) out
+  unfolding reply-with answer-number answer-length
+  receipted-refused e i = rw e (record { number-is = i; length-is = refl; output-is = refl })
+
+  pub receipted-given : {a : Answer A} {x : A} {after : List ℕ} {n : ℕ} → a ≡ gives x → Put out 0 (bytes x) after n → length (bytes x) ≤ length out
+      → Receipted bytes a out (record { number = 0; length = n }) after
+  unfolding reply-with answer-number answer-length
+  receipted-given e p h = rw e (record { number-is = refl; length-is = p .place ∙ zero-add _; output-is = put-front p h })

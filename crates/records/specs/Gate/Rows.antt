@@ -2,19 +2,23 @@
 use Prim.Native.Nat.{ℕ, zero, suc, _+_, _-_, _<_}
 use native.Mathlib.Omega.{arith}
 use mathlib.Core.Path.{_≡_, refl, sym, ap, _∙_}
-use mathlib.Core.Bool.{Bool, true, _&&_}
+use mathlib.Core.Bool.{Bool, true, _&&_, true≢false}
 use mathlib.Core.List.{List, [], _∷_}
 use lib.ListN.{drop}
 use lib.Seq.{drop-drop}
 use Rattle.records.specs.Format.Heads.{word-head, word-at}
 use Rattle.records.specs.Format.Reader.{Read, also}
 use Rattle.records.specs.Format.Reader.Read.{unread, found}
-use Rattle.records.specs.Format.Items.{Reader, after, many, read-counted}
-use Rattle.records.specs.Ends.Walk.{place, end-of}
+use Rattle.records.specs.Format.Items.{Reader, then-read, many, read-counted}
+use Rattle.records.specs.Ends.Traversal.{place-of, end-of}
+use Rattle.records.specs.Ends.ItemEnds.{ItemTree, item-reader}
 use Rattle.records.specs.declared.ends.Found.{Found}
 use Rattle.records.specs.declared.ends.Found.the-variants.{At, Nothing}
 use Rattle.records.specs.declared.heads.Word.{Word}
 use Rattle.records.specs.declared.heads.Word.the-variants.{Number, Short}
+use Rattle.records.specs.Gate.RecordRules.{every, bet-rules, definition-rules, clause-rules}
+use Rattle.records.specs.declared.ends.Item.{Item}
+use Rattle.records.specs.declared.ends.Item.the-variants.{Ancestor, Bet, Definition, Clause}
 
 -- it was found
 abbrev pub Ends : Found → Type 0
@@ -36,6 +40,28 @@ row-of (found l n) = l
 
 unfoldable pub row-at : {A : Type 0} → Reader A → ℕ → List ℕ → ℕ → List A
 row-at r n s at = row-of (many r n (drop at s))
+
+-- the rules of an item of a kind; an ancestor has none
+abbrev pub item-rules : (i : Item) → ItemTree i → Bool
+item-rules Ancestor a = true
+item-rules Bet b = bet-rules b
+item-rules Definition d = definition-rules d
+item-rules Clause c = clause-rules c
+
+unfoldable pub item-kept : Item → List ℕ → ℕ → Bool
+item-kept i = kept-at (item-rules i) (item-reader i)
+
+unfoldable pub items-kept : Item → ℕ → List ℕ → ℕ → Bool
+items-kept i n s at = every (item-rules i) (row-at (item-reader i) n s at)
+
+-- where there are no rules, they are kept
+pub no-rules : {A : Type 0} (r : Reader A) (s : List ℕ) (at : ℕ) → true ≡ kept-at (λ a. true) r s at
+unfolding kept-at
+no-rules {A} r s at = go (r (drop at s))
+  where
+    go : (o : Read A) → true ≡ holds (λ a. true) o
+    go unread = refl
+    go (found a n) = refl
 
 pub ends-at : {f : Found} {e : ℕ} → f ≡ At e → Ends f
 ends-at q = rw q tt
@@ -70,7 +96,7 @@ module _ {A : Type 0} (r : Reader A) (s : List ℕ) where
     pub row : row-at r n s at ≡ item ∷ row-at r (n - 1) s e
     pub rest : Ends (end-of (many r (n - 1)) s e)
 
-  first-by : (k at e m : ℕ) (a : A) → at + m ≡ e → r (drop at s) ≡ found a m → (o : Read (List A)) → many r k (drop m (drop at s)) ≡ o → Ends (place at (also (λ l. a ∷ l) m o)) → First (suc k) at e
+  first-by : (k at e m : ℕ) (a : A) → at + m ≡ e → r (drop at s) ≡ found a m → (o : Read (List A)) → many r k (drop m (drop at s)) ≡ o → Ends (place-of at (also (λ l. a ∷ l) m o)) → First (suc k) at e
   unfolding row-at many end-of
   first-by k at e m a q h unread z w = absurd w
   first-by k at e m a q h (found l j) z w =
@@ -88,9 +114,9 @@ module _ {A : Type 0} (r : Reader A) (s : List ℕ) where
   unfolding end-of many
   row-more {f} {e} n at z w is q = go n z w (r (drop at s)) refl (sym is ∙ q)
     where
-      go : (n : ℕ) → 0 < n → Ends (place at (many r n (drop at s))) → (o : Read A) → r (drop at s) ≡ o → place at o ≡ At e → First n at e
+      go : (n : ℕ) → 0 < n → Ends (place-of at (many r n (drop at s))) → (o : Read A) → r (drop at s) ≡ o → place-of at o ≡ At e → First n at e
       go zero z w o h x = absurd (omega arith)
-      go (suc k) z w unread h x = let y : _≡_ {A = ℕ} 0 1 = cc in absurd (omega arith)
+      go (suc k) z w unread h x = absurd (true≢false cc)
       go (suc k) z w (found a m) h x =
           let y : at + m ≡ e = cc in
           first-by k at e m a y h (many r k (drop m (drop at s))) refl (rw h at w)
@@ -100,14 +126,14 @@ module _ {A : Type 0} (r : Reader A) (s : List ℕ) where
   unfolding end-of many
   row-first n at z w = go n z w (r (drop at s)) refl
     where
-      go : (n : ℕ) → 0 < n → Ends (place at (many r n (drop at s))) → (o : Read A) → r (drop at s) ≡ o → Ends (place at o)
+      go : (n : ℕ) → 0 < n → Ends (place-of at (many r n (drop at s))) → (o : Read A) → r (drop at s) ≡ o → Ends (place-of at o)
       go zero z w o h = absurd (omega arith)
       go (suc k) z w unread h = rw h at w
       go (suc k) z w (found a m) h = tt
 
 -- one thing and then another one, of which only the second has rules
 pub kept-after : {A B C : Type 0} (f : A → B → C) (ra : Reader A) (rb : Reader B) (kept : C → Bool) (kept-second : B → Bool) (s : List ℕ) (at e : ℕ)
-    → ((a : A) (b : B) → kept (f a b) ≡ kept-second b) → end-of ra s at ≡ At e → kept-at kept (λ l. after f (ra l) rb l) s at ≡ kept-at kept-second rb s e
+    → ((a : A) (b : B) → kept (f a b) ≡ kept-second b) → end-of ra s at ≡ At e → kept-at kept (λ l. then-read f (ra l) rb l) s at ≡ kept-at kept-second rb s e
 unfolding kept-at end-of
 kept-after f ra rb kept second s at e q h = go (ra (drop at s)) h
   where
@@ -115,15 +141,15 @@ kept-after f ra rb kept second s at e q h = go (ra (drop at s)) h
     step a n unread = refl
     step a n (found b m) = q a b
 
-    go : (o : Read _) → place at o ≡ At e → holds kept (after f o rb (drop at s)) ≡ holds second (rb (drop e s))
-    go unread x = let y : _≡_ {A = ℕ} 0 1 = cc in absurd (omega arith)
+    go : (o : Read _) → place-of at o ≡ At e → holds kept (then-read f o rb (drop at s)) ≡ holds second (rb (drop e s))
+    go unread x = absurd (true≢false cc)
     go (found a n) x =
         let y : at + n ≡ e = cc in
         step a n (rb (drop n (drop at s))) ∙ ap (λ (l : List ℕ). holds second (rb l)) (drop-drop n at s ∙ ap (λ (k : ℕ). drop k s) y)
 
 -- a count, and a row of so many
 module _ {A : Type 0} (r : Reader A) (s : List ℕ) (at : ℕ) where
-  also-same : (k : ℕ) (o : Read (List A)) → place at (also (λ x. x) k o) ≡ place (at + k) o
+  also-same : (k : ℕ) (o : Read (List A)) → place-of at (also (λ x. x) k o) ≡ place-of (at + k) o
   also-same k unread = refl
   also-same k (found l n) = ap At (omega arith)
 
@@ -135,7 +161,7 @@ module _ {A : Type 0} (r : Reader A) (s : List ℕ) (at : ℕ) where
   unfolding end-of read-counted word-at
   counted-ends {w} {n} is q =
       let x : word-head (drop at s) ≡ Number n = sym is ∙ q in
-      rw x (also-same 2 (many r n (drop 2 (drop at s))) ∙ ap (λ (l : List ℕ). place (at + 2) (many r n l)) (drop-drop 2 at s))
+      rw x (also-same 2 (many r n (drop 2 (drop at s))) ∙ ap (λ (l : List ℕ). place-of (at + 2) (many r n l)) (drop-drop 2 at s))
 
   pub counted-never : {w : Word} → w ≡ word-at s at → w ≡ Short → end-of (read-counted r) s at ≡ Nothing
   unfolding end-of read-counted word-at

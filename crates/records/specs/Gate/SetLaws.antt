@@ -1,6 +1,6 @@
 -- Laws of a set of variables that is one number: what is in it, and that it is the full set of v bits just where exactly the variables 0 to v - 1 went in.
 use mathlib.Core.Path.{_≡_, refl, sym, ap, _∙_}
-use mathlib.Core.Bool.{Bool, true, false, _&&_, _||_, or-assoc, or-comm, or-false}
+use mathlib.Core.Bool.{Bool, true, false, _&&_, _||_, or-assoc, or-comm, or-false, true≢false}
 use mathlib.Core.List.{List, [], _∷_, _++_}
 use Prim.Native.Nat.{ℕ, zero, suc, _+_, _-_, _*_, _≤_, _<_, _^_, _/_, _%_, max}
 use native.Mathlib.Nat.{div-one, div-eq-of-lt, div-div-eq-div-mul, pow-suc, pow-succ', one-mul}
@@ -62,8 +62,8 @@ either-bit (suc (suc p)) q h k = absurd (omega arith)
 same-bit : (p q : ℕ) → p < 2 → q < 2 → eqb p 1 ≡ eqb q 1 → p ≡ q
 same-bit zero zero h k e = refl
 same-bit (suc zero) (suc zero) h k e = refl
-same-bit zero (suc zero) h k e = let z : _≡_ {A = ℕ} 0 1 = cc in absurd (omega arith)
-same-bit (suc zero) zero h k e = let z : _≡_ {A = ℕ} 0 1 = cc in absurd (omega arith)
+same-bit zero (suc zero) h k e = absurd (true≢false cc)
+same-bit (suc zero) zero h k e = absurd (true≢false cc)
 same-bit zero (suc (suc q)) h k e = absurd (omega arith)
 same-bit (suc zero) (suc (suc q)) h k e = absurd (omega arith)
 same-bit (suc (suc p)) q h k e = absurd (omega arith)
@@ -160,7 +160,3 @@ exactly-end v met = refl
 pub exactly-append : (v met : ℕ) (l k : List ℕ) → every (λ x. ltb x v) l ≡ true → exactly-from v met (l ++ k) ≡ exactly-from v (gathered met l) k
 unfolding exactly-from
 exactly-append v met l k e = rw (every-append (λ x. ltb x v) l k, e, gathered-append met l k)
-
-pub exactly-append-not : (v met : ℕ) (l k : List ℕ) → every (λ x. ltb x v) l ≡ false → exactly-from v met (l ++ k) ≡ false
-unfolding exactly-from
-exactly-append-not v met l k e = rw (every-append (λ x. ltb x v) l k, e)

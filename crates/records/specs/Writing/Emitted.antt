@@ -8,21 +8,20 @@ use native.Mathlib.Nat.{zero-add}
 use native.Mathlib.Omega.{arith}
 use borrow.Author.Tests.{lt-ltb, le-ltb, ltb-true, ltb-false}
 use lib.Dec.{ltb}
-use lib.ListN.{length, take, drop, length-append}
-use lib.Seq.{take-append-seam}
+use lib.ListN.{length, drop, length-append}
 use Rattle.records.specs.Format.Encode.{record-of, record-head}
-use Rattle.records.specs.Gate.Question.{number}
+use Rattle.records.specs.Gate.Question.{question-number}
 use Rattle.records.specs.Gate.Question.Question.{output, fits}
 use Rattle.records.specs.Writing.Patched.{Put, put-then, put-front}
-use Rattle.records.specs.declared.plan.Emit.{Emit}
+use Rattle.records.specs.declared.put.Receipt.{Receipt}
 
 -- one of three values: for an output that is too short, for a record that is too long, and for a record that is written
 unfoldable pub outcome : {A : Type 0} → List ℕ → List ℕ → A → A → A → A
 outcome before rec short long whole = cond (ltb (length before) 32768) short (cond (ltb 32768 (length rec)) long whole)
 
 -- what emitting `rec` into the output `before` leaves: the number, the output after it, and how many bytes were written
-pub record Emitted (before rec : List ℕ) (emit : Emit) (after : List ℕ) : Type 0 where
-  pub number : emit .number ≡ outcome before rec (number output) (number fits) 0
+pub record Emitted (before rec : List ℕ) (emit : Receipt) (after : List ℕ) : Type 0 where
+  pub number : emit .number ≡ outcome before rec (question-number output) (question-number fits) 0
   pub output : after ≡ outcome before rec before before (rec ++ drop (length rec) before)
   pub length : emit .length ≡ outcome before rec 0 0 (length rec)
 
@@ -40,11 +39,11 @@ outcome-whole before rec x y z h k = simp (le-ltb _ _ h, le-ltb _ _ k)
 
 -- emitted from what a writer does: nothing, for either refusal, or all of the record
 pub emitted-short : {before rec : List ℕ} → length before < 32768 → Emitted before rec (record { number = 5; length = 0 }) before
-unfolding number
+unfolding question-number
 emitted-short h = record { number = rw outcome-short; output = rw outcome-short; length = rw outcome-short }
 
 pub emitted-long : {before rec : List ℕ} → 32768 ≤ length before → 32768 < length rec → Emitted before rec (record { number = 10; length = 0 }) before
-unfolding number
+unfolding question-number
 emitted-long h k = record { number = rw outcome-long; output = rw outcome-long; length = rw outcome-long }
 
 pub emitted-whole : {before rec after : List ℕ} {n : ℕ} → 32768 ≤ length before → length rec ≤ 32768 → Put before 0 rec after n
@@ -73,32 +72,15 @@ fit before rec = first (ltb (length before) 32768) refl
     first false e = second (ltb-false _ _ e) (ltb 32768 (length rec)) refl
 
 -- a record that is accepted fits
-pub accepted-fits : {before rec : List ℕ} {emit : Emit} {after : List ℕ} → Emitted before rec emit after → emit .number ≡ 0
+pub accepted-fits : {before rec : List ℕ} {emit : Receipt} {after : List ℕ} → Emitted before rec emit after → emit .number ≡ 0
     → (32768 ≤ length before) × (length rec ≤ 32768)
-unfolding number
+unfolding question-number
 accepted-fits {before} {rec} e z = by (fit before rec)
   where
     by : Fit before rec → (32768 ≤ length before) × (length rec ≤ 32768)
     by (short h) = let n = rw outcome-short at (e .number) in omega arith
     by (long h k) = let n = rw outcome-long at (e .number) in omega arith
     by (whole h k) = (h, k)
-
--- the output then starts with it
-pub accepted-front : {before rec : List ℕ} {emit : Emit} {after : List ℕ} → Emitted before rec emit after → emit .number ≡ 0
-    → take (emit .length) after ≡ rec
-accepted-front {before} {rec} e z =
-    let h : 32768 ≤ length before = accepted-fits e z .0 in
-    let k : length rec ≤ 32768 = accepted-fits e z .1 in
-    rw (e .length, e .output) (simp outcome-whole (take-append-seam _ _))
-
--- a refusal leaves the output as it was
-pub refused-output : {before rec : List ℕ} {emit : Emit} {after : List ℕ} → Emitted before rec emit after → (emit .number ≡ 0 → ⊥) → after ≡ before
-refused-output {before} {rec} {after = after} e z = by (fit before rec)
-  where
-    by : Fit before rec → after ≡ before
-    by (short h) = e .output ∙ rw outcome-short
-    by (long h k) = e .output ∙ rw outcome-long
-    by (whole h k) = absurd (z (e .number ∙ rw outcome-whole))
 
 pub length-record-of : (body : List ℕ) → length (record-of body) ≡ 3 + length body
 unfolding record-of

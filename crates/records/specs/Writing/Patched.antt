@@ -84,13 +84,7 @@ patched-front [] (y ∷ s) h = absurd (not-suc-le-zero h)
 patched-front (x ∷ d) [] h = refl
 patched-front (x ∷ d) (y ∷ s) h = ap (λ (l : List ℕ). y ∷ l) (patched-front d s (le-of-suc-le-suc h))
 
--- reading back: what stands before the bytes, after them, and, where there is room, at their place
-pub take-patched : (before : List ℕ) (at : ℕ) (bytes : List ℕ) → take at (patched before at bytes) ≡ take at before
-unfolding patched
-take-patched [] at s = refl
-take-patched (x ∷ d) zero s = refl
-take-patched (x ∷ d) (suc at) s = ap (λ (l : List ℕ). x ∷ l) (take-patched d at s)
-
+-- reading back: what stands after the bytes, and, where there is room, at their place
 pub drop-patched : (before : List ℕ) (at : ℕ) (bytes : List ℕ) → drop (at + length bytes) (patched before at bytes) ≡ drop (at + length bytes) before
 unfolding patched
 drop-patched [] at s = refl

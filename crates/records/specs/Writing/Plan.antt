@@ -38,7 +38,7 @@ unfoldable pub planned : Plan → List ℕ → List ℕ
 planned p source = record-of (planned-body p source)
 
 -- a plan's ranges lie in the source
-pub record Within (p : Plan) (source : List ℕ) : Type 0 where
+pub record PlanInside (p : Plan) (source : List ℕ) : Type 0 where
   pub goal-inside : Inside (p .goal .range) source
   pub ancestor-inside : Inside (p .ancestors .top .range) source
   pub ancestors-inside : Inside (p .ancestors .rest) source

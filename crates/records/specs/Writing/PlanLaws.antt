@@ -9,7 +9,7 @@ use Rattle.records.specs.Format.Syntax.Event.{event}
 use Rattle.records.specs.Format.Encode.{each, counted, goal-bytes, ancestor-bytes, bet-bytes, port-byte, record-of, event-record}
 use Rattle.records.specs.Writing.Emitted.{length-record-of}
 use Rattle.records.specs.Ends.Range.{cut, Inside, length-cut, inside-at, cut-at}
-use Rattle.records.specs.Writing.Plan.{lead-bytes, piece-bytes, nothing, stack-bytes, planned-body, planned, Within}
+use Rattle.records.specs.Writing.Plan.{lead-bytes, piece-bytes, nothing, stack-bytes, planned-body, planned, PlanInside}
 use Rattle.records.specs.Writing.Plan.{piece-length, stack-length, body-length, plan-length, limited, plan-ends}
 use Rattle.records.specs.Ends.Places.{part-ends}
 use Rattle.records.specs.declared.places.PartEnds.{PartEnds}
@@ -27,7 +27,7 @@ pub length-stack : (stack : Stack) {source : List ℕ} → Inside (stack .top .r
 unfolding stack-bytes
 length-stack stack h k = simp (length-append, length-piece (stack .top) h, length-cut k) (omega arith)
 
-pub length-planned-body : {p : Plan} {source : List ℕ} → Within p source
+pub length-planned-body : {p : Plan} {source : List ℕ} → PlanInside p source
     → length (planned-body p source) ≡ body-length p
 unfolding planned-body
 length-planned-body {p} h =
@@ -38,13 +38,13 @@ length-planned-body {p} h =
       length-stack (p .bets) (h .bet-inside) (h .bets-inside),
     ) (omega arith)
 
-pub length-planned : {p : Plan} {source : List ℕ} → Within p source
+pub length-planned : {p : Plan} {source : List ℕ} → PlanInside p source
     → length (planned p source) ≡ plan-length p
 unfolding planned
 length-planned h = simp (length-record-of, length-planned-body h) refl
 
 -- a limited length over the limit: so is the record
-pub limited-long : {p : Plan} {source : List ℕ} {n : ℕ} → Within p source → n ≡ limited (plan-length p) → 32768 < n
+pub limited-long : {p : Plan} {source : List ℕ} {n : ℕ} → PlanInside p source → n ≡ limited (plan-length p) → 32768 < n
     → 32768 < length (planned p source)
 limited-long {p} h e k = rw (length-planned h) (over (plan-length p) (rw e at k))
   where
@@ -52,7 +52,7 @@ limited-long {p} h e k = rw (length-planned h) (over (plan-length p) (rw e at k)
     over m l = omega arith
 
 -- a limited length within the limit is the record's
-pub limited-whole : {p : Plan} {source : List ℕ} {n : ℕ} → Within p source → n ≡ limited (plan-length p) → n ≤ 32768
+pub limited-whole : {p : Plan} {source : List ℕ} {n : ℕ} → PlanInside p source → n ≡ limited (plan-length p) → n ≤ 32768
     → n ≡ length (planned p source)
 limited-whole {p} h e k = rw (length-planned h) (within (plan-length p) e k)
   where
@@ -103,7 +103,7 @@ ends-measured p {goal = goal} {ancestors} a b c d =
     rw (x, y) refl
 
 -- and its ends are the event's, where the record is not too long
-pub planned-ends : (p : Plan) (port : Port) (g : Goal) (u : List Ancestor) (s : List Bet) {source : List ℕ} → Within p source
+pub planned-ends : (p : Plan) (port : Port) (g : Goal) (u : List Ancestor) (s : List Bet) {source : List ℕ} → PlanInside p source
     → piece-bytes (p .goal) source ≡ goal-bytes g → stack-bytes (p .ancestors) source ≡ counted ancestor-bytes u
     → length (event-record (event port g u s)) ≤ 32768 → plan-ends p ≡ part-ends (event port g u s)
 unfolding part-ends record-of

@@ -1,128 +1,206 @@
--- What the layouts make of an accepted event: each is the plan of the event that it claims, with its ranges inside.
-use Prim.Native.Nat.{ℕ, _+_, _-_, _≤_}
+-- The layouts make of an accepted event the events that they claim: its pieces and stacks, and then each plan. A layout's law holds for every port
+-- before and after, so that a rule and its reading back share it.
+use mathlib.Core.Path.{_≡_, refl}
+use mathlib.Core.List.{List, [], _∷_, _++_}
+use Prim.Native.Nat.{ℕ, _+_, _≤_}
 use native.Mathlib.Omega.{arith}
-use mathlib.Core.Path.{_≡_, refl, ap}
-use mathlib.Core.List.{List, _∷_, _++_}
 use lib.ListN.{length}
-use Rattle.records.specs.Format.Syntax.{Goal, Half, Ancestor, Bet, or, by, Port, Event, event}
-use Rattle.records.specs.Format.Encode.{word, each, counted, tag, goal-bytes, ancestor-bytes, bet-bytes, port-byte, event-record}
-use Rattle.records.specs.Ends.Range.{cut, Inside}
-use Rattle.records.specs.Writing.Patched.{Put, put-length}
-use Rattle.records.specs.Writing.Plan.{lead-bytes, piece-bytes, stack-bytes, planned, Within, plan-ends}
-use Rattle.records.specs.Writing.PlanLaws.{nothing-inside, nothing-bytes, stack-pushed, stack-kept, planned-event, planned-ends}
-use Rattle.records.specs.Ends.Stands.{Stands, stands-first, stands-second, stands-cut, stands-inside}
-use Rattle.records.specs.Ends.Places.{goal-end, part-ends}
-use Rattle.records.specs.declared.put.Range.{Range}
-use Rattle.records.specs.declared.plan.Lead.{Lead}
+use Rattle.records.specs.Format.Syntax.{Goal, conj, disj, atom, Half, Ancestor, called, in-conj, in-disj, Bet, unifier, or, by, Port, Terms, event}
+use Rattle.records.specs.Format.Encode.{tag, goal-bytes, ancestor-bytes, bet-bytes, port-byte}
+use Rattle.records.specs.Ends.Stands.{Stands, stands-second}
+use Rattle.records.specs.Ends.Places.{goal-end, EventParts}
+use Rattle.records.specs.declared.plan.Lead.the-variants.{Bare, One, Two}
 use Rattle.records.specs.declared.plan.Piece.{Piece}
-use Rattle.records.specs.declared.plan.Stack.{Stack}
-use Rattle.records.specs.declared.plan.Plan.{Plan}
-use Rattle.terms.specs.Values.Applied.{put-stands}
-use Rattle.stepper.specs.Plans.View.{stack-places}
-use Rattle.stepper.specs.Plans.ViewLaws.{rest-stands}
-use Rattle.stepper.specs.Plans.Layouts.{or-tag, same, dropped, pushed, replaced, plan-of}
-use Rattle.stepper.specs.declared.view.Part.{Part}
+use Rattle.records.specs.Writing.Plan.{PlanInside}
+use Rattle.terms.specs.Standing.Accepted.{ancestors-at, bets-at}
+use Rattle.stepper.specs.Plans.View.{goal-part, ancestor-end, ancestor-part, bet-end, bet-part, stack-places, event-view}
+use Rattle.stepper.specs.Plans.ViewLaws.{top-stands, rest-stands}
+use Rattle.stepper.specs.Plans.Layouts.{whole, by-goal, content-of, unchanged, dropped, pushed, replaced, plan-of, kept, bet-dropped, entered, chosen, reached, left, left-with-or, atom-left, atom-left-by, body-entered}
+use Rattle.stepper.specs.Plans.Made.{MakesPiece, MakesStack, cuts, piece, Halves, halves, stack-same, stack-more, stack-less, stack-changed, Plans, plan-is, or-piece, half-made}
+use Rattle.stepper.specs.Rules.Rules.{selected}
 
--- a range lies in s and cuts x out of it
-pub record Cuts (s : List ℕ) (r : Range) (x : List ℕ) : Type 0 where
-  pub is : cut s r ≡ x
-  pub inside : Inside r s
+-- a part ends where its bytes do
+pub goal-ends : (at : ℕ) (g : Goal) → goal-part at g .to ≡ goal-end at g
+goal-ends at Goal.truth = refl
+goal-ends at Goal.failure = refl
+goal-ends at (Goal.equal t u) = refl
+goal-ends at (conj a b) = refl
+goal-ends at (disj a b) = refl
+goal-ends at (atom p ts) = refl
 
--- a piece made from s is x
-pub record Pieces (s : List ℕ) (piece : Piece) (x : List ℕ) : Type 0 where
-  pub is : piece-bytes piece s ≡ x
-  pub inside : Inside (piece .range) s
+pub goal-starts : (at : ℕ) (g : Goal) → goal-part at g .from ≡ at
+goal-starts at Goal.truth = refl
+goal-starts at Goal.failure = refl
+goal-starts at (Goal.equal t u) = refl
+goal-starts at (conj a b) = refl
+goal-starts at (disj a b) = refl
+goal-starts at (atom p ts) = refl
 
--- a stack made from s is the stack l
-pub record Stacks {A : Type 0} (bytes : A → List ℕ) (s : List ℕ) (stack : Stack) (l : List A) : Type 0 where
-  pub is : stack-bytes stack s ≡ counted bytes l
-  pub top-inside : Inside (stack .top .range) s
-  pub rest-inside : Inside (stack .rest) s
+pub ancestor-ends : (at : ℕ) (a : Ancestor) → ancestor-part at a .to ≡ ancestor-end at a
+ancestor-ends at (called p ts) = refl
+ancestor-ends at (in-conj h a b) = refl
+ancestor-ends at (in-disj h a b) = refl
 
--- a plan over s gives the record of the event e, its ranges lie in s, and it tells where the event's parts end
-pub record Plans (s : List ℕ) (p : Plan) (e : Event) : Type 0 where
-  pub is : planned p s ≡ event-record e
-  pub within : Within p s
-  pub ends : length (event-record e) ≤ 32768 → plan-ends p ≡ part-ends e
+pub bet-ends : (at : ℕ) (b : Bet) → bet-part at b .to ≡ bet-end at b
+bet-ends at (unifier m) = refl
+bet-ends at (or h) = refl
+bet-ends at (by g) = refl
 
-pub plan-is : {s : List ℕ} (port : Port) {g : Goal} {u : List Ancestor} {b : List Bet} {piece : Piece} {ancestors bets : Stack}
-    → Pieces s piece (goal-bytes g) → Stacks ancestor-bytes s ancestors u → Stacks bet-bytes s bets b
-    → Plans s (plan-of (port-byte port) piece ancestors bets) (event port g u b)
-unfolding plan-of
-plan-is {s} port {g} {u} {b} {piece} {ancestors} {bets} x y z =
-    let p : Plan = record { port = port-byte port; goal = piece; ancestors = ancestors; bets = bets } in
-    let inside : Within p s =
-    record { goal-inside = x .inside; ancestor-inside = y .top-inside; ancestors-inside = y .rest-inside; bet-inside = z .top-inside; bets-inside = z .rest-inside } in record {
-      is = planned-event p port g u b s refl (x .is) (y .is) (z .is);
-      within = inside;
-      ends = planned-ends p port g u b inside (x .is) (y .is);
-    }
+-- the parts of an event lie in it
+module _ {s : List ℕ} {p : Port} {g : Goal} {u : List Ancestor} {b : List Bet} (w : EventParts s p g u b) where
+  pub goal-stops : goal-end 4 g ≤ length s
+  goal-stops = omega (arith, w .bets-stand .end)
 
--- what stands in s is cut out by its places
-pub cuts : {s : List ℕ} {at : ℕ} {x : List ℕ} {e : ℕ} → Stands s at x e → e ≤ length s → Cuts s (record { from = at; to = e }) x
-cuts w h = record { is = stands-cut w; inside = stands-inside w h }
+  pub ancestors-stop : bets-at g u ≤ length s
+  ancestors-stop = omega (arith, w .bets-stand .end)
 
--- what was put at the start of a buffer
-pub put-cuts : {before x after : List ℕ} {n : ℕ} → Put before 0 x after n → length x ≤ length before → Cuts after (record { from = 0; to = n }) x
-put-cuts p h = cuts (put-stands p (omega arith)) (omega (arith, put-length p, p .place))
+  pub goal-whole : MakesPiece s (whole (goal-part 4 g)) (goal-bytes g)
+  goal-whole = rw (goal-starts 4 g, goal-ends 4 g) (piece Bare (cuts (w .goal-stands) goal-stops))
 
-pub piece : {s : List ℕ} {r : Range} {x : List ℕ} (lead : Lead) → Cuts s r x → Pieces s (record { lead = lead; range = r }) (lead-bytes lead ++ x)
-unfolding piece-bytes
-piece lead c = record { is = ap (λ (l : List ℕ). lead-bytes lead ++ l) (c .is); inside = c .inside }
+  pub goal-by : MakesPiece s (by-goal (goal-part 4 g)) (bet-bytes (by g))
+  goal-by = rw (goal-starts 4 g, goal-ends 4 g) (piece (One 0x22) (cuts (w .goal-stands) goal-stops))
 
--- the bet OR
-pub or-piece : (s : List ℕ) (h : Half) → Pieces s (or-tag (tag h)) (bet-bytes (or h))
-unfolding piece-bytes
-or-piece s h = record { is = ap (λ (l : List ℕ). 0x21 ∷ tag h ∷ l) (nothing-bytes s); inside = nothing-inside s }
+  pub ancestors-same : MakesStack ancestor-bytes s (unchanged (stack-places ancestor-bytes ancestor-part (ancestors-at g) u)) u
+  ancestors-same = stack-same ancestor-bytes ancestor-part u (w .ancestors-stand) ancestors-stop
 
--- the halves that stand one after the other, and both of them
-pub record Halves (s : List ℕ) (from middle to : ℕ) (a b : Goal) : Type 0 where
-  pub fore : Cuts s (record { from = from; to = middle }) (goal-bytes a)
-  pub aft : Cuts s (record { from = middle; to = to }) (goal-bytes b)
-  pub both : Cuts s (record { from = from; to = to }) (goal-bytes a ++ goal-bytes b)
+  pub ancestors-more : {top : Piece} (a : Ancestor) → MakesPiece s top (ancestor-bytes a)
+      → MakesStack ancestor-bytes s (pushed (stack-places ancestor-bytes ancestor-part (ancestors-at g) u) top) (a ∷ u)
+  ancestors-more a q = stack-more ancestor-bytes ancestor-part u (w .ancestors-stand) ancestors-stop a q
 
-pub halves : {s : List ℕ} {at e : ℕ} (a b : Goal) → Stands s at (goal-bytes a ++ goal-bytes b) e → e ≤ length s → Halves s at (goal-end at a) e a b
-halves {s} {at} {e} a b w h =
-    let v = stands-second (goal-bytes a) (goal-bytes b) w in
-    record { fore = cuts (stands-first (goal-bytes a) (goal-bytes b) w) (omega (arith, v .end)); aft = cuts v h; both = cuts w h }
+  pub bets-same : MakesStack bet-bytes s (unchanged (stack-places bet-bytes bet-part (bets-at g u) b)) b
+  bets-same = stack-same bet-bytes bet-part b (w .bets-stand) (omega arith)
 
--- stacks of an event: as it is, with one more on it
-module _ {A : Type 0} {s : List ℕ} {at e : ℕ} (bytes : A → List ℕ) (part : ℕ → A → Part) (l : List A) (w : Stands s at (counted bytes l) e) (h : e ≤ length s) where
-  pub items : Cuts s (record { from = at + 2; to = at + length (counted bytes l) }) (each bytes l)
-  items = rw (← w .end) (cuts (stands-second (word (length l)) (each bytes l) w) h)
+  pub bets-more : {top : Piece} (x : Bet) → MakesPiece s top (bet-bytes x)
+      → MakesStack bet-bytes s (pushed (stack-places bet-bytes bet-part (bets-at g u) b) top) (x ∷ b)
+  bets-more x q = stack-more bet-bytes bet-part b (w .bets-stand) (omega arith) x q
 
-  pub stack-same : Stacks bytes s (same (stack-places bytes part at l)) l
-  stack-same = record {
-    is = stack-kept bytes l (same (stack-places bytes part at l)) s refl (nothing-bytes s) (items .is);
-    top-inside = nothing-inside s;
-    rest-inside = items .inside;
-  }
+-- those with a bet on top, or an ancestor
+module _ {s : List ℕ} {p : Port} {g : Goal} {u : List Ancestor} {x : Bet} {b : List Bet} (w : EventParts s p g u (x ∷ b)) where
+  pub bets-less : MakesStack bet-bytes s (dropped (stack-places bet-bytes bet-part (bets-at g u) (x ∷ b))) b
+  bets-less = stack-less bet-bytes bet-part x b (bet-ends _ x) (w .bets-stand) (omega arith)
 
-  pub stack-more : {top : Piece} (x : A) → Pieces s top (bytes x) → Stacks bytes s (pushed (stack-places bytes part at l) top) (x ∷ l)
-  unfolding pushed
-  stack-more {top} x q = record {
-    is = stack-pushed bytes x l (record { count = length l + 1; top = top; rest = record { from = at + 2; to = at + length (counted bytes l) } }) s (omega arith) (q .is) (items .is);
-    top-inside = q .inside;
-    rest-inside = items .inside;
-  }
+module _ {s : List ℕ} {p : Port} {g : Goal} {a : Ancestor} {u : List Ancestor} {b : List Bet} (w : EventParts s p g (a ∷ u) b) where
+  pub ancestors-less : MakesStack ancestor-bytes s (dropped (stack-places ancestor-bytes ancestor-part (ancestors-at g) (a ∷ u))) u
+  ancestors-less = stack-less ancestor-bytes ancestor-part a u (ancestor-ends _ a) (w .ancestors-stand) (ancestors-stop w)
 
--- with one less on it, and with another one in place of its top
-module _ {A : Type 0} {s : List ℕ} {at e : ℕ} (bytes : A → List ℕ) (part : ℕ → A → Part) (x : A) (l : List A) (ends : part (at + 2) x .to ≡ at + 2 + length (bytes x))
-    (w : Stands s at (counted bytes (x ∷ l)) e) (h : e ≤ length s) where
-  under : Cuts s (record { from = part (at + 2) x .to; to = at + length (counted bytes (x ∷ l)) }) (each bytes l)
-  under = rw (ends, ← w .end) (cuts (rest-stands bytes x l w) h)
+  pub ancestors-changed : {top : Piece} (c : Ancestor) → MakesPiece s top (ancestor-bytes c)
+      → MakesStack ancestor-bytes s (replaced (stack-places ancestor-bytes ancestor-part (ancestors-at g) (a ∷ u)) top) (c ∷ u)
+  ancestors-changed c q = stack-changed ancestor-bytes ancestor-part a u (ancestor-ends _ a) (w .ancestors-stand) (ancestors-stop w) c q
 
-  pub stack-less : Stacks bytes s (dropped (stack-places bytes part at (x ∷ l))) l
-  stack-less = record {
-    is = stack-kept bytes l (dropped (stack-places bytes part at (x ∷ l))) s (omega arith) (nothing-bytes s) (under .is);
-    top-inside = nothing-inside s;
-    rest-inside = under .inside;
-  }
+  pub ancestor-stands : Stands s (ancestors-at g + 2) (ancestor-bytes a) (ancestor-end (ancestors-at g + 2) a)
+  ancestor-stands = top-stands ancestor-bytes a u (w .ancestors-stand)
 
-  pub stack-changed : {top : Piece} (y : A) → Pieces s top (bytes y) → Stacks bytes s (replaced (stack-places bytes part at (x ∷ l)) top) (y ∷ l)
-  unfolding replaced
-  stack-changed {top} y q = record {
-    is = stack-pushed bytes y l (record { count = length (x ∷ l); top = top; rest = record { from = part (at + 2) x .to; to = at + length (counted bytes (x ∷ l)) } }) s refl (q .is) (under .is);
-    top-inside = q .inside;
-    rest-inside = under .inside;
-  }
+  pub ancestor-stops : ancestor-end (ancestors-at g + 2) a ≤ length s
+  ancestor-stops = omega (arith, rest-stands ancestor-bytes a u (w .ancestors-stand) .end, w .bets-stand .end)
+
+-- the halves of a goal, and of the ancestor on top
+pub goal-conj : {s : List ℕ} {p : Port} {u : List Ancestor} {b : List Bet} (c d : Goal) → EventParts s p (conj c d) u b → Halves s 5 (goal-end 5 c) (goal-end 4 (conj c d)) c d
+goal-conj c d w = halves c d (stands-second (0x13 ∷ []) (goal-bytes c ++ goal-bytes d) (w .goal-stands)) (goal-stops w)
+
+pub goal-disj : {s : List ℕ} {p : Port} {u : List Ancestor} {b : List Bet} (c d : Goal) → EventParts s p (disj c d) u b → Halves s 5 (goal-end 5 c) (goal-end 4 (disj c d)) c d
+goal-disj c d w = halves c d (stands-second (0x14 ∷ []) (goal-bytes c ++ goal-bytes d) (w .goal-stands)) (goal-stops w)
+
+abbrev pub top-at : Goal → ℕ
+top-at g = ancestors-at g + 2
+
+module _ {s : List ℕ} {p : Port} {g : Goal} {u : List Ancestor} {b : List Bet} (h : Half) (c d : Goal) where
+  pub under-conj : EventParts s p g (in-conj h c d ∷ u) b → Halves s (top-at g + 2) (goal-end (top-at g + 2) c) (ancestor-end (top-at g) (in-conj h c d)) c d
+  under-conj w = halves c d (stands-second (0x30 ∷ tag h ∷ []) (goal-bytes c ++ goal-bytes d) (ancestor-stands w)) (ancestor-stops w)
+
+  pub under-disj : EventParts s p g (in-disj h c d ∷ u) b → Halves s (top-at g + 2) (goal-end (top-at g + 2) c) (ancestor-end (top-at g) (in-disj h c d)) c d
+  under-disj w = halves c d (stands-second (0x31 ∷ tag h ∷ []) (goal-bytes c ++ goal-bytes d) (ancestor-stands w)) (ancestor-stops w)
+
+-- the goal of BY
+pub by-content : {s : List ℕ} {p : Port} {g : Goal} {u : List Ancestor} {b : List Bet} (c : Goal) → (w : EventParts s p g u (by c ∷ b))
+    → MakesPiece s (content-of (bet-part (bets-at g u + 2) (by c))) (goal-bytes c)
+by-content {s} {p} {g} {u} {b} c w =
+    let v = stands-second (0x22 ∷ []) (goal-bytes c) (top-stands bet-bytes (by c) b (w .bets-stand)) in
+    piece Bare (cuts v (omega (arith, rest-stands bet-bytes (by c) b (w .bets-stand) .end)))
+
+module _ {s : List ℕ} {p : Port} (q : Port) {u : List Ancestor} {b : List Bet} where
+  -- call true, call fail, redo true; and fail of an equality or an atom
+  pub kept-plans : {g : Goal} → EventParts s p g u b → Plans s (kept (event-view (event p g u b)) (port-byte q)) (event q g u b)
+  unfolding event-view
+  kept-plans w = plan-is q (goal-whole w) (ancestors-same w) (bets-same w)
+
+  pub kept-within : {g : Goal} → EventParts s p g u b → (port : ℕ) → PlanInside (kept (event-view (event p g u b)) port) s
+  unfolding event-view plan-of
+  kept-within w port = let a = ancestors-same w in let z = bets-same w in
+      record { goal-inside = goal-whole w .inside; ancestor-inside = a .top-inside; ancestors-inside = a .rest-inside; bet-inside = z .top-inside; bets-inside = z .rest-inside }
+
+  -- redo of an equality
+  pub bet-dropped-plans : {g : Goal} {x : Bet} → EventParts s p g u (x ∷ b) → Plans s (bet-dropped (event-view (event p g u (x ∷ b))) (port-byte q)) (event q g u b)
+  unfolding event-view
+  bet-dropped-plans w = plan-is q (goal-whole w) (ancestors-same w) (bets-less w)
+
+  -- to a half
+  pub entered-conj-plans : (h : Half) {c d : Goal} → EventParts s p (conj c d) u b
+      → Plans s (entered (event-view (event p (conj c d) u b)) (port-byte q) 0x30 (tag h)) (event q (selected h c d) (in-conj h c d ∷ u) b)
+  unfolding event-view
+  entered-conj-plans h {c} {d} w =
+      let k = goal-conj c d w in
+      plan-is q (half-made (goal-part 4 (conj c d)) h k) (ancestors-more w (in-conj h c d) (piece (Two 0x30 (tag h)) (k .both))) (bets-same w)
+
+  pub entered-disj-plans : (h : Half) {c d : Goal} → EventParts s p (disj c d) u b
+      → Plans s (entered (event-view (event p (disj c d) u b)) (port-byte q) 0x31 (tag h)) (event q (selected h c d) (in-disj h c d ∷ u) b)
+  unfolding event-view
+  entered-disj-plans h {c} {d} w =
+      let k = goal-disj c d w in
+      plan-is q (half-made (goal-part 4 (disj c d)) h k) (ancestors-more w (in-disj h c d) (piece (Two 0x31 (tag h)) (k .both))) (bets-same w)
+
+  -- to the half that OR names
+  pub chosen-plans : (h : Half) {c d : Goal} → EventParts s p (disj c d) u (or h ∷ b)
+      → Plans s (chosen (event-view (event p (disj c d) u (or h ∷ b))) (port-byte q)) (event q (selected h c d) (in-disj h c d ∷ u) b)
+  unfolding event-view
+  chosen-plans h {c} {d} w =
+      let k = goal-disj c d w in
+      plan-is q (half-made (goal-part 4 (disj c d)) h k) (ancestors-more w (in-disj h c d) (piece (Two 0x31 (tag h)) (k .both))) (bets-less w)
+
+  -- from half to half
+  pub reached-conj-plans : (from to : Half) {g c d : Goal} → EventParts s p g (in-conj from c d ∷ u) b
+      → Plans s (reached (event-view (event p g (in-conj from c d ∷ u) b)) (port-byte q) 0x30 (tag to)) (event q (selected to c d) (in-conj to c d ∷ u) b)
+  unfolding event-view
+  reached-conj-plans from to {g} {c} {d} w =
+      let k = under-conj from c d w in
+      plan-is q (half-made (ancestor-part (top-at g) (in-conj from c d)) to k) (ancestors-changed w (in-conj to c d) (piece (Two 0x30 (tag to)) (k .both))) (bets-same w)
+
+  pub reached-disj-plans : (from to : Half) {g c d : Goal} → EventParts s p g (in-disj from c d ∷ u) b
+      → Plans s (reached (event-view (event p g (in-disj from c d ∷ u) b)) (port-byte q) 0x31 (tag to)) (event q (selected to c d) (in-disj to c d ∷ u) b)
+  unfolding event-view
+  reached-disj-plans from to {g} {c} {d} w =
+      let k = under-disj from c d w in
+      plan-is q (half-made (ancestor-part (top-at g) (in-disj from c d)) to k) (ancestors-changed w (in-disj to c d) (piece (Two 0x31 (tag to)) (k .both))) (bets-same w)
+
+  -- from a half to the whole
+  pub conj-left-plans : {g c d : Goal} (h : Half) → EventParts s p g (in-conj h c d ∷ u) b
+      → Plans s (left (event-view (event p g (in-conj h c d ∷ u) b)) (port-byte q) 0x13) (event q (conj c d) u b)
+  unfolding event-view
+  conj-left-plans {g} {c} {d} h w = plan-is q (piece (One 0x13) (under-conj h c d w .both)) (ancestors-less w) (bets-same w)
+
+  pub disj-left-plans : {g c d : Goal} (h : Half) → EventParts s p g (in-disj h c d ∷ u) b
+      → Plans s (left (event-view (event p g (in-disj h c d ∷ u) b)) (port-byte q) 0x14) (event q (disj c d) u b)
+  unfolding event-view
+  disj-left-plans {g} {c} {d} h w = plan-is q (piece (One 0x14) (under-disj h c d w .both)) (ancestors-less w) (bets-same w)
+
+  pub left-with-or-plans : {g c d : Goal} (h : Half) → EventParts s p g (in-disj h c d ∷ u) b
+      → Plans s (left-with-or (event-view (event p g (in-disj h c d ∷ u) b)) (port-byte q)) (event q (disj c d) u (or h ∷ b))
+  unfolding event-view
+  left-with-or-plans {g} {c} {d} h w =
+      plan-is q (piece (One 0x14) (under-disj h c d w .both)) (ancestors-less w) (bets-more w (or h) (or-piece s h))
+
+  -- from a body to its atom, and from an atom to the body that BY names
+  pub atom-left-plans : {g : Goal} {n : ℕ} {ts : Terms} → EventParts s p g (called n ts ∷ u) b
+      → Plans s (atom-left (event-view (event p g (called n ts ∷ u) b)) (port-byte q)) (event q (atom n ts) u b)
+  unfolding event-view
+  atom-left-plans w = plan-is q (piece Bare (cuts (ancestor-stands w) (ancestor-stops w))) (ancestors-less w) (bets-same w)
+
+  pub atom-left-by-plans : {g : Goal} {n : ℕ} {ts : Terms} → EventParts s p g (called n ts ∷ u) b
+      → Plans s (atom-left-by (event-view (event p g (called n ts ∷ u) b)) (port-byte q)) (event q (atom n ts) u (by g ∷ b))
+  unfolding event-view
+  atom-left-by-plans {g} w =
+      plan-is q (piece Bare (cuts (ancestor-stands w) (ancestor-stops w))) (ancestors-less w) (bets-more w (by g) (goal-by w))
+
+  pub body-entered-plans : {n : ℕ} {ts : Terms} {g : Goal} → EventParts s p (atom n ts) u (by g ∷ b)
+      → Plans s (body-entered (event-view (event p (atom n ts) u (by g ∷ b))) (port-byte q)) (event q g (called n ts ∷ u) b)
+  unfolding event-view
+  body-entered-plans {n} {ts} {g} w = plan-is q (by-content g w) (ancestors-more w (called n ts) (goal-whole w)) (bets-less w)

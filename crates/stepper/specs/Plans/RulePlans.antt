@@ -4,20 +4,20 @@ use Prim.Native.Nat.{ℕ}
 use lib.Dec.{eqb}
 use Rattle.records.specs.Format.Heads.{pick}
 use Rattle.records.specs.declared.plan.Plan.{Plan}
-use Rattle.stepper.specs.Plans.Layouts.{atom-left, atom-left-by, bet-dropped, body-entered, chosen, first-entered, first-reached, kept, left, left-with-or, second-entered, second-reached}
+use Rattle.stepper.specs.Plans.Layouts.{atom-left, atom-left-by, bet-dropped, body-entered, chosen, entered, kept, left, left-with-or, reached}
 use Rattle.stepper.specs.declared.view.View.{View}
 
 -- the plan of the rule with this number
 unfoldable pub forward-plan : View → (n : ℕ) → Plan
 forward-plan v n =
-    pick (eqb n 1) (first-entered v 1 0x30)
-    (pick (eqb n 2) (second-reached v 1 0x30)
+    pick (eqb n 1) (entered v 1 0x30 1)
+    (pick (eqb n 2) (reached v 1 0x30 2)
     (pick (eqb n 3) (left v 3 0x13)
     (pick (eqb n 4) (left v 2 0x13)
-    (pick (eqb n 5) (first-reached v 4 0x30)
-    (pick (eqb n 6) (second-entered v 4 0x30)
-    (pick (eqb n 7) (first-entered v 1 0x31)
-    (pick (eqb n 8) (second-reached v 1 0x31)
+    (pick (eqb n 5) (reached v 4 0x30 1)
+    (pick (eqb n 6) (entered v 4 0x30 2)
+    (pick (eqb n 7) (entered v 1 0x31 1)
+    (pick (eqb n 8) (reached v 1 0x31 2)
     (pick (eqb n 9) (left v 3 0x14)
     (pick (eqb n 10) (left-with-or v 2)
     (pick (eqb n 11) (left-with-or v 2)
@@ -32,14 +32,14 @@ forward-plan v n =
 unfoldable pub back-plan : View → (n : ℕ) → Plan
 back-plan v n =
     pick (eqb n 1) (left v 1 0x13)
-    (pick (eqb n 2) (first-reached v 2 0x30)
-    (pick (eqb n 3) (first-entered v 3 0x30)
-    (pick (eqb n 4) (second-entered v 2 0x30)
-    (pick (eqb n 5) (second-reached v 3 0x30)
+    (pick (eqb n 2) (reached v 2 0x30 1)
+    (pick (eqb n 3) (entered v 3 0x30 1)
+    (pick (eqb n 4) (entered v 2 0x30 2)
+    (pick (eqb n 5) (reached v 3 0x30 2)
     (pick (eqb n 6) (left v 4 0x13)
     (pick (eqb n 7) (left v 1 0x14)
-    (pick (eqb n 8) (first-reached v 3 0x31)
-    (pick (eqb n 9) (second-entered v 3 0x31)
+    (pick (eqb n 8) (reached v 3 0x31 1)
+    (pick (eqb n 9) (entered v 3 0x31 2)
     (pick (eqb n 10) (chosen v 2)
     (pick (eqb n 11) (chosen v 2)
     (pick (eqb n 12) (left-with-or v 4)

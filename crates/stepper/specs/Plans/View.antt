@@ -1,6 +1,5 @@
 -- What a rule looks at in an event: where the parts of its goal and of the tops of its stacks stand, told by the bytes and told by the tree.
 -- Choice: a count with one more and with one less on the stack is part of the view, so that a rule's plan needs no arithmetic.
-use mathlib.Core.Path.{_≡_}
 use mathlib.Core.List.{List, [], _∷_}
 use Prim.Native.Nat.{ℕ, _+_, _-_, _<_}
 use lib.Dec.{eqb}
@@ -9,40 +8,28 @@ use Rattle.records.specs.Format.Syntax.{Goal, truth, failure, equal, conj, disj
 use Rattle.records.specs.Format.Encode.{term-bytes, tag, ancestor-bytes, bet-bytes, counted, port-byte}
 use Rattle.records.specs.Format.Heads.{pick}
 use Rattle.records.specs.Format.Items.{read-ancestor, read-bet}
-use Rattle.records.specs.Ends.Walk.{end-of, end-at}
-use Rattle.records.specs.Gate.Gate.{tree, read-event}
-use Rattle.records.specs.Ends.Places.{goal-end, part-ends}
-use Rattle.records.specs.declared.ends.Found.{Found}
-use Rattle.records.specs.declared.ends.Found.the-variants.{At, Nothing}
+use Rattle.records.specs.Ends.Traversal.{position, end-of, end-at}
+use Rattle.records.specs.Ends.Places.{goal-end, EventParts}
 use Rattle.records.specs.declared.put.Range.{Range}
 use Rattle.records.specs.declared.places.Row.{Row}
-use Rattle.records.specs.declared.places.PartEnds.{PartEnds}
+use Rattle.terms.specs.Standing.Accepted.{ancestors-at, bets-at}
 use Rattle.stepper.specs.declared.view.Part.{Part}
 use Rattle.stepper.specs.declared.view.StackPlaces.{StackPlaces}
 use Rattle.stepper.specs.declared.view.View.{View}
 
--- where the parts of an accepted event end
-abbrev pub EndsOf : List ℕ → PartEnds → Type 0
-EndsOf s ends = (e : Event) → read-event s ≡ tree e → ends ≡ part-ends e
-
--- the end that was found
-abbrev pub found-end : Found → ℕ
-found-end (At e) = e
-found-end Nothing = 0
-
 -- where the second term or half of a goal starts, by its kind
 unfoldable pub middle-at : List ℕ → ℕ → (kind to : ℕ) → ℕ
 middle-at s at kind to =
-    pick (eqb kind 0x12) (found-end (end-at s at 1 0))
-    (pick (eqb kind 0x13) (found-end (end-at s at 0 1))
-    (pick (eqb kind 0x14) (found-end (end-at s at 0 1)) to))
+    pick (eqb kind 0x12) (position (end-at s at 1 0))
+    (pick (eqb kind 0x13) (position (end-at s at 0 1))
+    (pick (eqb kind 0x14) (position (end-at s at 0 1)) to))
 
 -- a part with a tag, and one without a tag
-abbrev pub tagged : (kind tag at middle to : ℕ) → Part
-tagged kind tag at middle to = record { kind = kind; tag = tag; from = at; content = at + 2; middle = middle; to = to }
+abbrev pub tagged-part : (kind tag at middle to : ℕ) → Part
+tagged-part kind tag at middle to = record { kind = kind; tag = tag; from = at; content = at + 2; middle = middle; to = to }
 
-abbrev pub untagged : (kind at middle to : ℕ) → Part
-untagged kind at middle to = record { kind = kind; tag = 0; from = at; content = at + 1; middle = middle; to = to }
+abbrev pub untagged-part : (kind at middle to : ℕ) → Part
+untagged-part kind at middle to = record { kind = kind; tag = 0; from = at; content = at + 1; middle = middle; to = to }
 
 -- no part
 abbrev pub no-part : ℕ → Part
@@ -50,17 +37,17 @@ no-part at = record { kind = 0; tag = 0; from = at; content = at; middle = at; t
 
 -- the parts at a position, by the bytes
 abbrev pub goal-part-at : List ℕ → Range → Part
-goal-part-at s r = let kind = getD s (r .from) 0 in untagged kind (r .from) (middle-at s (r .from + 1) kind (r .to)) (r .to)
+goal-part-at s r = let kind = getD s (r .from) 0 in untagged-part kind (r .from) (middle-at s (r .from + 1) kind (r .to)) (r .to)
 
 unfoldable pub ancestor-part-at : List ℕ → ℕ → Part
 ancestor-part-at s at =
-    let to = found-end (end-of read-ancestor s at) in
-    pick (eqb (getD s at 0) 0x15) (untagged (getD s at 0) at to to) (tagged (getD s at 0) (getD s (at + 1) 0) at (found-end (end-at s (at + 2) 0 1)) to)
+    let to = position (end-of read-ancestor s at) in
+    pick (eqb (getD s at 0) 0x15) (untagged-part (getD s at 0) at to to) (tagged-part (getD s at 0) (getD s (at + 1) 0) at (position (end-at s (at + 2) 0 1)) to)
 
 unfoldable pub bet-part-at : List ℕ → ℕ → Part
 bet-part-at s at =
-    let to = found-end (end-of read-bet s at) in
-    pick (eqb (getD s at 0) 0x21) (tagged (getD s at 0) (getD s (at + 1) 0) at to to) (untagged (getD s at 0) at to to)
+    let to = position (end-of read-bet s at) in
+    pick (eqb (getD s at 0) 0x21) (tagged-part (getD s at 0) (getD s (at + 1) 0) at to to) (untagged-part (getD s at 0) at to to)
 
 -- the top of a row, where there is one, has two bytes or more
 pub record TopInside (row : Row) (s : List ℕ) : Type 0 where
@@ -78,28 +65,28 @@ stack-at row rest = record { count = row .count; more = row .count + 1; fewer = 
 
 -- the parts at a position, by the tree
 abbrev pub goal-part : ℕ → Goal → Part
-goal-part at truth = untagged 0x10 at (goal-end at truth) (goal-end at truth)
-goal-part at failure = untagged 0x11 at (goal-end at failure) (goal-end at failure)
-goal-part at (equal t u) = untagged 0x12 at (at + 1 + length (term-bytes t)) (goal-end at (equal t u))
-goal-part at (conj a b) = untagged 0x13 at (goal-end (at + 1) a) (goal-end at (conj a b))
-goal-part at (disj a b) = untagged 0x14 at (goal-end (at + 1) a) (goal-end at (disj a b))
-goal-part at (atom p ts) = untagged 0x15 at (goal-end at (atom p ts)) (goal-end at (atom p ts))
+goal-part at truth = untagged-part 0x10 at (goal-end at truth) (goal-end at truth)
+goal-part at failure = untagged-part 0x11 at (goal-end at failure) (goal-end at failure)
+goal-part at (equal t u) = untagged-part 0x12 at (at + 1 + length (term-bytes t)) (goal-end at (equal t u))
+goal-part at (conj a b) = untagged-part 0x13 at (goal-end (at + 1) a) (goal-end at (conj a b))
+goal-part at (disj a b) = untagged-part 0x14 at (goal-end (at + 1) a) (goal-end at (disj a b))
+goal-part at (atom p ts) = untagged-part 0x15 at (goal-end at (atom p ts)) (goal-end at (atom p ts))
 
 abbrev pub ancestor-end : ℕ → Ancestor → ℕ
 ancestor-end at a = at + length (ancestor-bytes a)
 
 abbrev pub ancestor-part : ℕ → Ancestor → Part
-ancestor-part at (called p ts) = untagged 0x15 at (ancestor-end at (called p ts)) (ancestor-end at (called p ts))
-ancestor-part at (in-conj h a b) = tagged 0x30 (tag h) at (goal-end (at + 2) a) (ancestor-end at (in-conj h a b))
-ancestor-part at (in-disj h a b) = tagged 0x31 (tag h) at (goal-end (at + 2) a) (ancestor-end at (in-disj h a b))
+ancestor-part at (called p ts) = untagged-part 0x15 at (ancestor-end at (called p ts)) (ancestor-end at (called p ts))
+ancestor-part at (in-conj h a b) = tagged-part 0x30 (tag h) at (goal-end (at + 2) a) (ancestor-end at (in-conj h a b))
+ancestor-part at (in-disj h a b) = tagged-part 0x31 (tag h) at (goal-end (at + 2) a) (ancestor-end at (in-disj h a b))
 
 abbrev pub bet-end : ℕ → Bet → ℕ
 bet-end at b = at + length (bet-bytes b)
 
 abbrev pub bet-part : ℕ → Bet → Part
-bet-part at (unifier m) = untagged 0x20 at (bet-end at (unifier m)) (bet-end at (unifier m))
-bet-part at (or h) = tagged 0x21 (tag h) at (bet-end at (or h)) (bet-end at (or h))
-bet-part at (by g) = untagged 0x22 at (bet-end at (by g)) (bet-end at (by g))
+bet-part at (unifier m) = untagged-part 0x20 at (bet-end at (unifier m)) (bet-end at (unifier m))
+bet-part at (or h) = tagged-part 0x21 (tag h) at (bet-end at (or h)) (bet-end at (or h))
+bet-part at (by g) = untagged-part 0x22 at (bet-end at (by g)) (bet-end at (by g))
 
 -- the top of a stack
 abbrev pub top-part : {A : Type 0} → (ℕ → A → Part) → ℕ → List A → Part
@@ -111,12 +98,9 @@ abbrev pub stack-places : {A : Type 0} → (A → List ℕ) → (ℕ → A → P
 stack-places bytes part at l =
     stack-at (record { count = length l; from = at + 2; to = at + length (counted bytes l) }) (top-part part (at + 2) l .to)
 
--- where the stacks of an event start
-abbrev pub ancestors-at : Goal → ℕ
-ancestors-at g = goal-end 4 g
-
-abbrev pub bets-at : Goal → List Ancestor → ℕ
-bets-at g u = goal-end 4 g + length (counted ancestor-bytes u)
+-- what is known of the bytes of an accepted event
+abbrev pub PartsOf : List ℕ → Event → Type 0
+PartsOf s (event p g u b) = EventParts s p g u b
 
 unfoldable pub event-view : Event → View
 event-view (event p g u s) = record {

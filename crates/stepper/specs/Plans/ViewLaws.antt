@@ -13,15 +13,17 @@ use Rattle.records.specs.Format.Formed.{TermFormed, GoalFormed, AncestorFormed,
 use Rattle.records.specs.Format.HeadLaws.{Known}
 use Rattle.records.specs.Ends.EndLaws.{goal-long}
 use Rattle.records.specs.Format.Exact.{ancestor-exact, bet-exact}
-use Rattle.records.specs.Ends.Walk.{end-at, walk-end}
+use Rattle.records.specs.Ends.Traversal.{end-at, traversal-end}
 use Rattle.records.specs.Gate.Gate.{Reading, Accepted, read-event}
 use Rattle.records.specs.Gate.Gate.Reading.{refused, tree}
-use Rattle.records.specs.Ends.Stands.{Stands, stands-within, stands-first, stands-second, stands-ends, walk-term}
+use Rattle.records.specs.Ends.Stands.{Stands, stands-within, stands-first, stands-second, stands-ends, traverse-term}
 use Rattle.records.specs.Ends.Places.{goal-end, row-places, part-ends, event-places, event-parts, goal-found}
 use Rattle.records.specs.declared.ends.Found.the-variants.{At}
 use Rattle.records.specs.declared.places.Places.{Places}
 use Rattle.records.specs.declared.places.PartEnds.{PartEnds}
-use Rattle.stepper.specs.Plans.View.{EndsOf, middle-at, goal-part-at, ancestor-part-at, bet-part-at, TopInside, ancestor-top-at, bet-top-at, stack-at, goal-part, ancestor-end, ancestor-part, bet-end, bet-part, top-part, ancestors-at, bets-at, event-view}
+use Rattle.terms.specs.Standing.Accepted.{ancestors-at, bets-at}
+use Rattle.records.specs.Ends.Places.{EndsOf}
+use Rattle.stepper.specs.Plans.View.{middle-at, goal-part-at, ancestor-part-at, bet-part-at, TopInside, ancestor-top-at, bet-top-at, stack-at, goal-part, ancestor-end, ancestor-part, bet-end, bet-part, top-part, event-view}
 use Rattle.stepper.specs.declared.view.Part.{Part}
 use Rattle.stepper.specs.declared.view.StackPlaces.{StackPlaces}
 use Rattle.stepper.specs.declared.view.View.{View}
@@ -40,9 +42,9 @@ first-byte {s} {l} {at} w = ap (λ (n : ℕ). getD s n 0) (sym (add-zero at)) �
 pub second-byte : {s l : List ℕ} {at x y e : ℕ} → Stands s at (x ∷ (y ∷ l)) e → getD s (at + 1) 0 ≡ y
 second-byte {s} {l} {at} w = sym (getD-drop at s 1 0) ∙ ap (λ (r : List ℕ). getD r 1 0) (w .bytes)
 
-pub term-found : {s : List ℕ} {at e : ℕ} (t : Term) → TermFormed t → Stands s at (term-bytes t) e → end-at s at 1 0 ≡ At e
+term-found : {s : List ℕ} {at e : ℕ} (t : Term) → TermFormed t → Stands s at (term-bytes t) e → end-at s at 1 0 ≡ At e
 unfolding end-at
-term-found t f w = ap walk-end (walk-term t f w)
+term-found t f w = ap traversal-end (traverse-term t f w)
 
 module _ {s : List ℕ} {at : ℕ} where
   -- where the first of two goals after a head ends
@@ -84,13 +86,13 @@ pub rest-stands : {A : Type 0} {s : List ℕ} {at e : ℕ} (bytes : A → List �
 rest-stands bytes x l w = stands-second (bytes x) (each bytes l) (stands-second (word (length (x ∷ l))) (bytes x ++ each bytes l) w)
 
 -- the top of a stack by the bytes is the top by the tree
-pub ancestor-top-is : {s : List ℕ} {at e : ℕ} (u : List Ancestor) → Counted AncestorFormed u → Stands s at (counted ancestor-bytes u) e
+ancestor-top-is : {s : List ℕ} {at e : ℕ} (u : List Ancestor) → Counted AncestorFormed u → Stands s at (counted ancestor-bytes u) e
     → ancestor-top-at s (row-places ancestor-bytes at u) ≡ top-part ancestor-part (at + 2) u
 unfolding ancestor-top-at
 ancestor-top-is [] f w = refl
 ancestor-top-is (a ∷ u) f w = rw (ne-eqb (length (a ∷ u)) 0 (omega arith)) (ancestor-part-is a (f .1 .0) (top-stands ancestor-bytes a u w))
 
-pub bet-top-is : {s : List ℕ} {at e : ℕ} (b : List Bet) → Counted BetFormed b → Stands s at (counted bet-bytes b) e
+bet-top-is : {s : List ℕ} {at e : ℕ} (b : List Bet) → Counted BetFormed b → Stands s at (counted bet-bytes b) e
     → bet-top-at s (row-places bet-bytes at b) ≡ top-part bet-part (at + 2) b
 unfolding bet-top-at
 bet-top-is [] f w = refl

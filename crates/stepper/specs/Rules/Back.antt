@@ -1,5 +1,5 @@
 -- A step back without a step forward in it: the last question 7 is a comparison in two rules only. `BackLaws` shows that it is the step back
--- of `Rules`, for every event within the limit.
+-- of `Rules`, for every event that the machine admits.
 use mathlib.Core.List.{List, [], _∷_}
 use Rattle.records.specs.Format.Syntax.{Goal, truth, failure, equal, conj, disj, atom, Ancestor, called, in-conj, in-disj, Bet, call, exit, fail, redo, Event, event}
 use Rattle.terms.specs.Theory.Outcome.{unified}
@@ -37,7 +37,7 @@ module _ (M : Machine) where
   unfoldable pub checked-directly : Event → Answer → Answer
   unfolding fitting ununifiable compared
   checked-directly e (refused q) = refused q
-  checked-directly e (gives c) = fitting (ununifiable M c) (M .limit c) (compared e c)
+  checked-directly e (gives c) = fitting (ununifiable M c) (M .candidate-limit c) (compared e c)
 
   -- one look at the event, with one comparison in two rules
   unfoldable pub step-back-direct : Event → Answer

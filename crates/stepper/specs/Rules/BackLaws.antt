@@ -1,14 +1,13 @@
 -- The step back of `Back` is the step back of `Rules`: except in two rules the candidate always steps forward to the given event.
 use mathlib.Core.Path.{_≡_, refl, sym, _∙_, ap}
 use mathlib.Core.List.{List, [], _∷_}
-use mathlib.Core.Option.{none}
 use Prim.Native.Nat.{ℕ}
 use Rattle.records.specs.Format.Syntax.{Term, Terms, Goal, truth, failure, equal, conj, disj, atom, first, second, Ancestor, called, in-conj, in-disj, Bet, unifier, or, by, Port, call, exit, fail, redo, Event, event, goal?}
 use Rattle.terms.specs.Theory.Outcome.{Unified, too-large, clash, unified}
 use Rattle.terms.specs.Body.Body.{Body, too-many, undefined, defined}
-use Rattle.stepper.specs.Rules.Machine.{Machine, unified?, body?, Answer, refused, gives, answer?}
-use Rattle.stepper.specs.Rules.Rules.{half, matching, by-unifier, by-body, fitting, rule, ununifiable, limited, step-forward, candidate, checked, step-back}
-use Rattle.stepper.specs.Rules.Answers.{Given, given-goal, given-unifier, given-body, given-top-unifier, given-top-or, given-top-by, matching-yes, matching-iff, fitting-none}
+use Rattle.stepper.specs.Rules.Machine.{Machine, Admits, unified?, body?, Answer, refused, gives, answer?}
+use Rattle.stepper.specs.Rules.Rules.{selected, matching, by-unifier, by-body, fitting, rule, ununifiable, limited-by, step-forward, candidate, checked, step-back}
+use Rattle.stepper.specs.Rules.AnswerLaws.{Given, given-goal, given-unifier, given-body, given-top-unifier, given-top-or, given-top-by, matching-yes, matching-iff, fitting-none}
 use Rattle.stepper.specs.Rules.ListedLaws.{forward-by-rule}
 use Rattle.stepper.specs.Rules.Back.{compared, checked-directly, step-back-direct}
 
@@ -99,21 +98,21 @@ module _ (M : Machine) where
   same (event redo g [] s) = tt
   same (event redo g (in-conj first a b ∷ u) s) = for-goal redo _ s g a _ (matching-yes (answer? _ _) _ (matching-yes (goal? b b) _ refl))
   same (event redo g (in-conj second a b ∷ u) s) = for-goal redo _ s g b _ (matching-yes (answer? _ _) _ refl)
-  same (event redo g (in-disj n a b ∷ u) s) = for-goal redo _ s g (half n a b) _ (matching-yes (answer? _ _) _ refl)
+  same (event redo g (in-disj n a b ∷ u) s) = for-goal redo _ s g (selected n a b) _ (matching-yes (answer? _ _) _ refl)
   same (event redo g (called p ts ∷ u) s) = matching-yes (answer? _ _) _ refl
 
-  -- to an event within the limit a rule leads exactly when a step forward does
-  rule-steps : (c e : Event) → M .limit e ≡ none → rule M c ≡ gives e → step-forward M c ≡ gives e
-  unfolding step-forward limited
-  rule-steps c e l h = ap (limited M (ununifiable M c)) h ∙ rw l (fitting-none (ununifiable M c) (gives e))
+  -- to an event that is admitted a rule leads exactly when a step forward does
+  rule-steps : (c e : Event) → Admits M e → rule M c ≡ gives e → step-forward M c ≡ gives e
+  unfolding step-forward limited-by
+  rule-steps c e l h = ap (limited-by (M .result-limit) (ununifiable M c)) h ∙ rw l (fitting-none (ununifiable M c) (gives e))
 
   -- the last question 7 of a step back is a comparison in two rules only
-  pub step-back-directly : (e : Event) → M .limit e ≡ none → step-back M e ≡ step-back-direct M e
+  pub step-back-directly : (e : Event) → Admits M e → step-back M e ≡ step-back-direct M e
   unfolding step-back checked step-back-direct checked-directly
   step-back-directly e l = go (candidate M e) (same e)
     where
       go : (a : Answer) → Given (Same e) a → checked M e a ≡ checked-directly M e a
       go (refused q) h = refl
       go (gives c) h =
-          ap (fitting (ununifiable M c) (M .limit c))
+          ap (fitting (ununifiable M c) (M .candidate-limit c))
           (matching-iff (answer? (step-forward M c) (gives e)) (answer? (rule M c) (gives e)) c (forward-by-rule M c e) (rule-steps c e l) ∙ h)

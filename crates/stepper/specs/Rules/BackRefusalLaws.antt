@@ -8,15 +8,15 @@ use Rattle.records.specs.Format.Syntax.{Goal, truth, failure, equal, conj, disj
 use Rattle.records.specs.Gate.Question.{Question, possible, matches, values, locals}
 use Rattle.terms.specs.Theory.Outcome.{Unified, too-large, clash, unified}
 use Rattle.terms.specs.Body.Body.{Body, too-many, undefined, defined}
-use Rattle.stepper.specs.Rules.Machine.{Machine, Answer, refused, gives, answer?}
-use Rattle.stepper.specs.Rules.Rules.{half, matching, by-unifier, by-body, fitting, ununifiable, step-forward, candidate, checked, step-back}
-use Rattle.stepper.specs.Rules.Answers.{matching-no, matching-refused, fitting-passes}
+use Rattle.stepper.specs.Rules.Machine.{Machine, constant-machine, Answer, refused, gives, answer?}
+use Rattle.stepper.specs.Rules.Rules.{selected, matching, by-unifier, by-body, fitting, ununifiable, step-forward, candidate, checked, step-back}
+use Rattle.stepper.specs.Rules.AnswerLaws.{matching-no, matching-refused, fitting-passes}
 use Rattle.stepper.specs.Rules.Listed.{Rule, conj-call, conj-exit-first, conj-fail-first, conj-exit-second, conj-fail-second, conj-redo, disj-call, disj-fail-first, disj-fail-second, disj-exit-first, disj-exit-second, disj-redo, true-call, true-redo, fail-call, equal-call, equal-clash, equal-redo, atom-call, atom-undefined, atom-exit, atom-fail, atom-redo}
 use Rattle.stepper.specs.Rules.Sources.{Own, Candidate}
-use Rattle.stepper.specs.Rules.SourceLaws.{always-unified, always-defined, source-candidate, candidate-iff, candidate-ruled}
-use Rattle.stepper.specs.Rules.RefusalLaws.{OnRefused, nothing}
+use Rattle.stepper.specs.Rules.SourceLaws.{source-candidate, candidate-iff, candidate-ruled}
+use Rattle.stepper.specs.Rules.RefusalLaws.{OnRefused, empty-machine}
 use Rattle.stepper.specs.Rules.ListedLaws.{forward-iff}
-use Rattle.stepper.specs.Rules.Refusals.{Begins, BackRefusal, walk-begins, no-right-side, exit-value-too-large, fail-value-too-large, body-local-too-large, fail-local-too-large, candidate-too-large, leads-elsewhere}
+use Rattle.stepper.specs.Rules.Refusals.{AtStart, BackRefusal, walk-begins, no-right-side, exit-value-too-large, fail-value-too-large, body-local-too-large, fail-local-too-large, candidate-refused, leads-elsewhere}
 
 differ : (c : Event) (q : Question) → gives c ≡ refused q → ⊥
 differ c q h = true≢false cc
@@ -66,10 +66,10 @@ module _ (N : Machine) where
 
 module _ (M : Machine) where
   -- an event that the first question 7 refuses under every machine
-  stuck : (e : Event) → (Begins e → ⊥) → ((N : Machine) → candidate N e ≡ refused matches) → BackRefusal M e matches
+  stuck : (e : Event) → (AtStart e → ⊥) → ((N : Machine) → candidate N e ≡ refused matches) → BackRefusal M e matches
   stuck e w h = no-right-side w (λ N c r. right-side-asks N c e r (h N))
 
-  stuck-matching {ℓ} : {P : Type ℓ} (e : Event) (d : Dec P) (c : Event) → (Begins e → ⊥) → ((N : Machine) → candidate N e ≡ matching d c)
+  stuck-matching {ℓ} : {P : Type ℓ} (e : Event) (d : Dec P) (c : Event) → (AtStart e → ⊥) → ((N : Machine) → candidate N e ≡ matching d c)
       → OnRefused (BackRefusal M e) (matching d c)
   unfolding matching
   stuck-matching e (yes p) c w h = tt
@@ -124,25 +124,25 @@ module _ (M : Machine) where
   candidate-refusal (event redo g [] s) = stuck (event redo g [] s) (λ x. x) (λ N. refl)
   candidate-refusal (event redo g (in-conj first a b ∷ u) s) = stuck-matching (event redo g (in-conj first a b ∷ u) s) (goal? g a) _ (λ x. x) (λ N. refl)
   candidate-refusal (event redo g (in-conj second a b ∷ u) s) = stuck-matching (event redo g (in-conj second a b ∷ u) s) (goal? g b) _ (λ x. x) (λ N. refl)
-  candidate-refusal (event redo g (in-disj n a b ∷ u) s) = stuck-matching (event redo g (in-disj n a b ∷ u) s) (goal? g (half n a b)) _ (λ x. x) (λ N. refl)
+  candidate-refusal (event redo g (in-disj n a b ∷ u) s) = stuck-matching (event redo g (in-disj n a b ∷ u) s) (goal? g (selected n a b)) _ (λ x. x) (λ N. refl)
   candidate-refusal (event redo g (called p ts ∷ u) s) = tt
 
-  begins-refused : (e : Event) → Begins e → candidate M e ≡ refused possible
+  begins-refused : (e : Event) → AtStart e → candidate M e ≡ refused possible
   unfolding candidate
   begins-refused (event call g [] []) w = refl
 
   -- where no rule leads to the event, only 7 refuses
-  only-matches : (e : Event) (q : Question) → (Begins e → ⊥) → ((N : Machine) (c : Event) → Rule N c e → ⊥) → BackRefusal M e q → q ≡ matches
+  only-matches : (e : Event) (q : Question) → (AtStart e → ⊥) → ((N : Machine) (c : Event) → Rule N c e → ⊥) → BackRefusal M e q → q ≡ matches
   only-matches e q w n (walk-begins b) = absurd (w b)
   only-matches e q w n (no-right-side b m) = refl
-  only-matches e q w n (exit-value-too-large {m = m} h) = absurd (n (always-unified m) _ (equal-call refl))
-  only-matches e q w n (fail-value-too-large h) = absurd (n nothing _ (equal-clash refl))
-  only-matches e q w n (body-local-too-large {g = g} h) = absurd (n (always-defined g) _ (atom-call refl))
-  only-matches e q w n (fail-local-too-large h) = absurd (n nothing _ (atom-undefined refl))
-  only-matches e q w n (candidate-too-large {c = c} k u l) = let r = candidate-ruled M c e k in absurd (n (r .0) c (r .1))
+  only-matches e q w n (exit-value-too-large {m = m} h) = absurd (n (constant-machine (unified m) undefined) _ (equal-call refl))
+  only-matches e q w n (fail-value-too-large h) = absurd (n empty-machine _ (equal-clash refl))
+  only-matches e q w n (body-local-too-large {g = g} h) = absurd (n (constant-machine clash (defined g)) _ (atom-call refl))
+  only-matches e q w n (fail-local-too-large h) = absurd (n empty-machine _ (atom-undefined refl))
+  only-matches e q w n (candidate-refused {c = c} k u l) = let r = candidate-ruled M c e k in absurd (n (r .0) c (r .1))
   only-matches e q w n (leads-elsewhere k l f) = refl
 
-  unled-refused : (e : Event) → (Begins e → ⊥) → ((N : Machine) (c : Event) → Rule N c e → ⊥) → candidate M e ≡ refused matches
+  unled-refused : (e : Event) → (AtStart e → ⊥) → ((N : Machine) (c : Event) → Rule N c e → ⊥) → candidate M e ≡ refused matches
   unled-refused e w n = go (candidate M e) refl
     where
       go : (a : Answer) → candidate M e ≡ a → candidate M e ≡ refused matches
@@ -158,9 +158,9 @@ module _ (M : Machine) where
   refusal-made e q (fail-value-too-large h) = rw h
   refusal-made e q (body-local-too-large h) = rw h
   refusal-made e q (fail-local-too-large h) = rw h
-  refusal-made e q (candidate-too-large {c = c} k u l) = ap (checked M e) (candidate-iff M e c .1 k) ∙ rw (u, l)
+  refusal-made e q (candidate-refused {c = c} k u l) = ap (checked M e) (candidate-iff M e c .1 k) ∙ rw (u, l)
   refusal-made e q (leads-elsewhere {c = c} k l n) =
-      ap (checked M e) (candidate-iff M e c .1 k) ∙ fitting-passes (ununifiable M c) (M .limit c) _ l
+      ap (checked M e) (candidate-iff M e c .1 k) ∙ fitting-passes (ununifiable M c) (M .candidate-limit c) _ l
       ∙ matching-no (answer? (step-forward M c) (gives e)) c (λ h. n (forward-iff M c e .0 h))
 
   -- and no other
@@ -168,21 +168,21 @@ module _ (M : Machine) where
   unfolding step-back checked fitting
   refusal-listed e q h = go (candidate M e) refl h
     where
-      last : (c : Event) → Candidate M c e → (ununifiable M c ≡ false → M .limit c ≡ none)
+      last : (c : Event) → Candidate M c e → (ununifiable M c ≡ false → M .candidate-limit c ≡ none)
           → matching (answer? (step-forward M c) (gives e)) c ≡ refused q → BackRefusal M e q
       last c k l h =
           let r = matching-refused (answer? (step-forward M c) (gives e)) c q h in
           subst (BackRefusal M e) (r .1) (leads-elsewhere k l (λ f. r .0 (forward-iff M c e .1 f)))
 
-      asked : (c : Event) → Candidate M c e → (b : Bool) (o : Option Question) → ununifiable M c ≡ b → M .limit c ≡ o
+      asked : (c : Event) → Candidate M c e → (b : Bool) (o : Option Question) → ununifiable M c ≡ b → M .candidate-limit c ≡ o
           → fitting b o (matching (answer? (step-forward M c) (gives e)) c) ≡ refused q → BackRefusal M e q
       asked c k true o u l h = last c k (λ z. absurd (true≢false (sym u ∙ z))) h
       asked c k false none u l h = last c k (λ z. l) h
-      asked c k false (some p) u l h = let same : p ≡ q = cc in subst (BackRefusal M e) same (candidate-too-large k u l)
+      asked c k false (some p) u l h = let same : p ≡ q = cc in subst (BackRefusal M e) same (candidate-refused k u l)
 
       go : (a : Answer) → candidate M e ≡ a → checked M e a ≡ refused q → BackRefusal M e q
       go (refused p) k h = let same : p ≡ q = cc in subst (BackRefusal M e) same (subst (OnRefused (BackRefusal M e)) k (candidate-refusal e))
-      go (gives c) k h = asked c (candidate-iff M e c .0 k) (ununifiable M c) (M .limit c) refl refl h
+      go (gives c) k h = asked c (candidate-iff M e c .0 k) (ununifiable M c) (M .candidate-limit c) refl refl h
 
   -- a step back is refused exactly as listed
   pub back-refused-iff : (e : Event) (q : Question) → (step-back M e ≡ refused q) ↔ BackRefusal M e q

@@ -2,17 +2,16 @@
 use mathlib.Core.Path.{_≡_, refl, sym, subst}
 use mathlib.Core.Bool.{Bool, true, false, _&&_, true≢false}
 use mathlib.Core.List.{List, [], _∷_}
-use mathlib.Core.Option.{none}
-use Rattle.records.specs.Format.Syntax.{Goal, truth, failure, equal, conj, disj, atom, Half, first, second, called, in-conj, in-disj, Binding, Bet, unifier, or, by, call, exit, fail, redo, Event, event, goal?}
+use Rattle.records.specs.Format.Syntax.{Goal, truth, failure, equal, conj, disj, atom, Half, first, second, called, in-conj, in-disj, Bet, unifier, call, exit, fail, redo, Event, event, goal?}
 use Rattle.records.specs.Format.Formed.{GoalFormed, All, BetFormed}
 use Rattle.records.specs.Gate.RecordRules.{every, bet-rules, event-rules}
-use Rattle.stepper.specs.Rules.Machine.{Machine, Answer, gives}
-use Rattle.stepper.specs.Rules.Rules.{half, top-unifier, top-or, top-by, rule, candidate, step}
+use Rattle.stepper.specs.Rules.Machine.{Machine, Admits, Answer, refused, gives}
+use Rattle.stepper.specs.Rules.Rules.{selected, rule, candidate, step}
 use Rattle.stepper.specs.Walks.Walk.{Direction, forward, back}
-use Rattle.stepper.specs.Rules.Answers.{Given, given-matching, given-unifier, given-body}
+use Rattle.stepper.specs.Rules.AnswerLaws.{Given, given-matching, given-unifier, given-body, given-top-unifier, given-top-or, given-top-by}
 use Rattle.stepper.specs.Rules.ListedLaws.{forward-by-rule, back-candidate}
-use Rattle.stepper.specs.Rules.Limits.{step-within}
-use Rattle.stepper.specs.Rules.Formed.{EventSound, BetSound, PartsSound, Sound}
+use Rattle.stepper.specs.Rules.Limits.{step-admitted}
+use Rattle.stepper.specs.Rules.Formed.{EventSound, BetSound, PartsSound, CountsFit, LawfulMachine}
 
 and-true : (a b : Bool) → (a && b) ≡ true → (a ≡ true) × (b ≡ true)
 and-true true b h = (refl, h)
@@ -35,53 +34,41 @@ parts-sound : (e : Event) → EventSound e → PartsSound e
 unfolding event-rules
 parts-sound (event p g u s) f = (f .0 .0, f .0 .1 .1, bets-sound s (f .0 .2 .1) (f .1))
 
-half-formed : (n : Half) (a b : Goal) → GoalFormed a × GoalFormed b → GoalFormed (half n a b)
-unfolding half
-half-formed first a b f = f .0
-half-formed second a b f = f .1
+pub selected-formed : (n : Half) (a b : Goal) → GoalFormed a × GoalFormed b → GoalFormed (selected n a b)
+unfolding selected
+selected-formed first a b f = f .0
+selected-formed second a b f = f .1
 
--- the bet on top of sound bets, and those below it
-on-unifier : (s : List Bet) (k : List Binding → List Bet → Answer) → All BetSound s
-    → ((m : List Binding) (t : List Bet) → BetSound (unifier m) → All BetSound t → Given PartsSound (k m t)) → Given PartsSound (top-unifier s k)
-unfolding top-unifier
-on-unifier [] k f h = tt
-on-unifier (unifier m ∷ s) k f h = h m s (f .0) (f .1)
-on-unifier (or n ∷ s) k f h = tt
-on-unifier (by g ∷ s) k f h = tt
+-- sound parts, where the bets are sound
+abbrev Under : List Bet → Event → Type 0
+Under s e = All BetSound s → PartsSound e
 
-on-or : (s : List Bet) (k : Half → List Bet → Answer) → All BetSound s
-    → ((n : Half) (t : List Bet) → BetSound (or n) → All BetSound t → Given PartsSound (k n t)) → Given PartsSound (top-or s k)
-unfolding top-or
-on-or [] k f h = tt
-on-or (unifier m ∷ s) k f h = tt
-on-or (or n ∷ s) k f h = h n s (f .0) (f .1)
-on-or (by g ∷ s) k f h = tt
+given-under : (s : List Bet) (a : Answer) → All BetSound s → Given (Under s) a → Given PartsSound a
+given-under s (refused q) f h = tt
+given-under s (gives e) f h = h f
 
-on-by : (s : List Bet) (k : Goal → List Bet → Answer) → All BetSound s
-    → ((g : Goal) (t : List Bet) → BetSound (by g) → All BetSound t → Given PartsSound (k g t)) → Given PartsSound (top-by s k)
-unfolding top-by
-on-by [] k f h = tt
-on-by (unifier m ∷ s) k f h = tt
-on-by (or n ∷ s) k f h = tt
-on-by (by g ∷ s) k f h = h g s (f .0) (f .1)
+-- sound parts whose counts fit two bytes make a sound event
+pub counted-sound : (e : Event) → PartsSound e → CountsFit e → EventSound e
+unfolding event-rules
+counted-sound (event p g u s) f n = ((f .0, (n .0, f .1), (n .1, bets-formed s (f .2))), bets-rules s (f .2))
 
-module _ (M : Machine) (sound : Sound M) where
+module _ (M : Machine) (lawful : LawfulMachine M) where
   -- every rule keeps the parts sound
   rule-sound : (e : Event) → PartsSound e → Given PartsSound (rule M e)
   unfolding rule
   rule-sound (event call truth u s) f = f
   rule-sound (event call failure u s) f = f
   rule-sound (event call (equal l r) u s) f =
-      given-unifier PartsSound (M .unify s l r) _ _ (λ h. f) (λ m h. (f .0, f .1, (sound .unifier-sound s l r m (f .2) (f .0 .0) (f .0 .1) h, f .2)))
+      given-unifier PartsSound (M .unify s l r) _ _ (λ h. f) (λ m h. (f .0, f .1, (lawful .unifier-sound s l r m (f .2) (f .0 .0) (f .0 .1) h, f .2)))
   rule-sound (event call (conj a b) u s) f = (f .0 .0, (f .0, f .1), f .2)
   rule-sound (event call (disj a b) u s) f = (f .0 .0, (f .0, f .1), f .2)
   rule-sound (event call (atom p ts) u s) f =
-      given-body PartsSound (M .body p ts u s) _ _ (λ h. f) (λ g h. (sound .body-formed p ts u s g (f .0) (f .1) (f .2) h, (f .0, f .1), f .2))
+      given-body PartsSound (M .body p ts u s) _ _ (λ h. f) (λ g h. (lawful .body-formed p ts u s g (f .0) (f .1) (f .2) h, (f .0, f .1), f .2))
   rule-sound (event exit g [] s) f = tt
   rule-sound (event exit g (in-conj first a b ∷ u) s) f = given-matching PartsSound (goal? g a) _ (λ h. (f .1 .0 .1, f .1, f .2))
   rule-sound (event exit g (in-conj second a b ∷ u) s) f = given-matching PartsSound (goal? g b) _ (λ h. (f .1 .0, f .1 .1, f .2))
   rule-sound (event exit g (in-disj n a b ∷ u) s) f =
-      given-matching PartsSound (goal? g (half n a b)) _ (λ h. (f .1 .0, f .1 .1, ((tt, refl), f .2)))
+      given-matching PartsSound (goal? g (selected n a b)) _ (λ h. (f .1 .0, f .1 .1, ((tt, refl), f .2)))
   rule-sound (event exit g (called p ts ∷ u) s) f = (f .1 .0, f .1 .1, ((f .0, refl), f .2))
   rule-sound (event fail g [] s) f = tt
   rule-sound (event fail g (in-conj first a b ∷ u) s) f = given-matching PartsSound (goal? g a) _ (λ h. (f .1 .0, f .1 .1, f .2))
@@ -91,10 +78,10 @@ module _ (M : Machine) (sound : Sound M) where
   rule-sound (event fail g (called p ts ∷ u) s) f = (f .1 .0, f .1 .1, f .2)
   rule-sound (event redo truth u s) f = f
   rule-sound (event redo failure u s) f = tt
-  rule-sound (event redo (equal l r) u s) f = on-unifier s _ (f .2) (λ m t b k. (f .0, f .1, k))
+  rule-sound (event redo (equal l r) u s) f = given-under s (rule M (event redo (equal l r) u s)) (f .2) (given-top-unifier Under s _ (λ m t b. (f .0, f .1, b .1)))
   rule-sound (event redo (conj a b) u s) f = (f .0 .1, (f .0, f .1), f .2)
-  rule-sound (event redo (disj a b) u s) f = on-or s _ (f .2) (λ n t i k. (half-formed n a b (f .0), (f .0, f .1), k))
-  rule-sound (event redo (atom p ts) u s) f = on-by s _ (f .2) (λ g t b k. (b .0, (f .0, f .1), k))
+  rule-sound (event redo (disj a b) u s) f = given-under s (rule M (event redo (disj a b) u s)) (f .2) (given-top-or Under s _ (λ n t k. (selected-formed n a b (f .0), (f .0, f .1), k .1)))
+  rule-sound (event redo (atom p ts) u s) f = given-under s (rule M (event redo (atom p ts) u s)) (f .2) (given-top-by Under s _ (λ g t b. (b .0 .0, (f .0, f .1), b .1)))
 
   -- and so does every rule read back
   candidate-sound : (e : Event) → PartsSound e → Given PartsSound (candidate M e)
@@ -110,23 +97,23 @@ module _ (M : Machine) (sound : Sound M) where
   candidate-sound (event exit truth u s) f = f
   candidate-sound (event exit failure u s) f = tt
   candidate-sound (event exit (equal l r) u s) f =
-      on-unifier s _ (f .2) (λ m t b k. given-unifier PartsSound (M .unify t l r) _ _ (λ h. (f .0, f .1, k)) (λ m h. (f .0, f .1, k)))
+      given-under s (candidate M (event exit (equal l r) u s)) (f .2) (given-top-unifier Under s _ (λ m t. given-unifier (Under (unifier m ∷ t)) (M .unify t l r) _ _ (λ h b. (f .0, f .1, b .1)) (λ n h b. (f .0, f .1, b .1))))
   candidate-sound (event exit (conj a b) u s) f = (f .0 .1, (f .0, f .1), f .2)
-  candidate-sound (event exit (disj a b) u s) f = on-or s _ (f .2) (λ n t i k. (half-formed n a b (f .0), (f .0, f .1), k))
-  candidate-sound (event exit (atom p ts) u s) f = on-by s _ (f .2) (λ g t b k. (b .0, (f .0, f .1), k))
+  candidate-sound (event exit (disj a b) u s) f = given-under s (candidate M (event exit (disj a b) u s)) (f .2) (given-top-or Under s _ (λ n t k. (selected-formed n a b (f .0), (f .0, f .1), k .1)))
+  candidate-sound (event exit (atom p ts) u s) f = given-under s (candidate M (event exit (atom p ts) u s)) (f .2) (given-top-by Under s _ (λ g t b. (b .0 .0, (f .0, f .1), b .1)))
   candidate-sound (event fail truth u s) f = f
   candidate-sound (event fail failure u s) f = f
   candidate-sound (event fail (equal l r) u s) f =
-      given-unifier PartsSound (M .unify s l r) _ _ (λ h. f) (λ m h. (f .0, f .1, (sound .unifier-sound s l r m (f .2) (f .0 .0) (f .0 .1) h, f .2)))
+      given-unifier PartsSound (M .unify s l r) _ _ (λ h. f) (λ m h. (f .0, f .1, (lawful .unifier-sound s l r m (f .2) (f .0 .0) (f .0 .1) h, f .2)))
   candidate-sound (event fail (conj a b) u s) f = (f .0 .0, (f .0, f .1), f .2)
   candidate-sound (event fail (disj a b) u s) f = (f .0 .1, (f .0, f .1), f .2)
   candidate-sound (event fail (atom p ts) u s) f =
-      given-body PartsSound (M .body p ts u s) _ _ (λ h. f) (λ g h. (sound .body-formed p ts u s g (f .0) (f .1) (f .2) h, (f .0, f .1), f .2))
+      given-body PartsSound (M .body p ts u s) _ _ (λ h. f) (λ g h. (lawful .body-formed p ts u s g (f .0) (f .1) (f .2) h, (f .0, f .1), f .2))
   candidate-sound (event redo g [] s) f = tt
   candidate-sound (event redo g (in-conj first a b ∷ u) s) f = given-matching PartsSound (goal? g a) _ (λ h. (f .1 .0 .1, f .1, f .2))
   candidate-sound (event redo g (in-conj second a b ∷ u) s) f = given-matching PartsSound (goal? g b) _ (λ h. (f .1 .0, f .1 .1, f .2))
   candidate-sound (event redo g (in-disj n a b ∷ u) s) f =
-      given-matching PartsSound (goal? g (half n a b)) _ (λ h. (f .1 .0, f .1 .1, ((tt, refl), f .2)))
+      given-matching PartsSound (goal? g (selected n a b)) _ (λ h. (f .1 .0, f .1 .1, ((tt, refl), f .2)))
   candidate-sound (event redo g (called p ts ∷ u) s) f = (f .1 .0, f .1 .1, ((f .0, refl), f .2))
 
   step-parts : (d : Direction) (e c : Event) → PartsSound e → step M d e ≡ gives c → PartsSound c
@@ -134,15 +121,8 @@ module _ (M : Machine) (sound : Sound M) where
   step-parts forward e c f h = subst (Given PartsSound) (forward-by-rule M e c h) (rule-sound e f)
   step-parts back e c f h = subst (Given PartsSound) (back-candidate M e c h) (candidate-sound e f)
 
-  -- sound parts within the limit make a sound event
-  event-sound : (e : Event) → PartsSound e → M .limit e ≡ none → EventSound e
-  unfolding event-rules
-  event-sound (event p g u s) f l =
-      let n = sound .counts-fit p g u s l in
-      ((f .0, (n .0, f .1), (n .1, bets-formed s (f .2))), bets-rules s (f .2))
-
   -- an accepted step, either way, from an event that a record can hold gives one that a record can hold
-  pub step-formed : (d : Direction) (e c : Event) → EventSound e → M .limit e ≡ none → step M d e ≡ gives c → EventSound c × (M .limit c ≡ none)
+  pub step-formed : (d : Direction) (e c : Event) → EventSound e → Admits M e → step M d e ≡ gives c → EventSound c × Admits M c
   step-formed d e c f l h =
-      let k = step-within M (sound .ignores-port) d e c l h in
-      (event-sound c (step-parts d e c (parts-sound e f) h) k, k)
+      let k = step-admitted M (lawful .limits) d e c l h in
+      (lawful .admitted-sound c (step-parts d e c (parts-sound e f) h) k, k)

@@ -1,4 +1,4 @@
--- The rules as document 01 lists them ("The rules"), a constructor for each: `Rule M e d` says that a rule leads from e to d.
+-- The rules in their order (SPECIFICATION 3), a constructor for each: `Rule M e d` says that a rule leads from e to d.
 -- The 21 rules have 23 constructors, since the call rules of equality and of an atom have two right sides each.
 -- S is the bet stack s, U the ancestor stack u; `a ∷ u` puts a on top.
 use mathlib.Core.Path.{_≡_}
@@ -8,7 +8,7 @@ use Rattle.records.specs.Format.Syntax.{Term, Terms, Goal, truth, failure, equa
 use Rattle.terms.specs.Theory.Outcome.{clash, unified}
 use Rattle.terms.specs.Body.Body.{undefined, defined}
 use Rattle.stepper.specs.Rules.Machine.{Machine}
-use Rattle.stepper.specs.Rules.Rules.{half}
+use Rattle.stepper.specs.Rules.Rules.{selected}
 
 module _ (M : Machine) where
   pub data Rule : Event → Event → Type 0 where
@@ -47,7 +47,7 @@ module _ (M : Machine) where
         → Rule (event exit b (in-disj second a b ∷ u) s) (event exit (disj a b) u (or second ∷ s))
     -- redo A;B with OR N on S → redo of half N, N/A;B on U, that bet gone.
     disj-redo : {a b : Goal} {u : List Ancestor} {s : List Bet} (n : Half)
-        → Rule (event redo (disj a b) u (or n ∷ s)) (event redo (half n a b) (in-disj n a b ∷ u) s)
+        → Rule (event redo (disj a b) u (or n ∷ s)) (event redo (selected n a b) (in-disj n a b ∷ u) s)
     -- true: call → exit;
     true-call : {u : List Ancestor} {s : List Bet}
         → Rule (event call truth u s) (event exit truth u s)

@@ -3,11 +3,10 @@ use mathlib.Core.Path.{_≡_, refl, sym, _∙_, ap, subst}
 use mathlib.Core.Logic.{_↔_}
 use mathlib.Core.List.{List, [], _∷_}
 use mathlib.Core.Bool.{false, true≢false}
-use mathlib.Core.Option.{none}
 use Rattle.records.specs.Format.Syntax.{Goal, truth, failure, equal, conj, disj, atom, Half, first, second, Ancestor, called, in-conj, in-disj, Bet, or, Port, call, exit, fail, redo, Event, event, goal?}
-use Rattle.stepper.specs.Rules.Machine.{Machine, Answer, refused, gives, answer?}
-use Rattle.stepper.specs.Rules.Rules.{matching, fitting, half, rule, ununifiable, limited, step-forward, candidate, checked, step-back}
-use Rattle.stepper.specs.Rules.Answers.{Given, given-goal, given-unifier, given-body, given-top-unifier, given-top-or, given-top-by, matching-yes, matching-gives, fitting-gives, fitting-iff}
+use Rattle.stepper.specs.Rules.Machine.{Machine, Admits, Answer, refused, gives, answer?}
+use Rattle.stepper.specs.Rules.Rules.{matching, fitting, selected, rule, ununifiable, limited-by, step-forward, candidate, checked, step-back}
+use Rattle.stepper.specs.Rules.AnswerLaws.{Given, given-goal, given-unifier, given-body, given-top-unifier, given-top-or, given-top-by, matching-yes, matching-gives, fitting-gives, fitting-iff}
 use Rattle.stepper.specs.Rules.Listed.{Rule, conj-call, conj-exit-first, conj-fail-first, conj-exit-second, conj-fail-second, conj-redo, disj-call, disj-fail-first, disj-fail-second, disj-exit-first, disj-exit-second, disj-redo, true-call, true-redo, fail-call, equal-call, equal-clash, equal-redo, atom-call, atom-undefined, atom-exit, atom-fail, atom-redo}
 
 module _ (M : Machine) where
@@ -44,8 +43,8 @@ module _ (M : Machine) where
   for-goal p u s g a d r = given-goal (λ x. Rule M (event p x u s)) g a d r
 
   pub disj-exit : (n : Half) (a b : Goal) (u : List Ancestor) (s : List Bet)
-      → Rule M (event exit (half n a b) (in-disj n a b ∷ u) s) (event exit (disj a b) u (or n ∷ s))
-  unfolding half
+      → Rule M (event exit (selected n a b) (in-disj n a b ∷ u) s) (event exit (disj a b) u (or n ∷ s))
+  unfolding selected
   disj-exit first a b u s = disj-exit-first
   disj-exit second a b u s = disj-exit-second
 
@@ -63,7 +62,7 @@ module _ (M : Machine) where
   rule-listed (event exit g [] s) = tt
   rule-listed (event exit g (in-conj first a b ∷ u) s) = for-goal exit _ s g a _ conj-exit-first
   rule-listed (event exit g (in-conj second a b ∷ u) s) = for-goal exit _ s g b _ conj-exit-second
-  rule-listed (event exit g (in-disj n a b ∷ u) s) = for-goal exit _ s g (half n a b) _ (disj-exit n a b u s)
+  rule-listed (event exit g (in-disj n a b ∷ u) s) = for-goal exit _ s g (selected n a b) _ (disj-exit n a b u s)
   rule-listed (event exit g (called p ts ∷ u) s) = atom-exit
   rule-listed (event fail g [] s) = tt
   rule-listed (event fail g (in-conj first a b ∷ u) s) = for-goal fail _ s g a _ conj-fail-first
@@ -91,24 +90,24 @@ module _ (M : Machine) where
 
   -- question 10 only refuses
   pub forward-by-rule : (e d : Event) → step-forward M e ≡ gives d → rule M e ≡ gives d
-  unfolding step-forward limited
+  unfolding step-forward limited-by
   forward-by-rule e d h = go (rule M e) h
     where
-      go : (a : Answer) → limited M (ununifiable M e) a ≡ gives d → a ≡ gives d
+      go : (a : Answer) → limited-by (M .result-limit) (ununifiable M e) a ≡ gives d → a ≡ gives d
       go (refused q) k = k
-      go (gives c) k = fitting-gives (ununifiable M e) (M .limit c) (gives c) d k
+      go (gives c) k = fitting-gives (ununifiable M e) (M .result-limit c) (gives c) d k
 
   -- a step forward gives what a listed rule leads to, if question 10 says yes to it or is not put
-  forward-asks : (e d : Event) → rule M e ≡ gives d → step-forward M e ≡ fitting (ununifiable M e) (M .limit d) (gives d)
-  unfolding step-forward limited
-  forward-asks e d h = ap (limited M (ununifiable M e)) h
+  forward-asks : (e d : Event) → rule M e ≡ gives d → step-forward M e ≡ fitting (ununifiable M e) (M .result-limit d) (gives d)
+  unfolding step-forward limited-by
+  forward-asks e d h = ap (limited-by (M .result-limit) (ununifiable M e)) h
 
-  pub forward-iff : (e d : Event) → (step-forward M e ≡ gives d) ↔ (Rule M e d × (ununifiable M e ≡ false → M .limit d ≡ none))
+  pub forward-iff : (e d : Event) → (step-forward M e ≡ gives d) ↔ (Rule M e d × (ununifiable M e ≡ false → Admits M d))
   forward-iff e d = (
     (λ h.
         let k = forward-by-rule e d h in
-        (rule-iff e d .0 k, fitting-iff (ununifiable M e) (M .limit d) d .0 (sym (forward-asks e d k) ∙ h))),
-    (λ h. forward-asks e d (rule-follows e d (h .0)) ∙ fitting-iff (ununifiable M e) (M .limit d) d .1 (h .1)),
+        (rule-iff e d .0 k, fitting-iff (ununifiable M e) (M .result-limit d) d .0 (sym (forward-asks e d k) ∙ h))),
+    (λ h. forward-asks e d (rule-follows e d (h .0)) ∙ fitting-iff (ununifiable M e) (M .result-limit d) d .1 (h .1)),
   )
 
   -- a step back gives the candidate, which steps forward to the given event
@@ -119,7 +118,7 @@ module _ (M : Machine) where
       go : (a : Answer) → checked M e a ≡ gives c → (a ≡ gives c) × (step-forward M c ≡ gives e)
       go (refused q) k = absurd (true≢false cc)
       go (gives d) k =
-          let r = matching-gives (answer? (step-forward M d) (gives e)) d c (fitting-gives (ununifiable M d) (M .limit d) _ c k) in
+          let r = matching-gives (answer? (step-forward M d) (gives e)) d c (fitting-gives (ununifiable M d) (M .candidate-limit d) _ c k) in
           (ap gives (r .1), subst (λ x. step-forward M x ≡ gives e) (r .1) (r .0))
 
   pub back-candidate : (e c : Event) → step-back M e ≡ gives c → candidate M e ≡ gives c

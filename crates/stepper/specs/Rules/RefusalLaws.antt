@@ -3,17 +3,16 @@ use mathlib.Core.Path.{_≡_, refl, sym, _∙_, ap, subst}
 use mathlib.Core.Logic.{_↔_}
 use mathlib.Core.Bool.{true≢false}
 use mathlib.Core.List.{List, [], _∷_}
-use mathlib.Core.Option.{none}
 use Rattle.records.specs.Format.Syntax.{Goal, truth, failure, equal, conj, disj, atom, Half, first, second, Ancestor, called, in-conj, in-disj, Binding, Bet, unifier, or, by, call, exit, fail, redo, Event, event, goal?}
 use Rattle.records.specs.Gate.Question.{Question, possible, matches}
 use Rattle.terms.specs.Theory.Outcome.{Unified, too-large, clash, unified}
 use Rattle.terms.specs.Body.Body.{Body, too-many, undefined, defined}
-use Rattle.stepper.specs.Rules.Machine.{Machine, Answer, refused, gives}
-use Rattle.stepper.specs.Rules.Rules.{half, matching, top-unifier, top-or, top-by, by-unifier, by-body, fitting, from-exit, from-fail, from-redo, rule, ununifiable, limited, step-forward}
+use Rattle.stepper.specs.Rules.Machine.{Machine, constant-machine, Answer, refused, gives}
+use Rattle.stepper.specs.Rules.Rules.{selected, matching, top-unifier, top-or, top-by, by-unifier, by-body, fitting, from-exit, from-fail, from-redo, rule, ununifiable, limited-by, step-forward}
 use Rattle.stepper.specs.Rules.Listed.{Rule, conj-call, disj-call, true-call, fail-call, equal-clash, atom-undefined}
-use Rattle.stepper.specs.Rules.Answers.{fitting-refused}
+use Rattle.stepper.specs.Rules.AnswerLaws.{fitting-refused}
 use Rattle.stepper.specs.Rules.ListedLaws.{rule-iff}
-use Rattle.stepper.specs.Rules.Refusals.{Ends, Refusal, walk-ends, no-rule, value-too-large, local-too-large, result-too-large}
+use Rattle.stepper.specs.Rules.Refusals.{AtEnd, Refusal, walk-ends, no-rule, value-too-large, local-too-large, result-refused}
 
 -- Φ of the question that refuses, if one does
 abbrev pub OnRefused : (Question → Type 0) → Answer → Type 0
@@ -55,7 +54,7 @@ exit-only : (g : Goal) (x : Ancestor) (u : List Ancestor) (s : List Bet) → Onl
 unfolding from-exit
 exit-only g (in-conj first a b) u s = only-matching (goal? g a) _
 exit-only g (in-conj second a b) u s = only-matching (goal? g b) _
-exit-only g (in-disj n a b) u s = only-matching (goal? g (half n a b)) _
+exit-only g (in-disj n a b) u s = only-matching (goal? g (selected n a b)) _
 exit-only g (called p ts) u s = tt
 
 fail-only : (g : Goal) (x : Ancestor) (u : List Ancestor) (s : List Bet) → OnlyMatches (from-fail g (x ∷ u) s)
@@ -76,12 +75,12 @@ redo-only (disj a b) u s = only-or s _
 redo-only (atom p ts) u s = only-by s _
 
 -- a machine that unifies nothing and defines nothing: a rule leads on from each of its calls
-abbrev pub nothing : Machine
-nothing = record { unify = λ s l r. clash; body = λ p ts u s. undefined; limit = λ e. none }
+abbrev pub empty-machine : Machine
+empty-machine = constant-machine clash undefined
 
 module _ (M : Machine) where
   -- an event from which every machine's rules answer alike, and are refused by 7 alone
-  stuck : (e : Event) (a : Answer) → (Ends e → ⊥) → ((N : Machine) → rule N e ≡ a) → OnlyMatches a → OnRefused (Refusal M e) a
+  stuck : (e : Event) (a : Answer) → (AtEnd e → ⊥) → ((N : Machine) → rule N e ≡ a) → OnlyMatches a → OnRefused (Refusal M e) a
   stuck e (refused q) w same only =
       subst (Refusal M e) (sym only) (no-rule w (λ N d r. differ d (sym (same N) ∙ rule-iff N e d .1 r)))
     where
@@ -121,42 +120,42 @@ module _ (M : Machine) where
   unmatched e (refused q) h only none-leads = h ∙ ap refused only
   unmatched e (gives d) h only none-leads = absurd (none-leads d (rule-iff M e d .0 h))
 
-  no-rule-refused : (e : Event) → (Ends e → ⊥) → ((N : Machine) (d : Event) → Rule N e d → ⊥) → rule M e ≡ refused matches
+  no-rule-refused : (e : Event) → (AtEnd e → ⊥) → ((N : Machine) (d : Event) → Rule N e d → ⊥) → rule M e ≡ refused matches
   unfolding rule
   no-rule-refused (event call truth u s) w n = absurd (n M (event exit truth u s) true-call)
   no-rule-refused (event call failure u s) w n = absurd (n M (event fail failure u s) fail-call)
-  no-rule-refused (event call (equal l r) u s) w n = absurd (n nothing (event fail (equal l r) u s) (equal-clash refl))
+  no-rule-refused (event call (equal l r) u s) w n = absurd (n empty-machine (event fail (equal l r) u s) (equal-clash refl))
   no-rule-refused (event call (conj a b) u s) w n = absurd (n M (event call a (in-conj first a b ∷ u) s) conj-call)
   no-rule-refused (event call (disj a b) u s) w n = absurd (n M (event call a (in-disj first a b ∷ u) s) disj-call)
-  no-rule-refused (event call (atom p ts) u s) w n = absurd (n nothing (event fail (atom p ts) u s) (atom-undefined refl))
+  no-rule-refused (event call (atom p ts) u s) w n = absurd (n empty-machine (event fail (atom p ts) u s) (atom-undefined refl))
   no-rule-refused (event exit g [] s) w n = absurd (w tt)
   no-rule-refused (event exit g (x ∷ u) s) w n = unmatched (event exit g (x ∷ u) s) (from-exit g (x ∷ u) s) refl (exit-only g x u s) (n M)
   no-rule-refused (event fail g [] s) w n = absurd (w tt)
   no-rule-refused (event fail g (x ∷ u) s) w n = unmatched (event fail g (x ∷ u) s) (from-fail g (x ∷ u) s) refl (fail-only g x u s) (n M)
   no-rule-refused (event redo g u s) w n = unmatched (event redo g u s) (from-redo g u s) refl (redo-only g u s) (n M)
 
-  ends-refused : (e : Event) → Ends e → rule M e ≡ refused possible
+  ends-refused : (e : Event) → AtEnd e → rule M e ≡ refused possible
   unfolding rule
   ends-refused (event exit g [] s) w = refl
   ends-refused (event fail g [] s) w = refl
 
   -- every listed refusal is made
   refusal-made : (e : Event) (q : Question) → Refusal M e q → step-forward M e ≡ refused q
-  unfolding step-forward limited rule fitting
-  refusal-made e q (walk-ends w) = ap (limited M (ununifiable M e)) (ends-refused e w)
-  refusal-made e q (no-rule w n) = ap (limited M (ununifiable M e)) (no-rule-refused e w n)
+  unfolding step-forward limited-by rule fitting
+  refusal-made e q (walk-ends w) = ap (limited-by (M .result-limit) (ununifiable M e)) (ends-refused e w)
+  refusal-made e q (no-rule w n) = ap (limited-by (M .result-limit) (ununifiable M e)) (no-rule-refused e w n)
   refusal-made e q (value-too-large h) = rw h
   refusal-made e q (local-too-large h) = rw h
-  refusal-made e q (result-too-large {d = d} r u l) = ap (limited M (ununifiable M e)) (rule-iff M e d .1 r) ∙ rw (u, l)
+  refusal-made e q (result-refused {d = d} r u l) = ap (limited-by (M .result-limit) (ununifiable M e)) (rule-iff M e d .1 r) ∙ rw (u, l)
 
   -- and no other
   refusal-listed : (e : Event) (q : Question) → step-forward M e ≡ refused q → Refusal M e q
-  unfolding step-forward limited
+  unfolding step-forward limited-by
   refusal-listed e q h = go (rule M e) refl h
     where
-      go : (a : Answer) → rule M e ≡ a → limited M (ununifiable M e) a ≡ refused q → Refusal M e q
+      go : (a : Answer) → rule M e ≡ a → limited-by (M .result-limit) (ununifiable M e) a ≡ refused q → Refusal M e q
       go (refused p) k h = let same : p ≡ q = cc in subst (Refusal M e) same (subst (OnRefused (Refusal M e)) k (rule-refusal e))
-      go (gives d) k h = let r = fitting-refused (ununifiable M e) (M .limit d) d q h in result-too-large (rule-iff M e d .0 k) (r .0) (r .1)
+      go (gives d) k h = let r = fitting-refused (ununifiable M e) (M .result-limit d) d q h in result-refused (rule-iff M e d .0 k) (r .0) (r .1)
 
   -- a step forward is refused exactly as listed
   pub forward-refused-iff : (e : Event) (q : Question) → (step-forward M e ≡ refused q) ↔ Refusal M e q

@@ -1,4 +1,4 @@
--- When a step is refused, listed by the gate's questions 6 to 10 (document 01, "The gate at each call"): `Refusal M e q` says that q is the
+-- When a step is refused, listed by the gate's questions 6 to 10 (SPECIFICATION 7): `Refusal M e q` says that q is the
 -- first question that says no to a step forward from e, `BackRefusal M e q` to a step back. The steps of `Rules` are refused exactly so.
 use mathlib.Core.Path.{_≡_}
 use mathlib.Core.Bool.{false}
@@ -9,48 +9,48 @@ use Rattle.records.specs.Format.Syntax.{Term, Terms, Goal, equal, atom, Ancesto
 use Rattle.records.specs.Gate.Question.{Question, possible, matches, values, locals}
 use Rattle.terms.specs.Theory.Outcome.{too-large}
 use Rattle.terms.specs.Body.Body.{too-many}
-use Rattle.stepper.specs.Rules.Machine.{Machine}
+use Rattle.stepper.specs.Rules.Machine.{Machine, Admits}
 use Rattle.stepper.specs.Rules.Rules.{ununifiable}
 use Rattle.stepper.specs.Rules.Listed.{Rule}
 use Rattle.stepper.specs.Rules.Sources.{Candidate}
 
 -- exit or fail with no ancestors: no walk forward is possible
-abbrev pub Ends : Event → Type 0
-Ends (event call g u s) = ⊥
-Ends (event exit g [] s) = Unit {0}
-Ends (event exit g (a ∷ u) s) = ⊥
-Ends (event fail g [] s) = Unit {0}
-Ends (event fail g (a ∷ u) s) = ⊥
-Ends (event redo g u s) = ⊥
+abbrev pub AtEnd : Event → Type 0
+AtEnd (event call g u s) = ⊥
+AtEnd (event exit g [] s) = Unit {0}
+AtEnd (event exit g (a ∷ u) s) = ⊥
+AtEnd (event fail g [] s) = Unit {0}
+AtEnd (event fail g (a ∷ u) s) = ⊥
+AtEnd (event redo g u s) = ⊥
 
 module _ (M : Machine) where
   pub data Refusal : Event → Question → Type 0 where
     -- 6: is a walk still possible?
-    walk-ends : {e : Event} → Ends e → Refusal e possible
+    walk-ends : {e : Event} → AtEnd e → Refusal e possible
     -- 7: does a rule's left side match? (None does, whatever the unifier and the program.)
-    no-rule : {e : Event} → (Ends e → ⊥) → ((N : Machine) (d : Event) → Rule N e d → ⊥) → Refusal e matches
+    no-rule : {e : Event} → (AtEnd e → ⊥) → ((N : Machine) (d : Event) → Rule N e d → ⊥) → Refusal e matches
     -- 8: is each of S(T1), S(T2) at most 8,192 bytes?
     value-too-large : {l r : Term} {u : List Ancestor} {s : List Bet} → M .unify s l r ≡ too-large → Refusal (event call (equal l r) u s) values
     -- 9: is every new local at most 65,535?
     local-too-large : {p : ℕ} {ts : Terms} {u : List Ancestor} {s : List Bet} → M .body p ts u s ≡ too-many → Refusal (event call (atom p ts) u s) locals
     -- 10: does the result fit 32,768 bytes? Not put for two terms that can't be unified.
-    result-too-large : {e d : Event} {q : Question} → Rule M e d → ununifiable M e ≡ false → M .limit d ≡ some q → Refusal e q
+    result-refused : {e d : Event} {q : Question} → Rule M e d → ununifiable M e ≡ false → M .result-limit d ≡ some q → Refusal e q
 
 -- call with both stacks empty: no walk back is possible
-abbrev pub Begins : Event → Type 0
-Begins (event call g [] []) = Unit {0}
-Begins (event call g [] (b ∷ s)) = ⊥
-Begins (event call g (a ∷ u) s) = ⊥
-Begins (event exit g u s) = ⊥
-Begins (event fail g u s) = ⊥
-Begins (event redo g u s) = ⊥
+abbrev pub AtStart : Event → Type 0
+AtStart (event call g [] []) = Unit {0}
+AtStart (event call g [] (b ∷ s)) = ⊥
+AtStart (event call g (a ∷ u) s) = ⊥
+AtStart (event exit g u s) = ⊥
+AtStart (event fail g u s) = ⊥
+AtStart (event redo g u s) = ⊥
 
 module _ (M : Machine) where
   pub data BackRefusal : Event → Question → Type 0 where
     -- 6: is a walk still possible?
-    walk-begins : {e : Event} → Begins e → BackRefusal e possible
+    walk-begins : {e : Event} → AtStart e → BackRefusal e possible
     -- 7: does a rule's right side match? (None does, whatever the unifier and the program.)
-    no-right-side : {e : Event} → (Begins e → ⊥) → ((N : Machine) (c : Event) → Rule N c e → ⊥) → BackRefusal e matches
+    no-right-side : {e : Event} → (AtStart e → ⊥) → ((N : Machine) (c : Event) → Rule N c e → ⊥) → BackRefusal e matches
     -- 8, for the call rule of equality read back, and for fail T1=T2, S being the call's
     exit-value-too-large : {l r : Term} {u : List Ancestor} {m : List Binding} {s : List Bet}
         → M .unify s l r ≡ too-large → BackRefusal (event exit (equal l r) u (unifier m ∷ s)) values
@@ -62,9 +62,9 @@ module _ (M : Machine) where
     fail-local-too-large : {p : ℕ} {ts : Terms} {u : List Ancestor} {s : List Bet}
         → M .body p ts u s ≡ too-many → BackRefusal (event fail (atom p ts) u s) locals
     -- 10: does the candidate fit 32,768 bytes? Not put for two terms that can't be unified.
-    candidate-too-large : {e c : Event} {q : Question}
-        → Candidate M c e → ununifiable M c ≡ false → M .limit c ≡ some q → BackRefusal e q
+    candidate-refused : {e c : Event} {q : Question}
+        → Candidate M c e → ununifiable M c ≡ false → M .candidate-limit c ≡ some q → BackRefusal e q
     -- 7 once more: does the candidate step forward to the given event?
     leads-elsewhere : {e c : Event}
-        → Candidate M c e → (ununifiable M c ≡ false → M .limit c ≡ none)
-        → (Rule M c e × (ununifiable M c ≡ false → M .limit e ≡ none) → ⊥) → BackRefusal e matches
+        → Candidate M c e → (ununifiable M c ≡ false → M .candidate-limit c ≡ none)
+        → (Rule M c e × (ununifiable M c ≡ false → Admits M e) → ⊥) → BackRefusal e matches

@@ -1,22 +1,22 @@
--- The rules under the gate's questions 6 to 10: one step forward and one step back (document 01, "The rules" and "The gate at each call").
+-- The rules under the gate's questions 6 to 10: one step forward and one step back (SPECIFICATION 3, 7).
 -- Choices: a step is a function, so two rules can't disagree; the rules are also listed one by one in `Listed`, and shown to be this function.
--- A step back is the candidate that the right side names, questioned as document 01 words it; `Back` has the form without a step forward in it.
+-- A step back is the candidate that the right side names, questioned as the gate words it; `Back` has the form without a step forward in it.
 use mathlib.Core.List.{List, [], _∷_}
 use mathlib.Core.Option.{Option, none, some}
 use mathlib.Core.Bool.{Bool, true, false}
-use lib.Dec.{ltb}
 use Prim.Native.Nat.{ℕ}
 use Rattle.records.specs.Format.Syntax.{Goal, truth, failure, equal, conj, disj, atom, Half, first, second, Ancestor, called, in-conj, in-disj, Binding, Bet, unifier, or, by, call, exit, fail, redo, Event, event, goal?}
-use Rattle.records.specs.Gate.Question.{Question, output, possible, matches, values, locals}
+use Rattle.records.specs.Gate.Door.{with-room}
+use Rattle.records.specs.Gate.Question.{Question, possible, matches, values, locals}
 use Rattle.terms.specs.Theory.Outcome.{Unified, too-large, clash, unified}
 use Rattle.terms.specs.Body.Body.{Body, too-many, undefined, defined}
 use Rattle.stepper.specs.Rules.Machine.{Machine, Answer, refused, gives, answer?}
 use Rattle.stepper.specs.Walks.Walk.{Direction, forward, back}
 
 -- the half that a tag selects
-unfoldable pub half : Half → Goal → Goal → Goal
-half first a b = a
-half second a b = b
+unfoldable pub selected : Half → Goal → Goal → Goal
+selected first a b = a
+selected second a b = b
 
 -- question 7: an event, if a side of a rule matches
 unfoldable pub matching {ℓ} : {P : Type ℓ} → Dec P → Event → Answer
@@ -54,11 +54,17 @@ by-body too-many c k = refused locals
 by-body undefined c k = gives c
 by-body (defined g) c k = gives (k g)
 
--- question 10 for a result, unless it is not put
+-- question 10, unless it is not put
 unfoldable pub fitting : (not-put : Bool) → Option Question → Answer → Answer
 fitting true o a = a
 fitting false none a = a
 fitting false (some q) a = refused q
+
+-- question 10 for the event that an answer gives
+unfoldable pub limited-by : (Event → Option Question) → (not-put : Bool) → Answer → Answer
+unfolding fitting
+limited-by limit b (refused q) = refused q
+limited-by limit b (gives d) = fitting b (limit d) (gives d)
 
 unfoldable pub is-clash : Unified → Bool
 is-clash too-large = false
@@ -67,11 +73,11 @@ is-clash (unified m) = false
 
 -- the rules from exit, fail and redo: question 6, question 7 and the right side
 unfoldable pub from-exit : Goal → List Ancestor → List Bet → Answer
-unfolding matching half
+unfolding matching selected
 from-exit g [] s = refused possible
 from-exit g (in-conj first a b ∷ u) s = matching (goal? g a) (event call b (in-conj second a b ∷ u) s)
 from-exit g (in-conj second a b ∷ u) s = matching (goal? g b) (event exit (conj a b) u s)
-from-exit g (in-disj n a b ∷ u) s = matching (goal? g (half n a b)) (event exit (disj a b) u (or n ∷ s))
+from-exit g (in-disj n a b ∷ u) s = matching (goal? g (selected n a b)) (event exit (disj a b) u (or n ∷ s))
 from-exit g (called p ts ∷ u) s = gives (event exit (atom p ts) u (by g ∷ s))
 
 unfoldable pub from-fail : Goal → List Ancestor → List Bet → Answer
@@ -84,21 +90,21 @@ from-fail g (in-disj second a b ∷ u) s = matching (goal? g b) (event fail (dis
 from-fail g (called p ts ∷ u) s = gives (event fail (atom p ts) u s)
 
 unfoldable pub from-redo : Goal → List Ancestor → List Bet → Answer
-unfolding half top-unifier top-or top-by
+unfolding selected top-unifier top-or top-by
 from-redo truth u s = gives (event fail truth u s)
 from-redo failure u s = refused matches
 from-redo (equal l r) u s = top-unifier s (λ m t. gives (event fail (equal l r) u t))
 from-redo (conj a b) u s = gives (event redo b (in-conj second a b ∷ u) s)
-from-redo (disj a b) u s = top-or s (λ n t. gives (event redo (half n a b) (in-disj n a b ∷ u) t))
+from-redo (disj a b) u s = top-or s (λ n t. gives (event redo (selected n a b) (in-disj n a b ∷ u) t))
 from-redo (atom p ts) u s = top-by s (λ g t. gives (event redo g (called p ts ∷ u) t))
 
 -- the rules to redo, read back
 unfoldable pub into-redo : Goal → List Ancestor → List Bet → Answer
-unfolding matching half
+unfolding matching selected
 into-redo g [] s = refused matches
 into-redo g (in-conj first a b ∷ u) s = matching (goal? g a) (event fail b (in-conj second a b ∷ u) s)
 into-redo g (in-conj second a b ∷ u) s = matching (goal? g b) (event redo (conj a b) u s)
-into-redo g (in-disj n a b ∷ u) s = matching (goal? g (half n a b)) (event redo (disj a b) u (or n ∷ s))
+into-redo g (in-disj n a b ∷ u) s = matching (goal? g (selected n a b)) (event redo (disj a b) u (or n ∷ s))
 into-redo g (called p ts ∷ u) s = gives (event redo (atom p ts) u (by g ∷ s))
 
 -- a query's first event
@@ -141,16 +147,10 @@ module _ (M : Machine) where
   ununifiable (event fail g u s) = false
   ununifiable (event redo g u s) = false
 
-  -- question 10 for what a rule gives
-  unfoldable pub limited : (not-put : Bool) → Answer → Answer
-  unfolding fitting
-  limited b (refused q) = refused q
-  limited b (gives d) = fitting b (M .limit d) (gives d)
-
   -- a step forward: question 10 is not put for two terms that can't be unified
   unfoldable pub step-forward : Event → Answer
-  unfolding rule limited ununifiable
-  step-forward e = limited (ununifiable e) (rule e)
+  unfolding rule limited-by ununifiable
+  step-forward e = limited-by (M .result-limit) (ununifiable e) (rule e)
 
   -- The rules read back: question 6, the first question 7, which looks only at port, goal, ancestors and the kind and tag of the top bet,
   -- questions 8 and 9, and the candidate, which is the left side. What the unifier or the body is, is left to the last question 7: call B
@@ -166,12 +166,12 @@ module _ (M : Machine) where
   into-call g (called p ts ∷ u) s = by-body (M .body p ts u s) (event call (atom p ts) u s) (λ b. event call (atom p ts) u s)
 
   unfoldable pub into-exit : Goal → List Ancestor → List Bet → Answer
-  unfolding half top-unifier top-or top-by by-unifier
+  unfolding selected top-unifier top-or top-by by-unifier
   into-exit truth u s = gives (event call truth u s)
   into-exit failure u s = refused matches
   into-exit (equal l r) u s = top-unifier s (λ m t. by-unifier (M .unify t l r) (event call (equal l r) u t) (λ m. event call (equal l r) u t))
   into-exit (conj a b) u s = gives (event exit b (in-conj second a b ∷ u) s)
-  into-exit (disj a b) u s = top-or s (λ n t. gives (event exit (half n a b) (in-disj n a b ∷ u) t))
+  into-exit (disj a b) u s = top-or s (λ n t. gives (event exit (selected n a b) (in-disj n a b ∷ u) t))
   into-exit (atom p ts) u s = top-by s (λ g t. gives (event exit g (called p ts ∷ u) t))
 
   -- fail T1=T2 and fail P have two sources: which one it is, is known from the unifier and the definition
@@ -195,7 +195,7 @@ module _ (M : Machine) where
   unfoldable pub checked : Event → Answer → Answer
   unfolding fitting ununifiable matching step-forward
   checked e (refused q) = refused q
-  checked e (gives c) = fitting (ununifiable c) (M .limit c) (matching (answer? (step-forward c) (gives e)) c)
+  checked e (gives c) = fitting (ununifiable c) (M .candidate-limit c) (matching (answer? (step-forward c) (gives e)) c)
 
   unfoldable pub step-back : Event → Answer
   unfolding candidate checked
@@ -216,12 +216,7 @@ pub record Lent : Type 0 where
   pub direction : Direction
   pub room : ℕ
 
--- question 5: is the output at least 32,768 bytes?
-unfoldable pub on-room : (too-short : Bool) → Answer → Answer
-on-room true a = refused output
-on-room false a = a
-
 -- a step with question 5 before it
 unfoldable pub attempt : Machine → Lent → Event → Answer
-unfolding step on-room
-attempt M l e = on-room (ltb (l .room) 32768) (step M (l .direction) e)
+unfolding step with-room
+attempt M l e = with-room (l .room) (step M (l .direction) e)

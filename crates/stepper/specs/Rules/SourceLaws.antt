@@ -5,22 +5,15 @@ use mathlib.Core.Logic.{_↔_}
 use mathlib.Core.Bool.{false}
 use mathlib.Core.List.{List, [], _∷_}
 use mathlib.Core.Option.{none}
-use Rattle.records.specs.Format.Syntax.{Goal, truth, failure, equal, conj, disj, atom, first, second, Ancestor, called, in-conj, in-disj, Binding, Bet, unifier, Port, call, exit, fail, redo, Event, event, goal?}
+use Rattle.records.specs.Format.Syntax.{Goal, truth, failure, equal, conj, disj, atom, first, second, Ancestor, called, in-conj, in-disj, Bet, unifier, Port, call, exit, fail, redo, Event, event, goal?}
 use Rattle.terms.specs.Theory.Outcome.{clash, unified}
 use Rattle.terms.specs.Body.Body.{undefined, defined}
-use Rattle.stepper.specs.Rules.Machine.{Machine, gives, answer?}
-use Rattle.stepper.specs.Rules.Rules.{half, matching, fitting, ununifiable, step-forward, candidate, checked, step-back}
-use Rattle.stepper.specs.Rules.Answers.{Given, given-goal, given-unifier, given-body, given-top-unifier, given-top-or, given-top-by, unifier-either, body-either, given-unifier-either, given-body-either, matching-yes, fitting-iff}
+use Rattle.stepper.specs.Rules.Machine.{Machine, Admits, constant-machine, gives, answer?}
+use Rattle.stepper.specs.Rules.Rules.{selected, matching, fitting, ununifiable, step-forward, candidate, checked, step-back}
+use Rattle.stepper.specs.Rules.AnswerLaws.{Given, given-goal, given-unifier, given-body, given-top-unifier, given-top-or, given-top-by, unifier-either, body-either, given-unifier-either, given-body-either, matching-yes, fitting-iff}
 use Rattle.stepper.specs.Rules.Listed.{Rule, conj-call, conj-exit-first, conj-fail-first, conj-exit-second, conj-fail-second, conj-redo, disj-call, disj-fail-first, disj-fail-second, disj-exit-first, disj-exit-second, disj-redo, true-call, true-redo, fail-call, equal-call, equal-clash, equal-redo, atom-call, atom-undefined, atom-exit, atom-fail, atom-redo}
 use Rattle.stepper.specs.Rules.ListedLaws.{disj-exit, forward-iff, forward-listed, back-candidate, back-steps-forward}
 use Rattle.stepper.specs.Rules.Sources.{Own, Source, Candidate, source, any-unifier, any-body}
-
--- machines whose every unifier, or every body, is the one given
-abbrev pub always-unified : List Binding → Machine
-always-unified m = record { unify = λ s l r. unified m; body = λ p ts u s. undefined; limit = λ e. none }
-
-abbrev pub always-defined : Goal → Machine
-always-defined g = record { unify = λ s l r. clash; body = λ p ts u s. defined g; limit = λ e. none }
 
 module _ (M : Machine) where
   -- a source is the candidate
@@ -96,7 +89,7 @@ module _ (M : Machine) where
   candidate-listed (event redo g [] s) = tt
   candidate-listed (event redo g (in-conj first a b ∷ u) s) = for-goal redo _ s g a _ (conj-fail-second, tt)
   candidate-listed (event redo g (in-conj second a b ∷ u) s) = for-goal redo _ s g b _ (conj-redo, tt)
-  candidate-listed (event redo g (in-disj n a b ∷ u) s) = for-goal redo _ s g (half n a b) _ (disj-redo n, tt)
+  candidate-listed (event redo g (in-disj n a b ∷ u) s) = for-goal redo _ s g (selected n a b) _ (disj-redo n, tt)
   candidate-listed (event redo g (called p ts ∷ u) s) = source (atom-redo, tt)
 
   -- and each candidate
@@ -113,8 +106,8 @@ module _ (M : Machine) where
   -- from a candidate some rule leads to the event, whatever the unifier and the program
   pub candidate-ruled : (c e : Event) → Candidate M c e → (N : Machine) × Rule N c e
   candidate-ruled c e (source h) = (M, h .0)
-  candidate-ruled c e (any-unifier {m = m} h) = (always-unified m, equal-call refl)
-  candidate-ruled c e (any-body {g = g} h) = (always-defined g, atom-call refl)
+  candidate-ruled c e (any-unifier {m = m} h) = (constant-machine (unified m) undefined, equal-call refl)
+  candidate-ruled c e (any-body {g = g} h) = (constant-machine clash (defined g), atom-call refl)
 
   -- and it has its call's unifier or body
   pub candidate-own : (c e : Event) → Candidate M c e → Own M c
@@ -122,25 +115,25 @@ module _ (M : Machine) where
   candidate-own c e (any-unifier h) = tt
   candidate-own c e (any-body h) = tt
 
-  -- To an event within the limit, a step back gives its source, if question 10 says yes to it or is not put.
-  pub back-iff : (e c : Event) → M .limit e ≡ none
-      → (step-back M e ≡ gives c) ↔ (Source M c e × (ununifiable M c ≡ false → M .limit c ≡ none))
+  -- To an event that is admitted, a step back gives its source, if question 10 says yes to it or is not put.
+  pub back-iff : (e c : Event) → Admits M e
+      → (step-back M e ≡ gives c) ↔ (Source M c e × (ununifiable M c ≡ false → M .candidate-limit c ≡ none))
   unfolding step-back checked
   back-iff e c l = (there, again)
     where
-      there : step-back M e ≡ gives c → Source M c e × (ununifiable M c ≡ false → M .limit c ≡ none)
+      there : step-back M e ≡ gives c → Source M c e × (ununifiable M c ≡ false → M .candidate-limit c ≡ none)
       there h =
           let k = back-candidate M e c h in
           let f = back-steps-forward M e c h in
-          let asked : fitting (ununifiable M c) (M .limit c) _ ≡ gives c = ap (checked M e) (sym k) ∙ h in (
+          let asked : fitting (ununifiable M c) (M .candidate-limit c) _ ≡ gives c = ap (checked M e) (sym k) ∙ h in (
             (forward-listed M c e f, candidate-own c e (candidate-iff e c .0 k)),
-            fitting-iff (ununifiable M c) (M .limit c) c .0
-                (ap (fitting (ununifiable M c) (M .limit c)) (sym (matching-yes (answer? (step-forward M c) (gives e)) c f)) ∙ asked),
+            fitting-iff (ununifiable M c) (M .candidate-limit c) c .0
+                (ap (fitting (ununifiable M c) (M .candidate-limit c)) (sym (matching-yes (answer? (step-forward M c) (gives e)) c f)) ∙ asked),
           )
 
-      again : Source M c e × (ununifiable M c ≡ false → M .limit c ≡ none) → step-back M e ≡ gives c
+      again : Source M c e × (ununifiable M c ≡ false → M .candidate-limit c ≡ none) → step-back M e ≡ gives c
       again h =
           let f : step-forward M c ≡ gives e = forward-iff M c e .1 (h .0 .0, λ u. l) in
           ap (checked M e) (source-candidate c e (h .0 .0) (h .0 .1))
-          ∙ ap (fitting (ununifiable M c) (M .limit c)) (matching-yes (answer? (step-forward M c) (gives e)) c f)
-          ∙ fitting-iff (ununifiable M c) (M .limit c) c .1 (h .1)
+          ∙ ap (fitting (ununifiable M c) (M .candidate-limit c)) (matching-yes (answer? (step-forward M c) (gives e)) c f)
+          ∙ fitting-iff (ununifiable M c) (M .candidate-limit c) c .1 (h .1)

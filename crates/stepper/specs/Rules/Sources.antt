@@ -1,4 +1,4 @@
--- The rules read from right to left (document 01, "Step back"): `Source M c e` says that c is the source of e.
+-- The rules read from right to left (SPECIFICATION 6): `Source M c e` says that c is the source of e.
 -- Two right sides have two sources; the source is then the one whose unifier or body is the one that its call has.
 -- `Candidate M c e` says that c is the candidate of a step back from e: the source, as far as the first question 7 looks.
 use mathlib.Core.Path.{_≡_}

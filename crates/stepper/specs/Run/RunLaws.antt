@@ -1,77 +1,238 @@
--- Laws of a run: it is that many single steps, it tells why it stopped, and how a loop counts it.
-use mathlib.Core.Path.{_≡_, refl, sym, _∙_, ap}
+-- Laws of a run: it is so many single steps, its log has the marks of the events passed, none but the last of them meets the aim, it tells why it
+-- stopped, and a longer one goes on where a shorter one stopped.
+use mathlib.Core.Path.{_≡_, refl, sym, _∙_, ap, subst}
+use mathlib.Core.Bool.{Bool, true, false, cond, true≢false}
+use mathlib.Core.List.{_++_}
 use mathlib.Core.Option.{Option, none, some, Option·none-ne-some, Option·some-injective}
-use Prim.Native.Nat.{ℕ, zero, suc, _+_}
+use Prim.Native.Nat.{ℕ, zero, suc, _+_, _-_, _<_, _≤_}
 use native.Mathlib.Nat.{zero-add, add-zero, add-suc, suc-add}
-use lib.ListN.{replicate}
+use native.Mathlib.Omega.{arith}
+use lib.ListN.{length, getD, replicate}
+use borrow.Author.Tests.{eqb-true, eqb-false}
 use Rattle.records.specs.Format.Syntax.{Event}
 use Rattle.records.specs.Gate.Question.{Question}
 use Rattle.stepper.specs.Rules.Machine.{Machine, Answer, refused, gives}
 use Rattle.stepper.specs.Rules.Rules.{step, accepted}
 use Rattle.stepper.specs.Walks.Reached.{accepted-step}
-use Rattle.stepper.specs.Run.Run.{Ran, after-step, on-answer, run}
 use Rattle.stepper.specs.Walks.Walk.{Direction, forward, back, Tally, at-start, after, moves, walk}
+use Rattle.stepper.specs.Run.Run.{Mark, mark, meets, Order, plain, is-full, less-room, with-marks, Stop, spent, met, full, by, RunEnd, ended, past, on-answer, run}
 
--- a run with i steps taken before it
-unfoldable pub later : ℕ → Ran → Ran
-later i r = record { event = r .event; taken = i + r .taken; stopped = r .stopped }
+-- a run with another one behind it
+unfoldable pub then : RunEnd → RunEnd → RunEnd
+then a b = record { event = b .event; taken = a .taken + b .taken; why = b .why; log = a .log ++ b .log }
+
+-- the room of an order
+room-full : (r : Option ℕ) → is-full r ≡ true → r ≡ some 0
+unfolding is-full
+room-full none f = absurd (true≢false (sym f))
+room-full (some k) f = ap some (eqb-true k 0 f)
+
+room-more : {n : ℕ} (r : Option ℕ) → is-full r ≡ false → less-room 1 r ≡ some n → r ≡ some (suc n)
+unfolding is-full less-room
+room-more none f h = absurd (Option·none-ne-some _ h)
+room-more {n} (some k) f h = let x : k - 1 ≡ n = Option·some-injective _ _ h in let y = eqb-false k 0 f in ap some (omega arith)
+
+no-marks : (o : Order) → with-marks 0 o ≡ o
+unfolding less-room
+no-marks o = ap (λ r. record { direction = o .direction; aim = o .aim; room = r }) (go (o .room))
+  where
+    go : (r : Option ℕ) → less-room 0 r ≡ r
+    go none = refl
+    go (some k) = ap some (omega arith)
+
+more-marks : (n : ℕ) (o : Order) → with-marks n (with-marks 1 o) ≡ with-marks (suc n) o
+unfolding less-room
+more-marks n o = ap (λ r. record { direction = o .direction; aim = o .aim; room = r }) (go (o .room))
+  where
+    go : (r : Option ℕ) → less-room n (less-room 1 r) ≡ less-room (suc n) r
+    go none = refl
+    go (some k) = ap some (omega arith)
+
+module _ (M : Machine) where
+  -- How a run goes from an event, turn by turn, to its end.
+  pub data Course : Order → ℕ → Event → RunEnd → Type 0 where
+    no-count : {o : Order} {e : Event} → Course o zero e (ended e spent)
+    no-room : {o : Order} {n : ℕ} {e : Event} → is-full (o .room) ≡ true → Course o (suc n) e (ended e full)
+    no-step : {o : Order} {n : ℕ} {e : Event} (q : Question) → is-full (o .room) ≡ false → step M (o .direction) e ≡ refused q → Course o (suc n) e (ended e (by q))
+    last-step : {o : Order} {n : ℕ} {e : Event} (c : Event) → is-full (o .room) ≡ false → step M (o .direction) e ≡ gives c → meets (o .aim) (mark c) ≡ true
+        → Course o (suc n) e (past (mark c) (ended c met))
+    one-step : {o : Order} {n : ℕ} {e : Event} {r : RunEnd} (c : Event) → is-full (o .room) ≡ false → step M (o .direction) e ≡ gives c → meets (o .aim) (mark c) ≡ false
+        → Course (with-marks 1 o) n c r → Course o (suc n) e (past (mark c) r)
+
+  pub course : (o : Order) (n : ℕ) (e : Event) → Course o n e (run M o n e)
+  unfolding run
+  course o zero e = no-count
+  course o (suc n) e = go (is-full (o .room)) refl (step M (o .direction) e) refl (course (with-marks 1 o) n)
+    where
+      aimed : is-full (o .room) ≡ false → (c : Event) → step M (o .direction) e ≡ gives c → Course (with-marks 1 o) n c (run M (with-marks 1 o) n c)
+          → (b : Bool) → meets (o .aim) (mark c) ≡ b → Course o (suc n) e (past (mark c) (cond b (ended c met) (run M (with-marks 1 o) n c)))
+      aimed f c h k true m = last-step c f h m
+      aimed f c h k false m = one-step c f h m k
+
+      go : (b : Bool) → is-full (o .room) ≡ b → (a : Answer) → step M (o .direction) e ≡ a → ((c : Event) → Course (with-marks 1 o) n c (run M (with-marks 1 o) n c))
+          → Course o (suc n) e (run M o (suc n) e)
+      go true f a h k = rw f (no-room f)
+      go false f (refused q) h k = rw (f, h) (no-step q f h)
+      go false f (gives c) h k = rw (f, h) (aimed f c h (k c) (meets (o .aim) (mark c)) refl)
+
+  -- there is one course
+  pub course-run : {o : Order} {n : ℕ} {e : Event} {r : RunEnd} → Course o n e r → run M o n e ≡ r
+  unfolding run on-answer
+  course-run no-count = refl
+  course-run (no-room f) = rw f
+  course-run (no-step q f h) = rw (f, h)
+  course-run (last-step c f h m) = rw (f, h, m)
+  course-run (one-step c f h m k) = rw (f, h, m) (ap (past (mark c)) (course-run k))
+
+  -- It is so many single steps: steps alone, as many as were taken, reach the same event and pass the same ones.
+  plain-course : {o : Order} {n : ℕ} {e : Event} {r : RunEnd} → Course o n e r
+      → Course (plain (o .direction)) (r .taken) e (record { event = r .event; taken = r .taken; why = spent; log = r .log })
+  unfolding is-full less-room meets past
+  plain-course no-count = no-count
+  plain-course (no-room f) = no-count
+  plain-course (no-step q f h) = no-count
+  plain-course (last-step c f h m) = one-step c refl h refl no-count
+  plain-course (one-step c f h m k) = one-step c refl h refl (plain-course k)
+
+  -- Its log has a mark for each step.
+  log-length : {o : Order} {n : ℕ} {e : Event} {r : RunEnd} → Course o n e r → length (r .log) ≡ r .taken
+  unfolding past
+  log-length no-count = refl
+  log-length (no-room f) = refl
+  log-length (no-step q f h) = refl
+  log-length (last-step c f h m) = refl
+  log-length (one-step c f h m k) = ap suc (log-length k)
+
+  -- The i-th mark is that of the event which i + 1 steps reach.
+  log-marks : {o : Order} {n : ℕ} {e : Event} {r : RunEnd} → Course o n e r → (i : ℕ) (m : Mark) → i < r .taken
+      → getD (r .log) i m ≡ mark (run M (plain (o .direction)) (suc i) e .event)
+  unfolding past is-full meets less-room
+  log-marks no-count i d l = absurd (omega arith)
+  log-marks (no-room f) i d l = absurd (omega arith)
+  log-marks (no-step q f h) i d l = absurd (omega arith)
+  log-marks (last-step c f h m) i d l =
+      let z : i ≡ 0 = omega arith in rw z (ap (λ r. mark (r .event)) (sym (course-run {o = plain _} (one-step c refl h refl no-count))))
+  log-marks (one-step c f h m k) zero d l = ap (λ r. mark (r .event)) (sym (course-run {o = plain _} (one-step c refl h refl no-count)))
+  log-marks (one-step c f h m k) (suc i) d l =
+      log-marks k i d (omega arith) ∙ ap (λ r. mark (r .event)) (sym (course-run {o = plain _} (one-step c refl h refl (course (plain _) (suc i) c))))
+
+  -- None but the last meets the aim, and that one where the run stopped so.
+  unmet : {o : Order} {n : ℕ} {e : Event} {r : RunEnd} → Course o n e r → (i : ℕ) (m : Mark) → i < r .taken → (suc i ≡ r .taken → r .why ≡ met → ⊥)
+      → meets (o .aim) (getD (r .log) i m) ≡ false
+  unfolding past
+  unmet no-count i d l z = absurd (omega arith)
+  unmet (no-room f) i d l z = absurd (omega arith)
+  unmet (no-step q f h) i d l z = absurd (omega arith)
+  unmet (last-step c f h m) i d l z = absurd (z (omega arith) refl)
+  unmet (one-step c f h m k) zero d l z = m
+  unmet (one-step c f h m k) (suc i) d l z = unmet k i d (omega arith) (λ x y. z (ap suc x) y)
+
+  -- It tells why it stopped.
+  abbrev pub Told : Order → ℕ → RunEnd → Stop → Type 0
+  Told o n r spent = r .taken ≡ n
+  Told o n r met = meets (o .aim) (mark (r .event)) ≡ true
+  Told o n r full = o .room ≡ some (r .taken)
+  Told o n r (by q) = step M (o .direction) (r .event) ≡ refused q
+
+  told : {o : Order} {n : ℕ} {e : Event} {r : RunEnd} → Course o n e r → Told o n r (r .why)
+  unfolding past
+  told no-count = refl
+  told (no-room {o = o} f) = room-full (o .room) f
+  told (no-step q f h) = h
+  told (last-step c f h m) = m
+  told (one-step {o = o} {n} {r = r} c f h m k) = go (r .why) (told k)
+    where
+      go : (w : Stop) → Told (with-marks 1 o) n r w → Told o (suc n) (past (mark c) r) w
+      go spent t = ap suc t
+      go met t = t
+      go full t = room-more (o .room) f t
+      go (by q) t = t
+
+  -- It takes no more steps than asked for, and passes no more events than its log has room for.
+  taken-within : {o : Order} {n : ℕ} {e : Event} {r : RunEnd} → Course o n e r → r .taken ≤ n
+  unfolding past
+  taken-within no-count = omega arith
+  taken-within (no-room f) = omega arith
+  taken-within (no-step q f h) = omega arith
+  taken-within (last-step c f h m) = omega arith
+  taken-within (one-step c f h m k) = omega (arith, taken-within k)
+
+  log-within : {o : Order} {n : ℕ} {e : Event} {r : RunEnd} {room : ℕ} → Course o n e r → o .room ≡ some room → r .taken ≤ room
+  unfolding past is-full less-room
+  log-within no-count s = omega arith
+  log-within (no-room f) s = omega arith
+  log-within (no-step q f h) s = omega arith
+  log-within {room = room} (last-step c f h m) s = let z = eqb-false room 0 (rw s at f) in omega arith
+  log-within {room = room} (one-step c f h m k) s = let z = eqb-false room 0 (rw s at f) in omega (arith, log-within {room = room - 1} k (rw s refl))
+
+  -- A longer one goes on where a shorter one stopped.
+  pub course-then : {o : Order} {n m : ℕ} {e : Event} {r s : RunEnd} → Course o n e r → r .why ≡ spent → Course (with-marks n o) m (r .event) s → Course o (n + m) e (then r s)
+  unfolding past then
+  course-then {o} {m = m} {s = s} (no-count {e = e}) y l = rw (zero-add, zero-add) (subst (λ x. Course x m e s) (no-marks o) l)
+  course-then (no-room f) y l = absurd (true≢false cc)
+  course-then (no-step q f h) y l = absurd (true≢false cc)
+  course-then (last-step c f h m) y l = absurd (true≢false cc)
+  course-then {o} {m = i} {s = s} (one-step {n = n} {r = r} c f h m k) y l =
+      rw (suc-add, suc-add) (one-step c f h m (course-then k y (subst (λ x. Course x i (r .event) s) (sym (more-marks n o)) l)))
+
+  course-over : {o : Order} {n : ℕ} {e : Event} {r : RunEnd} (m : ℕ) → Course o n e r → (r .why ≡ spent → ⊥) → Course o (n + m) e r
+  unfolding past
+  course-over k no-count z = absurd (z refl)
+  course-over k (no-room f) z = rw suc-add (no-room f)
+  course-over k (no-step q f h) z = rw suc-add (no-step q f h)
+  course-over k (last-step c f h m) z = rw suc-add (last-step c f h m)
+  course-over k (one-step c f h m l) z = rw suc-add (one-step c f h m (course-over k l z))
+
+  -- The laws of runs.
+  module _ (o : Order) (n : ℕ) (e : Event) where
+    pub run-is-plain : run M (plain (o .direction)) (run M o n e .taken) e
+        ≡ record { event = run M o n e .event; taken = run M o n e .taken; why = spent; log = run M o n e .log }
+    run-is-plain = course-run (plain-course (course o n e))
+
+    pub run-within : run M o n e .taken ≤ n
+    run-within = taken-within (course o n e)
+
+    pub run-log-within : {room : ℕ} → o .room ≡ some room → run M o n e .taken ≤ room
+    run-log-within = log-within (course o n e)
+
+    pub run-log-length : length (run M o n e .log) ≡ run M o n e .taken
+    run-log-length = log-length (course o n e)
+
+    pub run-log : (i : ℕ) (m : Mark) → i < run M o n e .taken → getD (run M o n e .log) i m ≡ mark (run M (plain (o .direction)) (suc i) e .event)
+    run-log = log-marks (course o n e)
+
+    pub run-unmet : (i : ℕ) (m : Mark) → i < run M o n e .taken → (suc i ≡ run M o n e .taken → run M o n e .why ≡ met → ⊥)
+        → meets (o .aim) (getD (run M o n e .log) i m) ≡ false
+    run-unmet = unmet (course o n e)
+
+    pub run-told : Told o n (run M o n e) (run M o n e .why)
+    run-told = told (course o n e)
+
+    pub run-on : (m : ℕ) → run M o n e .why ≡ spent → run M o (n + m) e ≡ then (run M o n e) (run M (with-marks n o) m (run M o n e .event))
+    run-on m y = course-run (course-then (course o n e) y (course (with-marks n o) m _))
+
+    pub run-over : (m : ℕ) → (run M o n e .why ≡ spent → ⊥) → run M o (n + m) e ≡ run M o n e
+    run-over m z = course-run (course-over m (course o n e) z)
 
 -- a walk with a run after it
-unfoldable pub and-run : Direction → Tally Event → Ran → Tally Event
+unfoldable pub and-run : Direction → Tally Event → RunEnd → Tally Event
 and-run forward t r = record { event = r .event; forwards = t .forwards + r .taken; backs = t .backs }
 and-run back t r = record { event = r .event; forwards = t .forwards; backs = t .backs + r .taken }
 
-and-run-nothing : (d : Direction) (t : Tally Event) (o : Option Question) → and-run d t (record { event = t .event; taken = 0; stopped = o }) ≡ t
+and-run-none : {e : Event} (d : Direction) (t : Tally Event) (s : Stop) → t .event ≡ e → t ≡ and-run d t (ended e s)
 unfolding and-run
-and-run-nothing forward t o = rw add-zero
-and-run-nothing back t o = rw add-zero
+and-run-none forward t s y = rw (← y, add-zero)
+and-run-none back t s y = rw (← y, add-zero)
 
-module _ (M : Machine) (d : Direction) where
-  run-gives : (n : ℕ) (e c : Event) → step M d e ≡ gives c → run M d (suc n) e ≡ after-step (run M d n c)
-  unfolding run on-answer
-  run-gives n e c h = ap (λ a. on-answer a e (run M d n)) h
+and-run-past : (d : Direction) (t : Tally Event) (c : Event) (m : Mark) (r : RunEnd) → and-run d (after d (some c) t) r ≡ and-run d t (past m r)
+unfolding and-run after past
+and-run-past forward t c m r = rw (suc-add, add-suc)
+and-run-past back t c m r = rw (suc-add, add-suc)
 
-  run-refuses : (n : ℕ) (e : Event) (q : Question) → step M d e ≡ refused q
-      → run M d (suc n) e ≡ record { event = e; taken = 0; stopped = some q }
-  unfolding run on-answer
-  run-refuses n e q h = ap (λ a. on-answer a e (run M d n)) h
-
-  -- How a loop counts a run, with i steps taken and n to go, at the event e.
-  pub run-start : (n : ℕ) (e : Event) → later 0 (run M d n e) ≡ run M d n e
-  unfolding later
-  run-start n e = ap (λ x. record { event = run M d n e .event; taken = x; stopped = run M d n e .stopped }) (zero-add (run M d n e .taken))
-
-  pub run-step : (i n : ℕ) (e c : Event) → step M d e ≡ gives c → later i (run M d (suc n) e) ≡ later (suc i) (run M d n c)
-  unfolding later after-step
-  run-step i n e c h = rw (run-gives n e c h, add-suc, suc-add)
-
-  pub run-stop : (i n : ℕ) (e : Event) (q : Question) → step M d e ≡ refused q
-      → later i (run M d (suc n) e) ≡ record { event = e; taken = i; stopped = some q }
-  unfolding later
-  run-stop i n e q h = rw (run-refuses n e q h, add-zero)
-
-  pub run-end : (i : ℕ) (e : Event) → later i (run M d 0 e) ≡ record { event = e; taken = i; stopped = none }
-  unfolding later run
-  run-end i e = rw add-zero
-
-  -- a run that is not stopped takes all its steps; one that is stopped stands where that question refuses the next step
-  abbrev Honest : ℕ → Ran → Type 0
-  Honest n r = (r .stopped ≡ none → r .taken ≡ n) × ((q : Question) → r .stopped ≡ some q → step M d (r .event) ≡ refused q)
-
-  pub run-honest : (n : ℕ) (e : Event) → Honest n (run M d n e)
-  unfolding run on-answer after-step
-  run-honest zero e = (λ h. refl, λ q h. absurd (Option·none-ne-some q h))
-  run-honest (suc n) e = go (step M d e) refl (run-honest n)
-    where
-      go : (a : Answer) → step M d e ≡ a → ((c : Event) → Honest n (run M d n c)) → Honest (suc n) (on-answer a e (run M d n))
-      go (refused p) h k = (λ j. absurd (Option·none-ne-some p (sym j)), λ q j. h ∙ ap refused (Option·some-injective p q j))
-      go (gives c) h k = (λ j. ap suc (k c .0 j), k c .1)
-
-  and-run-step : (s : Direction) (t : Tally Event) (c : Event) (n : ℕ)
-      → and-run s (after s (some c) t) (run M d n (after s (some c) t .event)) ≡ and-run s t (after-step (run M d n c))
-  unfolding and-run after after-step
-  and-run-step forward t c n = rw (suc-add, add-suc)
-  and-run-step back t c n = rw (suc-add, add-suc)
+after-event : (d : Direction) (c : Event) (t : Tally Event) → after d (some c) t .event ≡ c
+unfolding after
+after-event forward c t = refl
+after-event back c t = refl
 
 -- A move that is a single step and refuses nothing of its own.
 module _ (M : Machine) {Move : Type 0} (direction : Move → Direction) (attempt : Move → Event → Option Event) (m : Move)
@@ -82,24 +243,21 @@ module _ (M : Machine) {Move : Type 0} (direction : Move → Direction) (attempt
   still zero t h = refl
   still (suc n) t h = ap (λ o. moves direction attempt (replicate n m) (after (direction m) o t)) h ∙ still n t h
 
-  moves-run : (n : ℕ) (t : Tally Event) → moves direction attempt (replicate n m) t ≡ and-run (direction m) t (run M (direction m) n (t .event))
-  unfolding moves run accepted
-  moves-run zero t = sym (and-run-nothing (direction m) t none)
-  moves-run (suc n) t = go (step M (direction m) (t .event)) refl (moves-run n)
-    where
-      go : (a : Answer) → step M (direction m) (t .event) ≡ a
-          → ((w : Tally Event) → moves direction attempt (replicate n m) w ≡ and-run (direction m) w (run M (direction m) n (w .event)))
-          → moves direction attempt (replicate (suc n) m) t ≡ and-run (direction m) t (run M (direction m) (suc n) (t .event))
-      go (refused q) h k =
-          still (suc n) t (single (t .event) ∙ ap accepted h) ∙ sym (and-run-nothing (direction m) t (some q))
-          ∙ ap (and-run (direction m) t) (sym (run-refuses M (direction m) n (t .event) q h))
-      go (gives c) h k =
-          ap (λ o. moves direction attempt (replicate n m) (after (direction m) o t)) (single (t .event) ∙ ap accepted h)
-          ∙ k (after (direction m) (some c) t) ∙ and-run-step M (direction m) (direction m) t c n
-          ∙ ap (and-run (direction m) t) (sym (run-gives M (direction m) n (t .event) c h))
+  answered : {e : Event} {a : Answer} (t : Tally Event) → t .event ≡ e → step M (direction m) e ≡ a → attempt m (t .event) ≡ accepted a
+  answered t y h = rw y (single _ ∙ ap accepted h)
 
-  -- a run is that many single steps
-  pub run-is-steps : (n : ℕ) (e : Event)
-      → walk direction attempt e (replicate n m) ≡ and-run (direction m) (at-start e) (run M (direction m) n e)
+  moves-run : {n : ℕ} {e : Event} {r : RunEnd} → Course M (plain (direction m)) n e r → (t : Tally Event) → t .event ≡ e
+      → moves direction attempt (replicate n m) t ≡ and-run (direction m) t r
+  unfolding moves accepted is-full meets less-room
+  moves-run no-count t y = and-run-none (direction m) t spent y
+  moves-run (no-room f) t y = absurd (true≢false (sym f))
+  moves-run (no-step {n = n} q f h) t y = still (suc n) t (answered t y h) ∙ and-run-none (direction m) t (by q) y
+  moves-run (last-step c f h k) t y = absurd (true≢false (sym k))
+  moves-run (one-step {n = n} {r = r} c f h k l) t y =
+      ap (λ o. moves direction attempt (replicate n m) (after (direction m) o t)) (answered t y h)
+      ∙ moves-run l (after (direction m) (some c) t) (after-event (direction m) c t) ∙ and-run-past (direction m) t c (mark c) r
+
+  -- steps alone are that many moves
+  pub run-is-steps : (n : ℕ) (e : Event) → walk direction attempt e (replicate n m) ≡ and-run (direction m) (at-start e) (run M (plain (direction m)) n e)
   unfolding walk
-  run-is-steps n e = moves-run n (at-start e)
+  run-is-steps n e = moves-run (course M (plain (direction m)) n e) (at-start e) refl

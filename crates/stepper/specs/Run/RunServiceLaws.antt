@@ -1,32 +1,33 @@
 -- Laws of the run service on bytes: it does what that many single steps do, its number is that of the step that stopped it, and its output
 -- keeps its length.
 use mathlib.Core.Path.{_≡_, refl, sym, _∙_, ap}
-use mathlib.Core.Bool.{Bool, true, false}
+use mathlib.Core.Bool.{true, false, true≢false}
 use mathlib.Core.List.{List}
-use mathlib.Core.Option.{Option, none, some}
-use Prim.Native.Nat.{ℕ, zero, suc, _≤_}
+use mathlib.Core.Option.{Option·none-ne-some}
+use Prim.Native.Nat.{ℕ, _≤_}
 use native.Mathlib.Nat.{zero-add}
 use native.Mathlib.Omega.{arith}
-use lib.Dec.{ltb}
 use lib.ListN.{length, drop, replicate}
-use borrow.Author.Tests.{ltb-false, le-ltb}
 use Rattle.records.specs.Format.Syntax.{Event, Definition}
 use Rattle.records.specs.Format.Encode.{event-record}
-use Rattle.records.specs.Gate.Question.{Asked, Question}
+use Rattle.records.specs.Gate.Question.{Question}
 use Rattle.records.specs.Format.HeadLaws.{Bytes}
-use Rattle.records.specs.Gate.Gate.{Reading, tree}
+use Rattle.records.specs.Gate.Gate.{tree}
 use Rattle.records.specs.Gate.GateLaws.{front}
+use Rattle.records.specs.Gate.Reply.{Answer as AnswerOf, through, reply-with}
 use Rattle.stepper.specs.Services.Layers.{Layers, Lawful}
-use Rattle.stepper.specs.Rules.Machine.{Answer, refused, gives}
+use Rattle.stepper.specs.Rules.Machine.{Machine, refused, gives}
 use Rattle.stepper.specs.Rules.Rules.{step, accepted, Lent}
 use Rattle.stepper.specs.Walks.Walk.{Direction, forward, back, Tally, encoded, at-start, walk}
-use Rattle.stepper.specs.Run.Run.{Ran, after-step, on-answer, run, RunReply, stop-number, run-refused, run-done, run-with-room, run-record}
-use Rattle.stepper.specs.Run.RunLaws.{and-run, run-honest, run-is-steps}
+use Rattle.stepper.specs.Run.Run.{meets, Order, plain, Stop, spent, met, full, by, RunEnd, past, run, RunReply, stop-number, run-refused, run-done, run-record}
+use Rattle.stepper.specs.Run.RunLaws.{Course, no-count, no-room, no-step, last-step, one-step, course, Told, run-told, and-run, run-is-steps}
 use Rattle.stepper.specs.Walks.Reached.{attempted}
 use Rattle.stepper.specs.Walks.ReachedLaws.{steps-attempt}
-use Rattle.stepper.specs.Services.Services.{machine, reply, reading, step-answer, step-record, Move, serve, Program, rules-of}
-use Rattle.stepper.specs.Services.ServiceLaws.{Recordable, limit-fits, front-event, number-positive, read-recordable, step-recordable, step-of-record, lent, served-from}
-use Rattle.stepper.specs.Services.OutputLaws.{reply-length}
+use Rattle.stepper.specs.Services.Services.{machine, reply, step-answer, step-record, Move, serve, Program, rules-of}
+use Rattle.stepper.specs.Services.ServiceLaws.{Recordable, limit-fits, front-event, read-recordable, step-recordable, step-of-record, lent, served-from}
+use Rattle.records.specs.Gate.ReplyLaws.{number-positive, reply-length}
+use Rattle.records.specs.Gate.Door.{Trees, gate}
+use Rattle.records.specs.Gate.DoorLaws.{gate-both, gate-gives}
 
 -- what a run's reply says of a walk: the record in its output, and the steps taken
 unfoldable pub served-run : Direction → RunReply → Tally (List ℕ)
@@ -34,45 +35,46 @@ unfolding front
 served-run forward r = record { event = front (r .output); forwards = r .taken; backs = 0 }
 served-run back r = record { event = front (r .output); forwards = 0; backs = r .taken }
 
-stop-none : (o : Option Question) → stop-number o ≡ 0 → o ≡ none
-unfolding stop-number
-stop-none none h = refl
-stop-none (some q) h = absurd (number-positive q h)
-
-stop-some : (o : Option Question) → (stop-number o ≡ 0 → ⊥) → (q : Question) × (o ≡ some q)
-unfolding stop-number
-stop-some none h = absurd (h refl)
-stop-some (some q) h = (q, refl)
-
-kept-reading : {A : Type 0} {n : ℕ} (f : Asked → RunReply) (r : Reading A) (k : A → RunReply)
-    → ((a : Asked) → length (f a .output) ≡ n) → ((x : A) → r ≡ tree x → length (k x .output) ≡ n) → length (reading f r k .output) ≡ n
-unfolding reading
-kept-reading f (Reading.refused a) k g h = g a
-kept-reading f (tree x) k g h = h x refl
-
-run-encoded : (d : Direction) (r : Ran) (e : Event) (out : List ℕ) → Recordable (r .event)
+run-encoded : (d : Direction) (r : RunEnd) (e : Event) (out : List ℕ) → Recordable (r .event)
     → encoded event-record (and-run d (at-start e) r) ≡ served-run d (run-done out r)
-unfolding encoded and-run served-run run-done reply
+unfolding encoded and-run served-run run-done reply-with
 run-encoded forward r e out f = rw (front-event (r .event) (drop (length (event-record (r .event))) out) (f .1), zero-add)
 run-encoded back r e out f = rw (front-event (r .event) (drop (length (event-record (r .event))) out) (f .1), zero-add)
 
+-- what the number of steps alone says: none of them met an aim or filled a log
+module _ (M : Machine) (d : Direction) (n : ℕ) (r : RunEnd) where
+  all-taken : (s : Stop) → Told M (plain d) n r s → stop-number s ≡ 0 → r .taken ≡ n
+  unfolding stop-number meets
+  all-taken spent t z = t
+  all-taken met t z = absurd (true≢false (sym t))
+  all-taken full t z = absurd (Option·none-ne-some _ t)
+  all-taken (by q) t z = absurd (number-positive q z)
+
+  stopped-by : (s : Stop) → Told M (plain d) n r s → (stop-number s ≡ 0 → ⊥) → (q : Question) × (s ≡ by q) × (step M d (r .event) ≡ refused q)
+  unfolding stop-number
+  stopped-by spent t z = absurd (z refl)
+  stopped-by met t z = absurd (z refl)
+  stopped-by full t z = absurd (z refl)
+  stopped-by (by q) t z = (q, refl, t)
+
 module _ (L : Layers) (laws : Lawful L) (c : Program L) where
   -- a run keeps events such that they have records
-  pub run-recordable : (d : Direction) (n : ℕ) (e : Event) → Recordable e → Recordable (run (rules-of c) d n e .event)
-  unfolding run on-answer after-step
-  run-recordable d zero e f = f
-  run-recordable d (suc n) e f = go (step (rules-of c) d e) refl (run-recordable d n)
-    where
-      go : (a : Answer) → step (rules-of c) d e ≡ a → ((b : Event) → Recordable b → Recordable (run (rules-of c) d n b .event))
-          → Recordable (on-answer a e (run (rules-of c) d n) .event)
-      go (refused q) h k = f
-      go (gives b) h k = k b (step-recordable L laws c d e b f h)
+  course-recordable : {o : Order} {n : ℕ} {e : Event} {r : RunEnd} → Course (rules-of c) o n e r → Recordable e → Recordable (r .event)
+  unfolding past
+  course-recordable no-count f = f
+  course-recordable (no-room x) f = f
+  course-recordable (no-step q x h) f = f
+  course-recordable (last-step b x h m) f = step-recordable L laws c _ _ b f h
+  course-recordable (one-step b x h m k) f = course-recordable k (step-recordable L laws c _ _ b f h)
+
+  pub run-recordable : (o : Order) (n : ℕ) (e : Event) → Recordable e → Recordable (run (rules-of c) o n e .event)
+  run-recordable o n e = course-recordable (course (rules-of c) o n e)
 
   -- the run service on an event that passes questions 11 to 14, with an output that passes 5
   run-of-tree : (d : Direction) (n : ℕ) (s : List ℕ) (e : Event) (out : List ℕ) → L .read-event s ≡ tree e → 32768 ≤ length out
-      → run-record L d n (c .program) s out ≡ run-done out (run (rules-of c) d n e)
-  unfolding run-record reading run-with-room
-  run-of-tree d n s e out h k = rw (c .reads, h, le-ltb (length out) 32768 k)
+      → run-record L d n (c .program) s out ≡ run-done out (run (rules-of c) (plain d) n e)
+  unfolding run-record through
+  run-of-tree d n s e out h k = rw (gate-both (L .read-program (c .program)) (L .read-event s) (c .reads) h k)
 
   -- a run is that many single steps of the service, each lent the same output
   pub run-is-served : (m : Move) (n : ℕ) (s : List ℕ) → Bytes s → (e : Event) → L .read-event s ≡ tree e → 32768 ≤ length (m .buffer)
@@ -85,7 +87,7 @@ module _ (L : Layers) (laws : Lawful L) (c : Program L) where
       ∙ ap (encoded event-record)
       (run-is-steps (rules-of c) (λ m. m .direction) (λ m. attempted (rules-of c) (lent m)) m
       (λ b. ap accepted (steps-attempt (rules-of c) (lent m) b k)) n e)
-      ∙ run-encoded (m .direction) (run (rules-of c) (m .direction) n e) e (m .buffer) (run-recordable (m .direction) n e f)
+      ∙ run-encoded (m .direction) (run (rules-of c) (plain (m .direction)) n e) e (m .buffer) (run-recordable (plain (m .direction)) n e f)
       ∙ ap (served-run (m .direction)) (sym (run-of-tree (m .direction) n s e (m .buffer) h k))
 
   -- a run whose number is 0 took all its steps
@@ -94,38 +96,39 @@ module _ (L : Layers) (laws : Lawful L) (c : Program L) where
   unfolding run-done
   run-number-done d n s e out h k z =
       let same = run-of-tree d n s e out h k in
-      ap (λ r. r .taken) same ∙ run-honest (rules-of c) d n e .0 (stop-none _ (sym (ap (λ r. r .number) same) ∙ z))
+      ap (λ r. r .taken) same ∙ all-taken (rules-of c) d n (run (rules-of c) (plain d) n e) (run (rules-of c) (plain d) n e .why) (run-told (rules-of c) (plain d) n e) (sym (ap (λ r. r .number) same) ∙ z)
 
   -- any other number is that of the single step that would come next
   pub run-number-stopped : (d : Direction) (n : ℕ) (s : List ℕ) → Bytes s → (e : Event) (out : List ℕ) → L .read-event s ≡ tree e → 32768 ≤ length out
       → (run-record L d n (c .program) s out .number ≡ 0 → ⊥)
       → step-record L d (c .program) (front (run-record L d n (c .program) s out .output)) out .number ≡ run-record L d n (c .program) s out .number
-  unfolding run-done step-record reply stop-number
+  unfolding run-done step-record reply-with stop-number
   run-number-stopped d n s i e out h k z =
       let M = rules-of c in
       let l : Lent = record { direction = d; room = length out } in
-      let r = run M d n e in
-      let f = run-recordable d n e (read-recordable L laws s i e h) in
+      let r = run M (plain d) n e in
+      let f = run-recordable (plain d) n e (read-recordable L laws s i e h) in
       let same = run-of-tree d n s e out h k in
-      let q = stop-some (r .stopped) (λ y. z (ap (λ r. r .number) same ∙ y)) in
+      let q = stopped-by M d n r (r .why) (run-told M (plain d) n e) (λ y. z (ap (λ r. r .number) same ∙ y)) in
       let reached : front (run-record L d n (c .program) s out .output) ≡ event-record (r .event)
       = ap (λ r. front (r .output)) same ∙ front-event (r .event) _ (f .1) in
       let answer : step-answer L (c .program) l (event-record (r .event)) ≡ refused (q .0)
-      = step-of-record L laws c l (r .event) f ∙ steps-attempt M l (r .event) k ∙ run-honest M d n e .1 (q .0) (q .1) in
+      = step-of-record L laws c l (r .event) f ∙ steps-attempt M l (r .event) k ∙ q .2 in
       ap (λ x. reply out (step-answer L (c .program) l x) .number) reached ∙ ap (λ a. reply out a .number) answer
       ∙ sym (ap stop-number (q .1)) ∙ sym (ap (λ r. r .number) same)
 
 -- the output of a run keeps its length
 pub run-output-length : (L : Layers) → Lawful L → (d : Direction) (n : ℕ) (program s out : List ℕ) → Bytes program → Bytes s
     → length (run-record L d n program s out .output) ≡ length out
-unfolding run-record run-with-room run-refused run-done
-run-output-length L laws d n program s out b i =
-    kept-reading _ (L .read-program program) _ (λ a. refl) (λ P read. kept-reading _ (L .read-event s) _ (λ a. refl) (λ e given.
-    go P e (run-recordable L laws (record { program = program; bytes = b; definitions = P; reads = read }) d n e (read-recordable L laws s i e given)) (ltb (length out) 32768) refl))
+unfolding run-record through run-refused run-done
+run-output-length L laws d n program s out b i = go (gate (L .read-program program) (L .read-event s) (length out)) refl
   where
-    go : (P : List Definition) (e : Event) → Recordable (run (machine L P) d n e .event) → (b : Bool) → ltb (length out) 32768 ≡ b
-        → length (run-with-room b out (run (machine L P) d n e) .output) ≡ length out
-    go P e f true h = refl
-    go P e f false h =
-        reply-length out (gives (run (machine L P) d n e .event))
-        (omega (arith, limit-fits (run (machine L P) d n e .event) (f .1), ltb-false (length out) 32768 h))
+    go : (a : AnswerOf (Trees (List Definition) Event)) → gate (L .read-program program) (L .read-event s) (length out) ≡ a
+        → length (through (run-refused out) a (λ t. run-done out (run (machine L (t .program)) (plain d) n (t .event))) .output) ≡ length out
+    go (refused q) h = refl
+    go (gives t) h =
+        let passed = gate-gives (L .read-program program) (L .read-event s) (length out) h in
+        let P : Program L = record { program = program; bytes = b; definitions = t .program; reads = passed .0 } in
+        let f = run-recordable L laws P (plain d) n (t .event) (read-recordable L laws s i (t .event) (passed .1)) in
+        let e = run (machine L (t .program)) (plain d) n (t .event) .event in
+        reply-length event-record out (gives e) (λ x k. let same : e ≡ x = cc in rw (← same) (omega (arith, limit-fits e (f .1), passed .2)))

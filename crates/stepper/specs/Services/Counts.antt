@@ -1,12 +1,13 @@
--- The counter (document 01): it "adds an event's port to the walk's four counts; a count at 4,294,967,295 stays, and a refused event changes none".
+-- The counter (SPECIFICATION 8.8): it adds an event's port to the walk's four counts; a count at 4,294,967,295 stays, and a refused event changes none.
 use mathlib.Core.Bool.{cond}
 use mathlib.Core.List.{List}
 use Prim.Native.Nat.{ℕ, suc}
 use lib.Dec.{ltb}
 use Rattle.records.specs.Format.Syntax.{call, exit, fail, redo, Event, event}
-use Rattle.records.specs.Gate.Question.{of-event, number as question-number}
+use Rattle.records.specs.Gate.Question.{question-number}
 use Rattle.records.specs.Gate.Gate.{read-event}
-use Rattle.stepper.specs.Services.Services.{reading}
+use Rattle.records.specs.Gate.Reply.{through}
+use Rattle.records.specs.Gate.Door.{event-door}
 
 -- how many events of each port a walk passed
 pub record Counts : Type 0 where
@@ -34,6 +35,6 @@ pub record CountReply : Type 0 where
 
 -- 11 to 14 of the event
 unfoldable pub count-record : List ℕ → Counts → CountReply
-unfolding reading with-event question-number
+unfolding through event-door with-event question-number
 count-record s c =
-    reading (λ a. record { number = question-number (of-event a); counts = c }) (read-event s) (λ e. record { number = 0; counts = with-event c e })
+    through (λ q. record { number = question-number q; counts = c }) (event-door (read-event s)) (λ e. record { number = 0; counts = with-event c e })

@@ -7,9 +7,10 @@ use native.Mathlib.Omega.{arith}
 use lib.Dec.{ltb}
 use borrow.Author.Tests.{ltb-true}
 use Rattle.records.specs.Format.Syntax.{call, exit, fail, redo, Event, event}
-use Rattle.records.specs.Gate.Question.{of-event, number as question-number}
-use Rattle.records.specs.Gate.Gate.{Reading, tree, read-event}
-use Rattle.stepper.specs.Services.Services.{reading}
+use Rattle.records.specs.Gate.Question.{question-number}
+use Rattle.records.specs.Gate.Gate.{read-event}
+use Rattle.records.specs.Gate.Reply.{Answer, refused, gives, through}
+use Rattle.records.specs.Gate.Door.{event-door}
 use Rattle.stepper.specs.Services.Counts.{Counts, CountReply, one-more, with-event, count-record}
 
 -- every count is at most 4,294,967,295
@@ -35,10 +36,10 @@ with-event-within c (event fail g u s) h = record { calls = h .calls; exits = h 
 with-event-within c (event redo g u s) h = record { calls = h .calls; exits = h .exits; fails = h .fails; redos = one-more-within _ (h .redos) }
 
 pub count-within : (s : List ℕ) (c : Counts) → Within c → Within (count-record s c .counts)
-unfolding count-record reading
-count-within s c h = go (read-event s)
+unfolding count-record through
+count-within s c h = go (event-door (read-event s))
   where
-    go : (r : Reading Event)
-        → Within (reading {R = CountReply} (λ a. record { number = question-number (of-event a); counts = c }) r (λ e. record { number = 0; counts = with-event c e }) .counts)
-    go (Reading.refused a) = h
-    go (tree e) = with-event-within c e h
+    go : (a : Answer Event)
+        → Within (through {R = CountReply} (λ q. record { number = question-number q; counts = c }) a (λ e. record { number = 0; counts = with-event c e }) .counts)
+    go (refused q) = h
+    go (gives e) = with-event-within c e h

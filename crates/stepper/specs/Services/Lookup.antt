@@ -1,14 +1,19 @@
--- The definition that an atom names (document 01, "The lookup hands back the definition as a part of the lent program").
+-- The definition that an atom names, handed back as a part of the lent program (SPECIFICATION 8), as bytes and as a slice.
+use mathlib.Core.Path.{_≡_}
+use mathlib.Core.Logic.{_↔_}
 use mathlib.Core.Bool.{cond}
 use mathlib.Core.List.{List, [], _∷_}
 use mathlib.Core.Option.{Option, none}
-use Prim.Native.Nat.{ℕ, _+_}
+use Prim.Native.Nat.{ℕ, _+_, _≤_}
 use lib.ListN.{length, take, drop}
+use denote.Ref.{RefT}
 use Rattle.records.specs.Format.Syntax.{truth, failure, equal, conj, disj, atom, Event, event, Definition, arity}
 use Rattle.records.specs.Format.Encode.{definition-bytes}
 use Rattle.records.specs.Gate.Gate.{read-program, read-event}
+use Rattle.records.specs.declared.put.Range.{Range}
 use Rattle.terms.specs.Body.Body.{defines, definition-of}
-use Rattle.stepper.specs.Services.Services.{reading}
+use Rattle.records.specs.Gate.Reply.{through}
+use Rattle.records.specs.Gate.Door.{door}
 
 -- a part of a slice: where it starts, and how many bytes it has
 pub record Part : Type 0 where
@@ -33,8 +38,8 @@ named z k (event p (atom f ts) u s) = k f (arity ts)
 
 -- the definition that the event's goal names: none if a record is refused, the goal is no atom, or no definition exists
 unfoldable pub found : List ℕ → List ℕ → Option Definition
-unfolding reading named definition-of
-found program s = reading (λ a. none) (read-program program) (λ P. reading (λ a. none) (read-event s) (named none (definition-of P)))
+unfolding through door named definition-of
+found program s = through (λ q. none) (door (read-program program) (read-event s)) (λ t. named none (definition-of (t .program)) (t .event))
 
 -- where a definition stands among definitions whose bytes start at `at`
 unfoldable pub definition-part : ℕ → List Definition → ℕ → ℕ → Part
@@ -44,6 +49,23 @@ definition-part at (d ∷ ds) p n =
 
 -- the lookup service: a program's definitions start behind the length, the version and the count
 unfoldable pub lookup : List ℕ → List ℕ → Part
-unfolding reading named definition-part
-lookup program s =
-    reading (λ a. empty) (read-program program) (λ P. reading (λ a. empty) (read-event s) (named empty (definition-part 5 P)))
+unfolding through door named definition-part
+lookup program s = through (λ q. empty) (door (read-program program) (read-event s)) (λ t. named empty (definition-part 5 (t .program)) (t .event))
+
+-- from where to where a part stands
+abbrev pub range-of : Part → Range
+range-of r = record { from = r .at; to = r .at + r .size }
+
+-- the part of the definition that an event's goal names
+unfoldable pub named-part : List Definition → Event → Part
+named-part ds e = named empty (definition-part 5 ds) e
+
+-- The slice is the lookup's part of the lent program: by its bytes, and by its address, which is the same block from the part's start on.
+-- It is empty exactly where no definition is found (`found`: a record is refused, the goal is no atom, or no definition exists).
+pub record LookedUp (part program : RefT (List ℕ)) (event : List ℕ) : Type 0 where
+  pub bytes : part .now ≡ part-of (program .now) (lookup (program .now) event)
+  pub size : length (part .now) ≡ lookup (program .now) event .size
+  pub block : part .ptr .0 ≡ program .ptr .0
+  pub place : part .ptr .1 ≡ lookup (program .now) event .at + program .ptr .1
+  pub within : lookup (program .now) event .at + lookup (program .now) event .size ≤ length (program .now)
+  pub empty-exactly : (length (part .now) ≡ 0) ↔ (found (program .now) event ≡ none)

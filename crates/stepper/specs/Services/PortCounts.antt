@@ -11,11 +11,11 @@ abbrev pub counts-of : PortCounts → Counts
 counts-of c = record { calls = c .calls; exits = c .exits; fails = c .fails; redos = c .redos }
 
 -- a number with the counts afterwards
-abbrev pub reply-with : ℕ → PortCounts → CountReply
-reply-with n c = record { number = n; counts = counts-of c }
+abbrev pub counts-reply : ℕ → PortCounts → CountReply
+counts-reply n c = record { number = n; counts = counts-of c }
 
 abbrev pub reply-of : Counted → CountReply
-reply-of r = reply-with (r .number) (r .counts)
+reply-of r = counts-reply (r .number) (r .counts)
 
 -- one more at the port of this number, 1 to 4
 unfoldable pub with-port : PortCounts → ℕ → PortCounts

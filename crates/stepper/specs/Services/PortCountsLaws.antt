@@ -1,19 +1,19 @@
 -- Laws of the counter's code: one more at an event's port is the event added, and a refused event changes no count.
-use mathlib.Core.Path.{_≡_, refl, ap, _∙_}
+use mathlib.Core.Path.{_≡_, refl, ap}
 use mathlib.Core.List.{List}
 use Prim.Native.Nat.{ℕ}
 use borrow.Author.Tests.{ne-eqb}
 use Rattle.records.specs.Format.Syntax.{call, exit, fail, redo, Event, event}
-use Rattle.records.specs.Gate.Gate.{read-event, verdict, event-number}
+use Rattle.records.specs.Gate.Gate.{read-event}
+use Rattle.records.specs.Gate.Reply.{through, answer-number}
+use Rattle.records.specs.Gate.ReplyLaws.{number-refuses}
+use Rattle.records.specs.Gate.Door.{event-door}
+use Rattle.records.specs.Gate.DoorLaws.{event-open}
 use Rattle.records.specs.Gate.Gate.Reading.{tree}
 use Rattle.records.specs.Ends.Places.{event-places}
-use Rattle.records.specs.declared.gate.Verdict.{Verdict}
 use Rattle.records.specs.declared.places.Places.{Places}
-use Rattle.terms.specs.Standing.AcceptedLaws.{event-refused}
-use Rattle.terms.specs.Values.ValueLaws.{passed-tree}
-use Rattle.stepper.specs.Services.Services.{reading}
 use Rattle.stepper.specs.Services.Counts.{one-more, with-event, count-record}
-use Rattle.stepper.specs.Services.PortCounts.{counts-of, reply-with, with-port}
+use Rattle.stepper.specs.Services.PortCounts.{counts-of, counts-reply, with-port}
 use Rattle.stepper.specs.declared.counts.Counts.{Counts as PortCounts}
 
 -- for code that has one more of a count
@@ -42,15 +42,17 @@ event-added c (event exit g u s) = refl
 event-added c (event fail g u s) = refl
 event-added c (event redo g u s) = refl
 
--- for code that has the verdict on an event and its number
-module _ (s : List ℕ) (c : PortCounts) {v : Verdict} {n : ℕ} (judged : v ≡ verdict (read-event s)) (is : n ≡ event-number v) where
-  pub count-refused : (n ≡ 0 → ⊥) → reply-with n c ≡ count-record s (counts-of c)
-  unfolding count-record reading
-  count-refused z = let w = event-refused (read-event s) (is ∙ ap event-number judged) z in rw (w .reading) (ap (λ (k : ℕ). reply-with k c) (w .is))
+-- by the number of the event's door
+module _ (s : List ℕ) (c : PortCounts) {n : ℕ} (is : n ≡ answer-number (event-door (read-event s))) where
+  pub count-refused : (n ≡ 0 → ⊥) → counts-reply n c ≡ count-record s (counts-of c)
+  unfolding count-record through
+  count-refused z =
+      let w = number-refuses (event-door (read-event s)) is z in
+      rw (w .refuses) (ap (λ (k : ℕ). counts-reply k c) (w .number-is))
 
   pub count-added : n ≡ 0 → {places : Places} {next : PortCounts} → ((e : Event) → read-event s ≡ tree e → places ≡ event-places e)
-      → next ≡ with-port c (places .port) → reply-with 0 next ≡ count-record s (counts-of c)
-  unfolding count-record reading
+      → next ≡ with-port c (places .port) → counts-reply 0 next ≡ count-record s (counts-of c)
+  unfolding count-record through event-door
   count-added z at added =
-      let w = passed-tree (read-event s) (is ∙ ap event-number judged) z in
+      let w = event-open (read-event s) is z in
       rw (w .1, added, at (w .0) (w .1), event-added c (w .0))

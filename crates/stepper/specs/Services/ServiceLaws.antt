@@ -1,32 +1,36 @@
 -- Laws of the services on bytes: they answer for an event's record as the rules answer for the event.
 use mathlib.Core.Path.{_≡_, refl, sym, _∙_, ap, subst}
-use mathlib.Core.Bool.{Bool, true, false, true≢false}
+use mathlib.Core.Bool.{Bool, true, false}
 use mathlib.Core.List.{List, [], _∷_, _++_}
 use mathlib.Core.Option.{Option, none, some, Option·none-ne-some, Option·some-injective, Option·map}
-use Prim.Native.Nat.{ℕ, zero, suc, _≤_, _<_}
+use Prim.Native.Nat.{ℕ, zero, suc, _≤_}
 use native.Mathlib.Omega.{arith}
 use lib.Dec.{ltb}
 use lib.ListN.{length, length-append}
 use borrow.Author.Tests.{ltb-false, le-ltb}
-use Rattle.records.specs.Format.Syntax.{Goal, Ancestor, called, in-conj, in-disj, Bet, unifier, or, by, Port, Event, event, Definition}
+use Rattle.records.specs.Format.Syntax.{Goal, Ancestor, called, in-conj, in-disj, Bet, unifier, or, by, Event, event, Definition}
 use Rattle.records.specs.Format.Encode.{each, ancestor-bytes, bet-bytes, event-bytes, record-of, event-record}
 use Rattle.records.specs.Gate.RecordRules.{event-rules}
-use Rattle.records.specs.Gate.Question.{Question, of-program, of-event, output, possible, matches, values, locals, fits, framing, version, grammar, rules, number as question-number}
+use Rattle.records.specs.Gate.Question.{fits, question-number}
+use Rattle.records.specs.Gate.Door.{event-door, with-room}
+use Rattle.records.specs.Gate.DoorLaws.{room-gives, room-then, event-gives, gate-room}
+use Rattle.records.specs.Gate.ReplyLaws.{number-positive, through-gives, reply-gives}
 use Rattle.records.specs.Format.HeadLaws.{Bytes}
-use Rattle.records.specs.Gate.Gate.{Reading, tree}
+use Rattle.records.specs.Gate.Gate.{tree}
 use Rattle.records.specs.Gate.GateLaws.{front, front-record}
 use Rattle.records.specs.Format.Written.{event-written}
+use Rattle.records.specs.Gate.Reply.{through, reply-with}
 use Rattle.stepper.specs.Services.Layers.{Layers, ProgramSound, Lawful}
-use Rattle.stepper.specs.Rules.Machine.{Answer, refused, gives}
-use Rattle.stepper.specs.Rules.Rules.{fitting, step, first-event, accepted, on-room, Lent, attempt}
-use Rattle.stepper.specs.Rules.Formed.{EventSound, Sound}
-use Rattle.stepper.specs.Rules.Answers.{Given, fitting-put, room-gives, accepted-gives}
+use Rattle.stepper.specs.Rules.Machine.{LimitLaws, Answer, refused, gives}
+use Rattle.stepper.specs.Rules.Rules.{fitting, step, first-event, accepted, Lent, attempt}
+use Rattle.stepper.specs.Rules.Formed.{EventSound, CountsFit, LawfulMachine}
+use Rattle.stepper.specs.Rules.AnswerLaws.{Given, fitting-put, accepted-gives}
 use Rattle.stepper.specs.Walks.Walk.{Direction, encoded, walk}
 use Rattle.stepper.specs.Walks.WalkLaws.{walk-encoded}
-use Rattle.stepper.specs.Rules.FormedLaws.{step-formed}
+use Rattle.stepper.specs.Rules.FormedLaws.{counted-sound, step-formed}
 use Rattle.stepper.specs.Walks.Reached.{attempted, steps}
 use Rattle.stepper.specs.Walks.ReachedLaws.{attempt-steps}
-use Rattle.stepper.specs.Services.Services.{too-long, record-limit, machine, reply, reading, no-event, first-answer, first-record, step-answer, step-record, next-record, Move, serve, Program, rules-of, Start, start, served}
+use Rattle.stepper.specs.Services.Services.{too-long, record-limit, machine, reply, first-answer, first-record, step-answer, step-record, next-record, Move, serve, Program, rules-of, Start, start, served}
 
 -- an event that has a record
 abbrev pub Recordable : Event → Type 0
@@ -65,9 +69,9 @@ bet-long (unifier m) = omega arith
 bet-long (or n) = omega arith
 bet-long (by g) = omega arith
 
-counts-fit : (p : Port) (g : Goal) (u : List Ancestor) (s : List Bet) → record-limit (event p g u s) ≡ none → (length u < 65536) × (length s < 65536)
+counts-fit : (e : Event) → record-limit e ≡ none → CountsFit e
 unfolding record-of
-counts-fit p g u s h =
+counts-fit (event p g u s) h =
     let k = simp length-append at (limit-fits (event p g u s) h) in
     (omega (arith, k, each-long ancestor-bytes ancestor-long u), omega (arith, k, each-long bet-bytes bet-long s))
 
@@ -77,45 +81,19 @@ read-recordable L laws s b e h =
     let r = laws .event-read s b e h in
     (r .1, fits-limit e (subst (λ x. length x ≤ 32768) (r .0) (r .2)))
 
--- a machine of lawful layers keeps events sound
-pub machine-sound : (L : Layers) → Lawful L → (P : List Definition) → ProgramSound P → Sound (machine L P)
+-- the limits of the desk are one, in which the port has no part
+pub machine-limits : (L : Layers) (P : List Definition) → LimitLaws (machine L P)
 unfolding record-limit record-of
-machine-sound L laws P f = record {
+machine-limits L P = record { as-candidate = λ e. (λ h. h, λ h. h); any-port = λ g u s. (λ h. h, λ h. h) }
+
+-- a machine of lawful layers is lawful
+machine-lawful : (L : Layers) → Lawful L → (P : List Definition) → ProgramSound P → LawfulMachine (machine L P)
+machine-lawful L laws P f = record {
   unifier-sound = laws .unifier-sound;
   body-formed = λ p ts u s g. laws .body-formed P p ts u s g f;
-  counts-fit = counts-fit;
-  ignores-port = λ g u s. refl;
+  admitted-sound = λ e f n. counted-sound e f (counts-fit e n);
+  limits = machine-limits L P;
 }
-
--- no refusal has the number 0
-pub number-positive : (q : Question) → question-number q ≡ 0 → ⊥
-unfolding question-number
-number-positive (of-program framing) h = omega (arith, h)
-number-positive (of-program version) h = omega (arith, h)
-number-positive (of-program grammar) h = omega (arith, h)
-number-positive (of-program rules) h = omega (arith, h)
-number-positive (of-event framing) h = omega (arith, h)
-number-positive (of-event version) h = omega (arith, h)
-number-positive (of-event grammar) h = omega (arith, h)
-number-positive (of-event rules) h = omega (arith, h)
-number-positive output h = omega (arith, h)
-number-positive possible h = omega (arith, h)
-number-positive matches h = omega (arith, h)
-number-positive values h = omega (arith, h)
-number-positive locals h = omega (arith, h)
-number-positive fits h = omega (arith, h)
-
--- a service is done exactly when it gives an event
-pub done-gives : (out : List ℕ) (a : Answer) → reply out a .number ≡ 0 → (e : Event) × (a ≡ gives e)
-unfolding reply
-done-gives out (refused q) h = absurd (number-positive q h)
-done-gives out (gives e) h = (e, refl)
-
--- a refusal leaves the output untouched
-pub refused-untouched : (out : List ℕ) (a : Answer) → (reply out a .number ≡ 0 → ⊥) → reply out a .output ≡ out
-unfolding reply
-refused-untouched out (refused q) h = refl
-refused-untouched out (gives e) h = absurd (h refl)
 
 not-done : (n : ℕ) (out : List ℕ) → (n ≡ 0 → ⊥) → next-record n out ≡ none
 unfolding next-record
@@ -125,7 +103,7 @@ not-done (suc n) out h = refl
 -- what the next step gets is the record of the event that the answer gives
 next-reply : (out : List ℕ) (a : Answer) → Given Recordable a
     → next-record (reply out a .number) (reply out a .output) ≡ Option·map event-record (accepted a)
-unfolding next-record reply accepted
+unfolding next-record reply-with accepted
 next-reply out (refused q) f = not-done (question-number q) out (number-positive q)
 next-reply out (gives e) f = ap {B = Option (List ℕ)} some (front-event e _ (f .1))
 
@@ -134,43 +112,41 @@ lent m = record { direction = m .direction; room = length (m .buffer) }
 
 -- a query for which the query service gives 0 reads as a goal, so every such query is a start
 pub done-reads : (L : Layers) (query out : List ℕ) → first-record L query out .number ≡ 0 → (g : Goal) × (L .read-query query ≡ tree g)
-unfolding first-record first-answer reading
-done-reads L query out h = go (L .read-query query) refl (done-gives out (first-answer L query (length out)) h .1)
-  where
-    go : (r : Reading Goal) → L .read-query query ≡ r → {e : Event}
-        → reading no-event r (λ q. on-room (ltb (length out) 32768) (fitting false (record-limit (first-event q)) (gives (first-event q)))) ≡ gives e
-        → (g : Goal) × (L .read-query query ≡ tree g)
-    go (Reading.refused a) k j = absurd (true≢false cc)
-    go (tree g) k j = (g, k)
+unfolding first-record first-answer
+done-reads L query out h =
+    let w = through-gives (event-door (L .read-query query)) _ (reply-gives event-record out (first-answer L query (length out)) h .1) in
+    (w .0, event-gives (L .read-query query) (w .1))
 
 -- a list starts from the record of its query's first event, which has one
 pub start-record : (L : Layers) → Lawful L → (q : Start L)
     → (start q ≡ event-record (first-event (q .goal))) × Recordable (first-event (q .goal))
-unfolding first-record first-answer reading first-event reply event-rules
+unfolding first-record first-answer through event-door first-event reply-with event-rules
 start-record L laws q =
     let e = first-event (q .goal) in
     let n = length (q .buffer) in
-    let answer : first-answer L (q .query) n ≡ on-room (ltb n 32768) (fitting false (record-limit e) (gives e)) = rw (q .reads) in
-    let given = done-gives (q .buffer) (first-answer L (q .query) n) (q .done) in
-    let r = fitting-put (record-limit e) (gives e) (given .0) (room-gives (ltb n 32768) _ (given .0) (sym answer ∙ given .1)) in
+    let answer : first-answer L (q .query) n ≡ with-room n (fitting false (record-limit e) (gives e)) = rw (q .reads) in
+    let given = reply-gives event-record (q .buffer) (first-answer L (q .query) n) (q .done) in
+    let r = fitting-put (record-limit e) (gives e) (given .0) (room-gives n _ (sym answer ∙ given .1) .1) in
     let formed = laws .query-read (q .query) (q .bytes) (q .goal) (q .reads) in (
       ap (λ a. front (reply (q .buffer) a .output)) (given .1 ∙ sym (r .1)) ∙ front-event e _ (r .0),
       (((formed, (omega arith, tt), (omega arith, tt)), refl), r .0),
     )
 
 module _ (L : Layers) (laws : Lawful L) (c : Program L) where
-  pub rules-sound : Sound (rules-of c)
-  rules-sound = machine-sound L laws (c .definitions) (laws .program-read (c .program) (c .bytes) (c .definitions) (c .reads))
+  pub rules-lawful : LawfulMachine (rules-of c)
+  rules-lawful = machine-lawful L laws (c .definitions) (laws .program-read (c .program) (c .bytes) (c .definitions) (c .reads))
 
   -- a step on an event's record answers as the rules do for the event
   pub step-of-record : (l : Lent) (e : Event) → Recordable e → step-answer L (c .program) l (event-record e) ≡ attempt (rules-of c) l e
-  unfolding step-answer reading
-  step-of-record l e f = rw (c .reads, laws .event-back e (f .0) (limit-fits e (f .1)))
+  unfolding step-answer attempt
+  step-of-record l e f =
+      let back = laws .event-back e (f .0) (limit-fits e (f .1)) in
+      rw (gate-room (L .read-program (c .program)) (L .read-event (event-record e)) (l .room) (c .reads) back) (room-then (l .room) _ _)
 
   -- an accepted step gives an event that has a record
   pub step-recordable : (s : Direction) (d e : Event) → Recordable d → step (rules-of c) s d ≡ gives e → Recordable e
   step-recordable s d e f h =
-      step-formed (rules-of c) rules-sound s d e (f .0) (f .1) h
+      step-formed (rules-of c) rules-lawful s d e (f .0) (f .1) h
 
   pub attempt-recordable : (l : Lent) (d e : Event) → Recordable d → attempt (rules-of c) l d ≡ gives e → Recordable e
   attempt-recordable l d e f h = step-recordable (l .direction) d e f (attempt-steps (rules-of c) l d e h)

@@ -1,23 +1,25 @@
 -- The services on bytes: first event, step forward and step back, each a number and an output afterwards, for every input; and lists of steps.
 use mathlib.Core.Path.{_≡_}
 use mathlib.Core.Bool.{Bool, true, false}
-use mathlib.Core.List.{List, _++_}
+use mathlib.Core.List.{List}
 use mathlib.Core.Option.{Option, none, some}
 use Prim.Native.Nat.{ℕ, zero, suc, _≤_}
 use lib.Dec.{ltb}
-use lib.ListN.{length, drop}
+use lib.ListN.{length}
 use Rattle.records.specs.Format.Syntax.{Goal, Event, Definition}
 use Rattle.records.specs.Format.Encode.{event-record}
-use Rattle.records.specs.Gate.Question.{Asked, Question, of-program, of-event, fits, number as question-number}
+use Rattle.records.specs.Gate.Question.{Question, fits}
 use Rattle.records.specs.Format.HeadLaws.{Bytes}
-use Rattle.records.specs.Gate.Gate.{Reading, tree}
+use Rattle.records.specs.Gate.Gate.{tree}
 use Rattle.records.specs.Gate.GateLaws.{front}
+use Rattle.records.specs.Gate.Reply.{Reply, through, reply-with}
+use Rattle.records.specs.Gate.Door.{event-door, with-room, gate}
 use Rattle.stepper.specs.Services.Layers.{Layers}
 use Rattle.stepper.specs.Rules.Machine.{Machine, Answer, refused, gives}
-use Rattle.stepper.specs.Rules.Rules.{fitting, first-event, on-room, Lent, attempt}
+use Rattle.stepper.specs.Rules.Rules.{fitting, first-event, Lent, step}
 use Rattle.stepper.specs.Walks.Walk.{Direction, forward, back, Tally, walk}
 
--- question 10: does the result fit 32,768 bytes?
+-- question 10, for a result and for a candidate: does it fit 32,768 bytes?
 unfoldable pub too-long : Bool → Option Question
 too-long true = some fits
 too-long false = none
@@ -28,51 +30,32 @@ record-limit e = too-long (ltb 32768 (length (event-record e)))
 
 -- the rules of a program
 abbrev pub machine : Layers → List Definition → Machine
-machine L P = record { unify = L .unify; body = L .body P; limit = record-limit }
-
--- a service's number, 0 if it is done, and its output afterwards
-pub record Reply : Type 0 where
-  pub number : ℕ
-  pub output : List ℕ
+machine L P = record { unify = L .unify; body = L .body P; result-limit = record-limit; candidate-limit = record-limit }
 
 -- a refusal leaves the output untouched, and a written record the bytes after it
-unfoldable pub reply : List ℕ → Answer → Reply
-unfolding question-number
-reply out (refused q) = record { number = question-number q; output = out }
-reply out (gives e) = record { number = 0; output = event-record e ++ drop (length (event-record e)) out }
-
--- questions 1 to 4 of a record, and then those that follow
-unfoldable pub reading : {A R : Type 0} → (Asked → R) → Reading A → (A → R) → R
-reading f (Reading.refused a) k = f a
-reading f (tree x) k = k x
-
--- a program's no is numbered 1 to 4, a query's or an event's 11 to 14
-abbrev pub no-program : Asked → Answer
-no-program a = refused (of-program a)
-
-abbrev pub no-event : Asked → Answer
-no-event a = refused (of-event a)
+abbrev pub reply : List ℕ → Answer → Reply
+reply out a = reply-with event-record out a
 
 module _ (L : Layers) where
   -- query to first event: 11 to 14 of the query, then 5 and 10
   unfoldable pub first-answer : List ℕ → ℕ → Answer
-  unfolding reading on-room fitting record-limit first-event
+  unfolding through event-door with-room fitting record-limit first-event
   first-answer query room =
-      reading no-event (L .read-query query)
-      (λ q. on-room (ltb room 32768) (fitting false (record-limit (first-event q)) (gives (first-event q))))
+      through refused (event-door (L .read-query query))
+      (λ q. with-room room (fitting false (record-limit (first-event q)) (gives (first-event q))))
 
   unfoldable pub first-record : List ℕ → List ℕ → Reply
-  unfolding reply first-answer
+  unfolding reply-with first-answer
   first-record query out = reply out (first-answer query (length out))
 
   -- one step: 1 to 4 of the program, 11 to 14 of the event, then 5, then 6 to 10 and the last 7
   unfoldable pub step-answer : List ℕ → Lent → List ℕ → Answer
-  unfolding reading attempt
+  unfolding through gate step
   step-answer program l event =
-      reading no-program (L .read-program program) (λ P. reading no-event (L .read-event event) (λ e. attempt (machine L P) l e))
+      through refused (gate (L .read-program program) (L .read-event event) (l .room)) (λ t. step (machine L (t .program)) (l .direction) (t .event))
 
   unfoldable pub step-record : Direction → List ℕ → List ℕ → List ℕ → Reply
-  unfolding reply step-answer
+  unfolding reply-with step-answer
   step-record d program event out = reply out (step-answer program (record { direction = d; room = length out }) event)
 
 -- what the next step gets: the record at the front of the output, if the number is 0

@@ -9,7 +9,8 @@ use Rattle.records.specs.Writing.Patched.{Around}
 use Rattle.records.specs.Ends.Range.{cut}
 use Rattle.records.specs.declared.put.Range.{Range}
 use Rattle.records.specs.declared.places.PartEnds.{PartEnds}
-use Rattle.stepper.specs.declared.emit.Moved.{Moved}
+use Rattle.stepper.specs.declared.emit.StepAnswer.{StepAnswer}
+use Rattle.stepper.specs.Step.Stepped.{accepted-of}
 use Rattle.stepper.specs.declared.view.View.{View}
 
 -- the part of an output for what starts at a place of a record that has so many other bytes
@@ -64,7 +65,6 @@ abbrev pub body-ends : View → ℕ → PartEnds
 body-ends v n = record { goal = v .goal .from + n; ancestors = v .ancestors .to + n }
 
 -- an event is completed around n bytes
-pub record Completed (before front : List ℕ) (n : ℕ) (back : List ℕ) (ends : PartEnds) (moved : Moved) (after : List ℕ) : Type 0 where
-  pub done : moved .number ≡ 0
-  pub around : Around before front n back after (moved .length)
-  pub ends-are : moved .ends ≡ ends
+pub record Completed (before front : List ℕ) (n : ℕ) (back : List ℕ) (ends : PartEnds) (answer : StepAnswer) (after : List ℕ) : Type 0 where
+  pub around : Around before front n back after (answer .length)
+  pub is : answer ≡ accepted-of (answer .length) ends

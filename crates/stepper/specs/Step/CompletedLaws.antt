@@ -13,20 +13,22 @@ use Rattle.records.specs.Writing.Patched.{Put, put-length, put-part, put-around
 use Rattle.records.specs.Ends.Range.{cut, Inside}
 use Rattle.records.specs.Writing.Emitted.{record-head-body}
 use Rattle.records.specs.Ends.Stands.{stands-join, stands-second, stands-cut}
-use Rattle.records.specs.Ends.Places.{goal-end, part-ends, Parts}
+use Rattle.records.specs.Ends.Places.{goal-end, part-ends, EventParts}
 use Rattle.records.specs.declared.put.Range.{Range}
 use Rattle.records.specs.declared.places.PartEnds.{PartEnds}
+use Rattle.records.specs.Gate.Reply.{reply-with}
 use Rattle.terms.specs.Unifier.Equality.{unifier-bytes}
+use Rattle.terms.specs.Standing.Accepted.{bets-at}
 use Rattle.stepper.specs.Rules.Machine.{gives}
-use Rattle.stepper.specs.Rules.Rules.{fitting}
-use Rattle.stepper.specs.Rules.Answers.{fitting-none}
-use Rattle.stepper.specs.Services.Services.{record-limit, reply}
+use Rattle.stepper.specs.Rules.Rules.{limited-by}
+use Rattle.stepper.specs.Rules.AnswerLaws.{fitting-none}
+use Rattle.stepper.specs.Services.Services.{record-limit}
 use Rattle.stepper.specs.Services.ServiceLaws.{fits-limit}
-use Rattle.stepper.specs.Plans.View.{event-view, bets-at}
-use Rattle.stepper.specs.Plans.PieceLaws.{goal-starts, goal-ends}
-use Rattle.stepper.specs.Step.Stepped.{answer-length, Stepped}
+use Rattle.stepper.specs.Plans.View.{event-view}
+use Rattle.stepper.specs.Plans.LayoutLaws.{goal-starts, goal-ends}
+use Rattle.stepper.specs.Step.Stepped.{given-length, Stepped, accepted-of}
 use Rattle.stepper.specs.Step.Completed.{Gap, lent-part, handed-back, InOrder, unifier-front, unifier-back, unifier-ends, body-front, body-back, body-ends, Completed}
-use Rattle.stepper.specs.declared.emit.Moved.{Moved}
+use Rattle.stepper.specs.declared.emit.StepAnswer.{StepAnswer}
 use Rattle.stepper.specs.declared.view.View.{View}
 
 -- a part that was lent and handed back
@@ -54,9 +56,9 @@ module _ {at others : ℕ} {r : Range} (g : Gap at others r) (before : List ℕ)
         (put-part {before = before} {at = r .from} {k = r .to - r .from} (omega (arith, lent-room, g .room)) p)
 
 -- two writes around n bytes
-pub completed : {before front between back after : List ℕ} {n place end : ℕ} {ends : PartEnds} → Put before 0 front between place → Put between (place + n) back after end
-    → Completed before front n back ends (record { number = 0; length = end; ends = ends }) after
-completed {between = between} {place = place} p q = record { done = refl; around = record { between = between; place = place; ahead = p; behind = q }; ends-are = refl }
+pub completed : {before front between back after : List ℕ} {n place end : ℕ} {ends : PartEnds} {answer : StepAnswer} → answer ≡ accepted-of end ends
+    → Put before 0 front between place → Put between (place + n) back after end → Completed before front n back ends answer after
+completed {between = between} {place = place} e p q = rw e (record { around = record { between = between; place = place; ahead = p; behind = q }; is = refl })
 
 -- the ranges that are copied lie in the event
 module _ {s : List ℕ} {v : View} (o : InOrder s v) where
@@ -73,19 +75,19 @@ module _ {s : List ℕ} {v : View} (o : InOrder s v) where
   stacks-inside = record { order = omega arith; stop = omega arith }
 
 -- a record that is completed around what was put in its midst is the step to its event
-pub stepped-completed : (e : Event) {before within after front middle back : List ℕ} {at next n : ℕ} {ends : PartEnds} {moved : Moved} → 32768 ≤ length before
+pub stepped-completed : (e : Event) {before within after front middle back : List ℕ} {at next n : ℕ} {ends : PartEnds} {answer : StepAnswer} → 32768 ≤ length before
     → length (event-record e) ≤ 32768 → at ≡ length front → n ≡ length middle → front ++ (middle ++ back) ≡ event-record e → ends ≡ part-ends e
-    → Put before at middle within next → Completed within front n back ends moved after → Stepped (fitting false (record-limit e) (gives e)) before moved after
-unfolding reply answer-length
-stepped-completed e {before} {after = after} {moved = moved} h l a m is ends put c =
+    → Put before at middle within next → Completed within front n back ends answer after → Stepped (limited-by record-limit false (gives e)) before answer after
+unfolding limited-by reply-with given-length
+stepped-completed e {before} {after = after} {answer = answer} h l a m is ends put c =
     rw (fits-limit e l, fitting-none) (record {
-      number-is = c .done;
+      number-is = ap (λ x. x .number) (c .is);
       length-is = whole .place ∙ zero-add _;
-      ends-are = λ d k. c .ends-are ∙ ends ∙ ap part-ends (same d k);
+      ends-are = λ d k. ap (λ x. x .ends) (c .is) ∙ ends ∙ ap part-ends (same d k);
       output-is = put-front whole (omega arith);
     })
   where
-    whole : Put before 0 (event-record e) after (moved .length)
+    whole : Put before 0 (event-record e) after (answer .length)
     whole = rw is at (put-around a m put (c .around))
 
     same : (d : Event) → gives e ≡ gives d → e ≡ d
@@ -95,7 +97,7 @@ regrouped : (a b c d : List ℕ) → ((a ++ b) ++ c) ++ d ≡ a ++ (b ++ (c ++ d
 regrouped a b c d = simp append-assoc
 
 -- an accepted event
-module _ {s : List ℕ} {p : Port} {g : Goal} {u : List Ancestor} {b : List Bet} (w : Parts s p g u b) where
+module _ {s : List ℕ} {p : Port} {g : Goal} {u : List Ancestor} {b : List Bet} (w : EventParts s p g u b) where
   pub in-order : length s ≤ 32768 → InOrder s (event-view (event p g u b))
   unfolding event-view
   in-order h = record {
@@ -146,7 +148,7 @@ module _ {s : List ℕ} {p : Port} {g : Goal} {u : List Ancestor} {b : List Bet}
   unifier-ends-are q σ = rw (goal-ends 4 g) refl
 
 -- around the body of an atom that is put on the ancestors
-module _ {s : List ℕ} {p : Port} {k : ℕ} {ts : Terms} {u : List Ancestor} {b : List Bet} (w : Parts s p (atom k ts) u b) (q : Port) (g : Goal) where
+module _ {s : List ℕ} {p : Port} {k : ℕ} {ts : Terms} {u : List Ancestor} {b : List Bet} (w : EventParts s p (atom k ts) u b) (q : Port) (g : Goal) where
   pub body-record-length : length (event-record (event q g (called k ts ∷ u) b)) ≡ length s + length (goal-bytes g)
   unfolding record-of
   body-record-length = simp length-append (omega (arith, w .bets-stand .end))

@@ -1,66 +1,50 @@
 -- A step inside a run, and the gate before it: what the code of a step answers, where the records are accepted and the output passes question 5.
+-- A field of the answer is told in `Stepped`, and made in `refusal-of` and `accepted-of`.
 use mathlib.Core.Path.{_≡_}
-use mathlib.Core.Bool.{cond}
+use mathlib.Core.Bool.{false}
 use mathlib.Core.List.{List}
 use Prim.Native.Nat.{ℕ}
-use lib.Dec.{ltb}
 use lib.ListN.{length}
-use Rattle.records.specs.Format.Syntax.{Event, Definition}
+use Rattle.records.specs.Format.Syntax.{Event}
 use Rattle.records.specs.Format.Encode.{event-record}
-use Rattle.records.specs.Gate.Question.{of-program, of-event, output, number}
-use Rattle.records.specs.Gate.Gate.{tree, read-program, read-event}
-use Rattle.records.specs.Writing.Emitted.{Emitted}
-use Rattle.records.specs.Writing.Plan.{planned, plan-ends}
+use Rattle.records.specs.Gate.Question.{Question, question-number}
+use Rattle.records.specs.Gate.Reply.{answer-number}
+use Rattle.records.specs.Gate.Door.{gate}
+pub use Rattle.records.specs.Gate.Door.{Passed}
+use Rattle.records.specs.Gate.Gate.{read-program, read-event}
 use Rattle.records.specs.Ends.Places.{part-ends}
 use Rattle.records.specs.declared.plan.Plan.{Plan}
-use Rattle.stepper.specs.declared.emit.Moved.{Moved}
+use Rattle.records.specs.declared.places.PartEnds.{PartEnds}
+use Rattle.stepper.specs.declared.emit.StepAnswer.{StepAnswer}
 use Rattle.stepper.specs.Rules.Machine.{Answer, refused, gives}
-use Rattle.stepper.specs.Services.Services.{reply, reading}
-use Rattle.stepper.specs.Plans.View.{event-view}
-use Rattle.stepper.specs.declared.view.View.{View}
+use Rattle.stepper.specs.Rules.Rules.{limited-by}
+use Rattle.stepper.specs.Services.Services.{record-limit, reply}
+use Rattle.stepper.specs.Plans.Made.{Plans}
 
 -- how long the record of an answer's event is; a refusal has none
-unfoldable pub answer-length : Answer → ℕ
-answer-length (refused q) = 0
-answer-length (gives e) = length (event-record e)
+unfoldable pub given-length : Answer → ℕ
+given-length (refused q) = 0
+given-length (gives e) = length (event-record e)
 
 -- the number, the length of the record that was written, where its parts end, and the output afterwards are the answer's
-pub record Stepped (a : Answer) (before : List ℕ) (moved : Moved) (after : List ℕ) : Type 0 where
-  pub number-is : moved .number ≡ reply before a .number
-  pub length-is : moved .length ≡ answer-length a
-  pub ends-are : (e : Event) → a ≡ gives e → moved .ends ≡ part-ends e
+pub record Stepped (a : Answer) (before : List ℕ) (answer : StepAnswer) (after : List ℕ) : Type 0 where
+  pub number-is : answer .number ≡ reply before a .number
+  pub length-is : answer .length ≡ given-length a
+  pub ends-are : (e : Event) → a ≡ gives e → answer .ends ≡ part-ends e
   pub output-is : after ≡ reply before a .output
 
--- a step that is refused by this number
-abbrev pub refusal-of : ℕ → Moved
+-- the answer of a step that is refused by this number, and of one that gives a record of this length, whose parts end there
+abbrev pub refusal-of : ℕ → StepAnswer
 refusal-of n = record { number = n; length = 0; ends = record { goal = 0; ancestors = 0 } }
 
--- the event of a plan is emitted, and where its parts end is told by the plan
-pub record EmittedEvent (before : List ℕ) (p : Plan) (s : List ℕ) (moved : Moved) (after : List ℕ) : Type 0 where
-  pub emitted : Emitted before (planned p s) (record { number = moved .number; length = moved .length }) after
-  pub ends-are : moved .ends ≡ plan-ends p
+abbrev pub accepted-of : ℕ → PartEnds → StepAnswer
+accepted-of n ends = record { number = 0; length = n; ends = ends }
 
--- an accepted event, and its view
-pub record Viewed (s : List ℕ) (v : View) : Type 0 where
-  pub event : Event
-  pub reads : read-event s ≡ tree event
-  pub same : v ≡ event-view event
-
--- an accepted program and an accepted event
-pub record Passed (program s : List ℕ) : Type 0 where
-  pub definitions : List Definition
-  pub program-reads : read-program program ≡ tree definitions
-  pub event : Event
-  pub reads : read-event s ≡ tree event
+-- the number of a question and a plan over s determine a step's answer: the question refuses, or the plan's event is given under question 10
+pub data Determines (n : ℕ) (p : Plan) (s : List ℕ) (a : Answer) : Type 0 where
+  refuses : (q : Question) → n ≡ question-number q → a ≡ refused q → Determines n p s a
+  emits : {e : Event} → n ≡ 0 → Plans s p e → a ≡ limited-by record-limit false (gives e) → Determines n p s a
 
 -- 1 to 4 of the program, 11 to 14 of the event, then 5 for an output of `room` bytes; else 0
-unfoldable pub gate-number : List ℕ → List ℕ → ℕ → ℕ
-unfolding reading number
-gate-number program s room =
-    reading (λ a. number (of-program a)) (read-program program) (λ P.
-    reading (λ a. number (of-event a)) (read-event s) (λ e. cond (ltb room 32768) (number output) 0))
-
--- the event of a plan over s is emitted unless a question said no by a number other than 0
-pub record EmittedUnless (number : ℕ) (before : List ℕ) (p : Plan) (s : List ℕ) (moved : Moved) (after : List ℕ) : Type 0 where
-  pub passed : number ≡ 0 → EmittedEvent before p s moved after
-  pub stopped : (number ≡ 0 → ⊥) → (moved ≡ refusal-of number) × (after ≡ before)
+abbrev pub gate-number : List ℕ → List ℕ → ℕ → ℕ
+gate-number program s room = answer-number (gate (read-program program) (read-event s) room)

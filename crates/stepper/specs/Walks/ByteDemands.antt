@@ -9,8 +9,8 @@ use Rattle.records.specs.Format.Syntax.{Event}
 use Rattle.records.specs.Format.Encode.{event-record}
 use Rattle.records.specs.Gate.Gate.{tree}
 use Rattle.stepper.specs.Services.Layers.{Layers, Lawful}
-use Rattle.stepper.specs.Rules.Machine.{Machine, IgnoresPort}
-use Rattle.stepper.specs.Rules.Answers.{accepted-gives}
+use Rattle.stepper.specs.Rules.Machine.{Machine, LimitLaws}
+use Rattle.stepper.specs.Rules.AnswerLaws.{accepted-gives}
 use Rattle.stepper.specs.Rules.Rules.{step, step-forward, step-back, accepted}
 use Rattle.stepper.specs.Walks.Reached.{steps, Fit, Reached}
 use Rattle.stepper.specs.Walks.ReachedLaws.{attempt-steps, steps-attempt}
@@ -18,7 +18,7 @@ use Rattle.stepper.specs.Walks.Walk.{back, net, encoded, Reach}
 use Rattle.stepper.specs.Walks.WalkLaws.{net-encoded}
 use Rattle.stepper.specs.Walks.TreeDemands.{same-end-always, first-back, reached-back, steps-reach}
 use Rattle.stepper.specs.Services.Services.{serve, CameFrom, Move, forward-into, back-into, Program, rules-of, Start, start, served}
-use Rattle.stepper.specs.Services.ServiceLaws.{Recordable, lent, limit-fits, rules-sound, start-record, step-recordable, attempt-recordable, serve-agrees, serve-accepts, serve-gives, served-steps, served-bytes}
+use Rattle.stepper.specs.Services.ServiceLaws.{Recordable, lent, limit-fits, rules-lawful, start-record, step-recordable, attempt-recordable, serve-agrees, serve-accepts, serve-gives, served-steps, served-bytes}
 
 module _ (L : Layers) (laws : Lawful L) (c : Program L) where
   -- Demand 2, the step back. From the record at which a list of steps ends, a step forward that is accepted is undone by a step back, if that
@@ -35,9 +35,9 @@ module _ (L : Layers) (laws : Lawful L) (c : Program L) where
       let ahead = serve-accepts L laws c _ t r (s .1) (ap (serve L (c .program) _) (sym ends) ∙ h) in
       let d = ahead .0 in
       let fit = start-record L laws q .1 .1 in
-      let ignores = rules-sound L laws c .ignores-port in
-      let reached = steps-reach M ignores lent (q .goal) ms fit in
-      let backs = reached-back M ignores (q .goal) (reached .0) t d fit (reached .1) (attempt-steps M _ t d (ahead .2)) in
+      let limits = rules-lawful L laws c .limits in
+      let reached = steps-reach M limits lent (q .goal) ms fit in
+      let backs = reached-back M limits (q .goal) (reached .0) t d fit (reached .1) (attempt-steps M _ t d (ahead .2)) in
       let recorded = attempt-recordable L laws c _ t d (s .1) (ahead .2) in
       ap (serve L (c .program) _) (ahead .1) ∙ serve-gives L laws c _ d t recorded (steps-attempt M _ d n ∙ backs)
       ∙ ap {B = Option (List ℕ)} some (sym ends)
@@ -63,11 +63,11 @@ module _ (L : Layers) (laws : Lawful L) (c : Program L) where
       fit : Fit M (q .goal)
       fit = start-record L laws q .1 .1
 
-      ignores : IgnoresPort M
-      ignores = rules-sound L laws c .ignores-port
+      limits : LimitLaws M
+      limits = rules-lawful L laws c .limits
 
       reached : (n : ℕ) × Reached M (q .goal) n t × (n + steps M lent (q .goal) ms .backs ≡ steps M lent (q .goal) ms .forwards)
-      reached = steps-reach M ignores lent (q .goal) ms fit
+      reached = steps-reach M limits lent (q .goal) ms fit
 
       go : (n : ℕ) → Reached M (q .goal) n t
           → ((served c q ms .event ≡ start q) × (serve L (c .program) (back-into b) (served c q ms .event) ≡ none)) ⊎ CameFrom L (c .program) (served c q ms .event) b
@@ -79,7 +79,7 @@ module _ (L : Layers) (laws : Lawful L) (c : Program L) where
       go (suc n) h =
           let d = h .0 in
           let ahead = accepted-gives (step-forward M d) t (h .2) in
-          let before = reached-back M ignores (q .goal) n d t fit (h .1) ahead in
+          let before = reached-back M limits (q .goal) n d t fit (h .1) ahead in
           let kept = step-recordable L laws c back t d recorded before in
           inr (
             event-record d,

@@ -1,4 +1,4 @@
--- The demands are not about nothing: document 01's example program and query, and a list of steps under them, by evaluation. The query service and the
+-- The demands are not about nothing: the example program and query (SPECIFICATION 8), and a list of steps under them, by evaluation. The query service and the
 -- step are lent any buffers that pass question 5, and there is one.
 use mathlib.Core.Path.{_≡_, refl}
 use mathlib.Core.List.{List, [], _∷_}
@@ -6,7 +6,7 @@ use native.Mathlib.Decide.{ℕ-discrete}
 use native.Mathlib.Omega.{arith}
 use Prim.Native.Nat.{ℕ, _≤_}
 use lib.ListN.{length, replicate, length-replicate}
-use borrow.Author.Tests.{le-ltb}
+use borrow.Author.Tests.{le-leb}
 use Rattle.records.specs.Format.Syntax.{var, app, nil, equal}
 use Rattle.records.specs.Format.Encode.{record-of}
 use Rattle.records.specs.Gate.RecordRules.{unifier-rules, event-rules, program-rules}
@@ -36,7 +36,7 @@ module _ (out : List ℕ) (room : 32768 ≤ length out) where
     buffer = out;
     goal = equal (var 0) (app 2 nil);
     reads = refl;
-    done = rw (le-ltb (length out) 32768 room);
+    done = rw (le-leb 32768 (length out) room);
   }
 
   -- of two steps forward the first is accepted, and leads to the record of exit V0=c with one bet; the second is refused, since the walk ends there
@@ -49,7 +49,7 @@ module _ (out : List ℕ) (room : 32768 ≤ length out) where
         backs = 0;
       }
   unfolding program-example start-example walk serve step-record read-frame read-stacks read-event-bytes read-bet read-binding event-rules unifier-rules unified-under value-under apply unify ℕ-discrete
-  served-example a k = rw (le-ltb (length out) 32768 room, le-ltb (length a) 32768 k)
+  served-example a k = rw (le-leb 32768 (length out) room, le-leb 32768 (length a) k)
 
 -- a buffer that passes question 5
 zeros : (n : ℕ) → n ≤ length (replicate {A = ℕ} n 0)

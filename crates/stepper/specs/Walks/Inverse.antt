@@ -1,11 +1,10 @@
 -- A step back undoes a step forward, on legal events; and a step forward keeps them legal.
 use mathlib.Core.Path.{_≡_, refl, sym, _∙_, ap, subst}
 use mathlib.Core.List.{List, [], _∷_}
-use mathlib.Core.Option.{none}
 use Rattle.records.specs.Format.Syntax.{Goal, truth, failure, equal, conj, disj, atom, first, second, Ancestor, called, in-conj, in-disj, Bet, Port, call, exit, fail, redo, Event, event, goal?}
-use Rattle.stepper.specs.Rules.Machine.{Machine, gives, answer?}
-use Rattle.stepper.specs.Rules.Rules.{half, matching, rule, ununifiable, step-forward, candidate, checked, step-back}
-use Rattle.stepper.specs.Rules.Answers.{Given, given-matching, given-unifier, given-body, matching-yes, fitting-none}
+use Rattle.stepper.specs.Rules.Machine.{Machine, Admits, LimitLaws, gives, answer?}
+use Rattle.stepper.specs.Rules.Rules.{selected, matching, rule, ununifiable, step-forward, candidate, checked, step-back}
+use Rattle.stepper.specs.Rules.AnswerLaws.{Given, given-matching, given-unifier, given-body, matching-yes, fitting-none}
 use Rattle.stepper.specs.Rules.ListedLaws.{forward-by-rule}
 use Rattle.stepper.specs.Walks.Legal.{Solved, by-truth, by-equal, by-conj, by-disj, by-atom, Called, Legal}
 
@@ -42,7 +41,7 @@ module _ (M : Machine) (Q : Goal) (Seen : Event → Type 0) where
   exit-good g (in-conj second a b ∷ u) s c n =
       on-goal exit _ s g b _ c n (λ c n. let r = c .1 .1 in ((r .0, r .1, r .2, by-conj (r .3) (r .4) (r .5) (c .3) n (c .2)), refl))
   exit-good g (in-disj k a b ∷ u) s c n =
-      on-goal exit _ s g (half k a b) _ c n (λ c n. ((c .0, c .1 .1, c .1 .2, by-disj k (c .3) n (c .2)), refl))
+      on-goal exit _ s g (selected k a b) _ c n (λ c n. ((c .0, c .1 .1, c .1 .2, by-disj k (c .3) n (c .2)), refl))
   exit-good g (called p ts ∷ u) s c n = ((c .0, c .1 .1, c .1 .2, by-atom (c .1 .0) (c .3) n (c .2)), refl)
 
   fail-good : (g : Goal) (u : List Ancestor) (s : List Bet) → Legal M Q Seen (event fail g u s) → Seen (event fail g u s)
@@ -76,9 +75,9 @@ module _ (M : Machine) (Q : Goal) (Seen : Event → Type 0) where
   rule-good e d c n h = subst (Given (Good e)) h (good e c n)
 
   -- a step forward from a legal event leads to a legal one, from which the step back leads back
-  pub forward-back : (e d : Event) → Legal M Q Seen e → Seen e → M .limit e ≡ none → step-forward M e ≡ gives d
+  pub forward-back : LimitLaws M → (e d : Event) → Legal M Q Seen e → Seen e → Admits M e → step-forward M e ≡ gives d
       → Legal M Q Seen d × (step-back M d ≡ gives e)
   unfolding step-back checked
-  forward-back e d c n l h =
+  forward-back limits e d c n l h =
       let g = rule-good e d c n (forward-by-rule M e d h) in
-      (g .0, ap (checked M d) (g .1) ∙ rw l (fitting-none (ununifiable M e) _) ∙ matching-yes (answer? (step-forward M e) (gives d)) e h)
+      (g .0, ap (checked M d) (g .1) ∙ rw (limits .as-candidate e .0 l) (fitting-none (ununifiable M e) _) ∙ matching-yes (answer? (step-forward M e) (gives d)) e h)

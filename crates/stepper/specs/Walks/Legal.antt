@@ -7,7 +7,7 @@ use Rattle.records.specs.Format.Syntax.{Term, Terms, Goal, truth, equal, conj, 
 use Rattle.terms.specs.Theory.Outcome.{unified}
 use Rattle.terms.specs.Body.Body.{defined}
 use Rattle.stepper.specs.Rules.Machine.{Machine}
-use Rattle.stepper.specs.Rules.Rules.{half}
+use Rattle.stepper.specs.Rules.Rules.{selected}
 
 module _ (M : Machine) (Q : Goal) (Seen : Event → Type 0) where
   -- the goal, called under the ancestors with the first bet stack, exits with the second
@@ -23,8 +23,8 @@ module _ (M : Machine) (Q : Goal) (Seen : Event → Type 0) where
         → Seen (event exit b (in-conj second a b ∷ u) v) → Seen (event call b (in-conj second a b ∷ u) t)
         → Solved (conj a b) u s v
     by-disj : {a b : Goal} {u : List Ancestor} {s t : List Bet} (n : Half)
-        → Solved (half n a b) (in-disj n a b ∷ u) s t
-        → Seen (event exit (half n a b) (in-disj n a b ∷ u) t) → Seen (event call (half n a b) (in-disj n a b ∷ u) s)
+        → Solved (selected n a b) (in-disj n a b ∷ u) s t
+        → Seen (event exit (selected n a b) (in-disj n a b ∷ u) t) → Seen (event call (selected n a b) (in-disj n a b ∷ u) s)
         → Solved (disj a b) u s (or n ∷ t)
     by-atom : {p : ℕ} {ts : Terms} {u : List Ancestor} {s t : List Bet} {g : Goal}
         → M .body p ts u s ≡ defined g
@@ -40,7 +40,7 @@ module _ (M : Machine) (Q : Goal) (Seen : Event → Type 0) where
       (g ≡ b)
       × ((r : List Bet) × Called u (conj a b) r × Seen (event call (conj a b) u r) × Solved a (in-conj first a b ∷ u) r s
       × Seen (event exit a (in-conj first a b ∷ u) s) × Seen (event call a (in-conj first a b ∷ u) r))
-  Called (in-disj n a b ∷ u) g s = (g ≡ half n a b) × Called u (disj a b) s × Seen (event call (disj a b) u s)
+  Called (in-disj n a b ∷ u) g s = (g ≡ selected n a b) × Called u (disj a b) s × Seen (event call (disj a b) u s)
   Called (called p ts ∷ u) g s = (M .body p ts u s ≡ defined g) × Called u (atom p ts) s × Seen (event call (atom p ts) u s)
 
   -- call and fail: the goal is called with these stacks; exit and redo: it is called with some bets, and solved from them with these

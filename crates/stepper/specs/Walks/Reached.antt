@@ -1,10 +1,9 @@
--- Lists of steps on events, and the events that they reach (document 01, on demand 3).
-use mathlib.Core.Path.{_≡_}
+-- Lists of steps on events, and the events that they reach (SPECIFICATION 9).
 use mathlib.Core.List.{List}
-use mathlib.Core.Option.{Option, none}
+use mathlib.Core.Option.{Option}
 use Prim.Native.Nat.{ℕ}
 use Rattle.records.specs.Format.Syntax.{Goal, Event}
-use Rattle.stepper.specs.Rules.Machine.{Machine}
+use Rattle.stepper.specs.Rules.Machine.{Machine, Admits}
 use Rattle.stepper.specs.Rules.Rules.{step, first-event, accepted, Lent, attempt}
 use Rattle.stepper.specs.Walks.Walk.{Direction, Tally, walk, Reach}
 
@@ -22,9 +21,9 @@ module _ (M : Machine) where
   abbrev pub steps : {Move : Type 0} → (Move → Lent) → Goal → List Move → Tally Event
   steps lent q = walk (λ m. lent m .direction) (λ m. attempted (lent m)) (first-event q)
 
-  -- the query's first event is within the limit
+  -- the query's first event is admitted
   abbrev pub Fit : Goal → Type 0
-  Fit q = M .limit (first-event q) ≡ none
+  Fit q = Admits M (first-event q)
 
   -- the event after n accepted steps forward from the query's first event
   abbrev pub Reached : Goal → ℕ → Event → Type 0

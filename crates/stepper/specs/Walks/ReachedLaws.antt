@@ -3,17 +3,16 @@
 use mathlib.Core.Path.{_≡_, refl, _∙_, ap, subst}
 use mathlib.Core.Option.{Option, none, some}
 use Prim.Native.Nat.{ℕ, zero, suc, _≤_}
-use lib.Dec.{ltb}
-use borrow.Author.Tests.{le-ltb}
 use Rattle.records.specs.Format.Syntax.{Goal, Event}
-use Rattle.stepper.specs.Rules.Machine.{Machine, IgnoresPort, Answer, refused, gives, answer?}
-use Rattle.stepper.specs.Rules.Rules.{matching, rule, candidate, ununifiable, step-forward, checked, step-back, step, first-event, accepted, Lent, on-room, attempt}
+use Rattle.records.specs.Gate.DoorLaws.{room-enough, room-gives}
+use Rattle.stepper.specs.Rules.Machine.{Machine, Admits, LimitLaws, Answer, refused, gives, answer?}
+use Rattle.stepper.specs.Rules.Rules.{matching, rule, candidate, ununifiable, step-forward, checked, step-back, step, first-event, accepted, Lent, attempt}
 use Rattle.stepper.specs.Walks.Walk.{Direction, forward, back, Reach}
-use Rattle.stepper.specs.Rules.Answers.{matching-yes, matching-gives, fitting-gives, room-gives, accepted-gives, gives-accepted}
+use Rattle.stepper.specs.Rules.AnswerLaws.{matching-yes, matching-gives, fitting-gives, accepted-gives, gives-accepted}
 use Rattle.stepper.specs.Rules.ListedLaws.{forward-by-rule}
 use Rattle.stepper.specs.Walks.Legal.{Legal}
 use Rattle.stepper.specs.Walks.Inverse.{Good, rule-good}
-use Rattle.stepper.specs.Rules.Limits.{step-within}
+use Rattle.stepper.specs.Rules.Limits.{step-admitted}
 use Rattle.stepper.specs.Walks.Reached.{attempted, Fit, Reached}
 
 -- nothing is known of the events passed on the way
@@ -67,17 +66,17 @@ module _ (M : Machine) where
       go : (a : Answer) → checked M d a ≡ gives e → unlimited-check d a ≡ gives e
       go (refused q) k = k
       go (gives c) k =
-          let r = matching-gives (answer? (step-forward M c) (gives d)) c e (fitting-gives (ununifiable M c) (M .limit c) _ e k) in
+          let r = matching-gives (answer? (step-forward M c) (gives d)) c e (fitting-gives (ununifiable M c) (M .candidate-limit c) _ e k) in
           matching-yes (answer? (rule M c) (gives d)) c (forward-by-rule M c d (r .0)) ∙ ap gives (r .1)
 
   pub attempt-steps : (l : Lent) (d e : Event) → attempt M l d ≡ gives e → step M (l .direction) d ≡ gives e
   unfolding attempt
-  attempt-steps l d e h = room-gives (ltb (l .room) 32768) (step M (l .direction) d) e h
+  attempt-steps l d e h = room-gives (l .room) (step M (l .direction) d) h .1
 
   -- question 5 says yes to an output of 32,768 bytes or more
   pub steps-attempt : (l : Lent) (d : Event) → 32768 ≤ l .room → attempt M l d ≡ step M (l .direction) d
-  unfolding attempt on-room
-  steps-attempt l d n = rw (le-ltb (l .room) 32768 n)
+  unfolding attempt
+  steps-attempt l d n = room-enough (step M (l .direction) d) n
 
   pub attempt-unlimited : (l : Lent) (d e : Event) → attempted M l d ≡ some e → unlimited (l .direction) d ≡ some e
   attempt-unlimited l d e h = step-unlimited (l .direction) d e (attempt-steps l d e (accepted-gives (attempt M l d) e h))
@@ -92,8 +91,8 @@ module _ (M : Machine) where
   pub reached-legal : (q : Goal) (n : ℕ) (e : Event) → Reached M q n e → Legal M q Anything e
   reached-legal q n e h = reach-legal q n e (reached-unlimited q n e h)
 
-  -- and they are within the limit
-  pub reached-within : IgnoresPort M → (q : Goal) (n : ℕ) (e : Event) → Fit M q → Reached M q n e → M .limit e ≡ none
+  -- and they are admitted
+  pub reached-admitted : LimitLaws M → (q : Goal) (n : ℕ) (e : Event) → Fit M q → Reached M q n e → Admits M e
   unfolding Reach
-  reached-within i q zero e f h = subst (λ x. M .limit x ≡ none) h f
-  reached-within i q (suc n) e f h = step-within M i forward (h .0) e (reached-within i q n (h .0) f (h .1)) (accepted-gives _ e (h .2))
+  reached-admitted i q zero e f h = subst (Admits M) h f
+  reached-admitted i q (suc n) e f h = step-admitted M i forward (h .0) e (reached-admitted i q n (h .0) f (h .1)) (accepted-gives _ e (h .2))

@@ -5,14 +5,14 @@ use mathlib.Core.List.{List}
 use Prim.Native.Nat.{ℕ, _+_}
 use Rattle.records.specs.Format.Syntax.{Goal, Event}
 use Rattle.records.specs.Gate.Question.{possible}
-use Rattle.stepper.specs.Rules.Machine.{Machine, IgnoresPort, refused, gives}
+use Rattle.stepper.specs.Rules.Machine.{Machine, LimitLaws, refused, gives}
 use Rattle.stepper.specs.Rules.Rules.{step-forward, candidate, step-back, step, first-event, accepted, Lent}
 use Rattle.stepper.specs.Walks.Walk.{net}
 use Rattle.stepper.specs.Walks.WalkLaws.{at-walk, ends-equal}
-use Rattle.stepper.specs.Rules.Answers.{accepted-gives, gives-accepted}
+use Rattle.stepper.specs.Rules.AnswerLaws.{accepted-gives, gives-accepted}
 use Rattle.stepper.specs.Walks.Inverse.{forward-back}
 use Rattle.stepper.specs.Walks.Reached.{accepted-step, attempted, steps, Fit, Reached}
-use Rattle.stepper.specs.Walks.ReachedLaws.{Anything, first-injective, unlimited, unlimited-undone, unlimited-no-before, attempt-unlimited, attempt-steps, reached-legal, reached-within}
+use Rattle.stepper.specs.Walks.ReachedLaws.{Anything, first-injective, unlimited, unlimited-undone, unlimited-no-before, attempt-unlimited, attempt-steps, reached-legal, reached-admitted}
 
 module _ (M : Machine) where
   -- Demand 3, on events. Two lists of steps, in any mixture and refused ones included, end at the same event exactly when their queries are
@@ -28,11 +28,11 @@ module _ (M : Machine) where
   unfolding step-back first-event candidate
   first-back q = refl
 
-  module _ (ignores : IgnoresPort M) where
+  module _ (limits : LimitLaws M) where
     -- Demand 2, on events. A step back from a reached event gives the event that it came from.
     pub reached-back : (q : Goal) (n : ℕ) (d e : Event) → Fit M q → Reached M q n d → step-forward M d ≡ gives e → step-back M e ≡ gives d
     reached-back q n d e f r h =
-        forward-back M q Anything d e (reached-legal M q n d r) tt (reached-within M ignores q n d f r) h .1
+        forward-back M q Anything limits d e (reached-legal M q n d r) tt (reached-admitted M limits q n d f r) h .1
 
     -- Every list of steps ends at a reached event, as many steps from the first one as it counts.
     pub steps-reach : {Move : Type 0} (lent : Move → Lent) (q : Goal) (ms : List Move) → Fit M q

@@ -1,15 +1,13 @@
 -- The answer for an atom's body, by what the code found: its definition, question 9, the body's length, and what was written.
 use mathlib.Core.Path.{_≡_, refl, sym, ap, _∙_}
 use mathlib.Core.List.{List, [], _∷_, _++_}
-use mathlib.Core.Bool.{Bool, true, false}
-use mathlib.Core.Option.{none}
+use mathlib.Core.Bool.{Bool, true, false, true≢false}
 use Prim.Native.Nat.{ℕ, _+_, _≤_, _<_, min}
 use native.Mathlib.Omega.{arith}
 use lib.ListN.{length, take}
 use borrow.Author.Tests.{le-leb, lt-leb}
 use Rattle.records.specs.Format.Syntax.{Goal, arity}
 use Rattle.records.specs.Format.Syntax.Goal.{atom}
-use Rattle.records.specs.Format.Syntax.Definition.{definition}
 use Rattle.records.specs.Format.Encode.{word, terms-bytes, goal-bytes}
 use Rattle.records.specs.Format.Formed.{AtomFormed}
 use Rattle.records.specs.Format.Heads.{goal-head-at}
@@ -20,9 +18,10 @@ use Rattle.records.specs.declared.heads.GoalHead.the-variants.{Atom}
 use Rattle.terms.specs.Body.Body.{too-many, undefined, defined, locals-beyond, next-variable, definition-of, body}
 use Rattle.terms.specs.Body.BodyLaws.{next-variable-formed}
 use Rattle.terms.specs.Standing.Frames.{GoalAt}
-use Rattle.terms.specs.Body.Definitions.{ProgramAt, PlaceOf, Located}
+use Rattle.terms.specs.Body.Definitions.{ProgramAt, find-definition}
+use Rattle.terms.specs.Body.DefinitionLaws.{absent-none, found-in}
 use Rattle.terms.specs.Body.Arguments.{ArgumentsAt, ArgumentTable, term-places}
-use Rattle.terms.specs.Body.BodyBytes.{AtomAt, numbered-goal, body-with, Answered}
+use Rattle.terms.specs.Body.BodyBytes.{AtomAt, numbered-goal, body-with, BodyAnswered}
 use Rattle.terms.specs.declared.variables.Frame.{Frame}
 use Rattle.terms.specs.declared.definitions.Place.{Place}
 use Rattle.terms.specs.declared.definitions.Lookup.{Lookup}
@@ -32,7 +31,7 @@ use Rattle.terms.specs.declared.body.BodyAnswer.the-variants.{TooMany, U
 
 -- a body that fits, and one that does not, by the length that was measured
 pub written-answer : {before after : List ℕ} (g : Goal) {n to : ℕ} → n ≡ min (length before + 1) (length (goal-bytes g)) → n ≤ length before
-    → Put before 0 (goal-bytes g) after to → Answered before after (defined g) (Defined n)
+    → Put before 0 (goal-bytes g) after to → BodyAnswered before after (defined g) (Defined n)
 written-answer {before} {after} g {n} {to} is h p =
     let e : n ≡ length (goal-bytes g) = omega arith in
     let q : to ≡ length (goal-bytes g) = p .place ∙ omega arith in
@@ -42,7 +41,7 @@ written-answer {before} {after} g {n} {to} is h p =
       kept = λ no. absurd (no n refl);
     }
 
-pub long-answer : {before : List ℕ} (g : Goal) {n : ℕ} → n ≡ min (length before + 1) (length (goal-bytes g)) → length before < n → Answered before before (defined g) TooLong
+pub long-answer : {before : List ℕ} (g : Goal) {n : ℕ} → n ≡ min (length before + 1) (length (goal-bytes g)) → length before < n → BodyAnswered before before (defined g) TooLong
 long-answer {before} g is h = record {
   is = rw (lt-leb (length (goal-bytes g)) (length before) (omega arith));
   written = λ f i k. let z : g ≡ f = cc in absurd (omega (arith, ap (λ (x : Goal). length (goal-bytes x)) z));
@@ -50,11 +49,11 @@ long-answer {before} g is h = record {
 }
 
 -- nothing was written
-too-many-answer : (out : List ℕ) → Answered out out too-many TooMany
-too-many-answer out = record { is = refl; written = λ f q k. absurd (let z : _≡_ {A = ℕ} 0 1 = cc in omega arith); kept = λ n. refl }
+too-many-answer : (out : List ℕ) → BodyAnswered out out too-many TooMany
+too-many-answer out = record { is = refl; written = λ f q k. absurd (true≢false cc); kept = λ n. refl }
 
-undefined-answer : (out : List ℕ) → Answered out out undefined Undefined
-undefined-answer out = record { is = refl; written = λ f q k. absurd (let z : _≡_ {A = ℕ} 0 1 = cc in omega arith); kept = λ n. refl }
+undefined-answer : (out : List ℕ) → BodyAnswered out out undefined Undefined
+undefined-answer out = record { is = refl; written = λ f q k. absurd (true≢false cc); kept = λ n. refl }
 
 module _ {s : List ℕ} {f : Frame} (a : AtomAt s f) where
   atom-here : Stands s (f .goal) (goal-bytes (atom (a .predicate) (a .terms))) (a .frame .goal .end)
@@ -102,14 +101,14 @@ module _ {s : List ℕ} {f : Frame} (a : AtomAt s f) where
   first-new-small e = rw e (next-variable-formed (a .frame .goal .item) (a .frame .ancestors .items) (a .frame .bets .items) (a .frame .goal .formed) (a .frame .ancestors .formed))
 
   module _ {m : ℕ} (new : m ≡ first-new) {b : Bool} (l : ℕ) (test : b ≡ locals-beyond m l) where
-    pub body-too-many : (out : List ℕ) (g : Goal) → b ≡ true → Answered out out (body-with l g (a .terms) first-new) TooMany
+    pub body-too-many : (out : List ℕ) (g : Goal) → b ≡ true → BodyAnswered out out (body-with l g (a .terms) first-new) TooMany
     unfolding body-with
     body-too-many out g e = rw (← new, sym test ∙ e) (too-many-answer out)
 
     pub body-answered : {program before after table : List ℕ} {at k : ℕ} (g : GoalAt program at) (q : arity (a .terms) ≡ k) → b ≡ false → {r : BodyAnswer}
         → ((x : ArgumentsAt s (record { at = f .goal + 4; arity = k })) → take (k + 1) table ≡ term-places (f .goal + 4) (x .terms))
-        → ((h : GoalAt program at) (x : ArgumentTable s k table) → Answered before after (defined (numbered-goal (x .listed .terms) m (h .item))) r)
-        → Answered before after (body-with l (g .item) (a .terms) first-new) r
+        → ((h : GoalAt program at) (x : ArgumentTable s k table) → BodyAnswered before after (defined (numbered-goal (x .listed .terms) m (h .item))) r)
+        → BodyAnswered before after (body-with l (g .item) (a .terms) first-new) r
     unfolding body-with numbered-goal atom-arguments
     body-answered g q e t h = rw (← new, sym test ∙ e) (h g (atom-table q t))
 
@@ -118,24 +117,19 @@ module _ {s : List ℕ} {f : Frame} (a : AtomAt s f) where
     found-as : definition-of (d .definitions) (a .predicate) (arity (a .terms)) ≡ definition-of (d .definitions) p k
     found-as = let q = atom-head is e in rw (q .0, q .1)
 
-    pub body-undefined : {r : Lookup} (out : List ℕ) → Located program (d .definitions) p k r → r ≡ Absent
-        → Answered out out (body (d .definitions) (a .predicate) (a .terms) (a .frame .ancestors .items) (a .frame .bets .items)) Undefined
-    unfolding body Located
-    body-undefined out w q =
-        let z : definition-of (d .definitions) p k ≡ none = rw q at w in
-        rw (found-as ∙ z) (undefined-answer out)
+    pub body-undefined : {r : Lookup} (out : List ℕ) → r ≡ find-definition 5 0 (d .definitions) p k → r ≡ Absent
+        → BodyAnswered out out (body (d .definitions) (a .predicate) (a .terms) (a .frame .ancestors .items) (a .frame .bets .items)) Undefined
+    unfolding body
+    body-undefined out w q = rw (found-as ∙ absent-none 5 0 (d .definitions) p k (sym w ∙ q)) (undefined-answer out)
 
-    pub place-goal : {r : Lookup} {c : Place} → Located program (d .definitions) p k r → r ≡ Present c → GoalAt program (c .goal) × (c .locals < 256)
-    unfolding Located
-    place-goal {r} {c} w q =
-        let z : PlaceOf program (d .definitions) p k c = rw q at w in
-        (record { item = z .goal; formed = z .formed .3; end = c .end; stands = z .goal-stands }, z .formed .2)
+    pub place-goal : {r : Lookup} {c : Place} → r ≡ find-definition 5 0 (d .definitions) p k → r ≡ Present c → GoalAt program (c .goal) × (c .locals < 256)
+    place-goal w q = let z = found-in d (sym w ∙ q) in (z .goal, z .few)
 
-    pub body-defined : {r : Lookup} {c : Place} {before after : List ℕ} {o : BodyAnswer} → Located program (d .definitions) p k r → r ≡ Present c
-        → ((g : GoalAt program (c .goal)) (x : AtomAt s f) → arity (x .terms) ≡ k → Answered before after (body-with (c .locals) (g .item) (x .terms) (next-variable (x .frame .goal .item) (x .frame .ancestors .items) (x .frame .bets .items))) o)
-        → Answered before after (body (d .definitions) (a .predicate) (a .terms) (a .frame .ancestors .items) (a .frame .bets .items)) o
-    unfolding body body-with Located
-    body-defined {r} {c} w q h =
-        let z : PlaceOf program (d .definitions) p k c = rw q at w in
-        let v = h (record { item = z .goal; formed = z .formed .3; end = c .end; stands = z .goal-stands }) a (atom-head is e .1) in
+    pub body-defined : {r : Lookup} {c : Place} {before after : List ℕ} {o : BodyAnswer} → r ≡ find-definition 5 0 (d .definitions) p k → r ≡ Present c
+        → ((g : GoalAt program (c .goal)) (x : AtomAt s f) → arity (x .terms) ≡ k → BodyAnswered before after (body-with (c .locals) (g .item) (x .terms) (next-variable (x .frame .goal .item) (x .frame .ancestors .items) (x .frame .bets .items))) o)
+        → BodyAnswered before after (body (d .definitions) (a .predicate) (a .terms) (a .frame .ancestors .items) (a .frame .bets .items)) o
+    unfolding body body-with
+    body-defined w q h =
+        let z = found-in d (sym w ∙ q) in
+        let v = h (z .goal) a (atom-head is e .1) in
         rw (found-as ∙ z .found) (rw (a .atom) at v)

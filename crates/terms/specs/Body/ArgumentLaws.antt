@@ -14,17 +14,17 @@ use Rattle.records.specs.Format.Encode.{term-bytes, terms-bytes}
 use Rattle.records.specs.Format.Formed.{TermFormed, TermsFormed}
 use Rattle.records.specs.Ends.EndLaws.{term-long}
 use Rattle.records.specs.Ends.Range.{cut, Inside}
-use Rattle.records.specs.Ends.Stands.{Stands, stands-first, stands-second, stands-within, stands-cut, stands-inside, walk-term}
-use Rattle.records.specs.Ends.Walk.{walk-end, end-at}
+use Rattle.records.specs.Ends.Stands.{Stands, stands-first, stands-second, stands-within, stands-cut, stands-inside, traverse-term}
+use Rattle.records.specs.Ends.Traversal.{position, traversal-end, end-at}
 use Rattle.records.specs.declared.ends.Found.{Found}
 use Rattle.records.specs.declared.ends.Found.the-variants.{At}
 use Rattle.records.specs.declared.put.Range.{Range}
-use Rattle.terms.specs.Body.Arguments.{ArgumentsAt, TermTable, ArgumentTable, position, term-places, entry}
+use Rattle.terms.specs.Body.Arguments.{ArgumentsAt, TermTable, ArgumentTable, term-places, argument-range}
 use Rattle.terms.specs.Body.Body.{numbered}
 use Rattle.terms.specs.declared.arguments.Arguments.{Arguments}
 
 -- the table on its way: the entries made, with the places of the terms from pos on, are the places of all
-pub record Listing (s places : List ℕ) (k : ℕ) (table : List ℕ) (pos i : ℕ) : Type 0 where
+pub record ArgumentsListing (s places : List ℕ) (k : ℕ) (table : List ℕ) (pos i : ℕ) : Type 0 where
   pub left : Terms
   pub formed : TermsFormed left
   pub many : i + arity left ≡ k
@@ -32,21 +32,21 @@ pub record Listing (s places : List ℕ) (k : ℕ) (table : List ℕ) (pos i : �
   pub stands : Stands s pos (terms-bytes left) end
   pub whole : take i table ++ term-places pos left ≡ places
 
-pub listing-start : {s : List ℕ} {args : Arguments} {table : List ℕ} (a : ArgumentsAt s args) → Listing s (term-places (args .at) (a .terms)) (args .arity) table (args .at) 0
-listing-start a = record { left = a .terms; formed = a .formed; many = omega (arith, a .many); end = a .end; stands = a .stands; whole = refl }
+pub arguments-start : {s : List ℕ} {args : Arguments} {table : List ℕ} (a : ArgumentsAt s args) → ArgumentsListing s (term-places (args .at) (a .terms)) (args .arity) table (args .at) 0
+arguments-start a = record { left = a .terms; formed = a .formed; many = omega (arith, a .many); end = a .end; stands = a .stands; whole = refl }
 
 term-ends : {s : List ℕ} {at e : ℕ} (t : Term) → TermFormed t → Stands s at (term-bytes t) e → end-at s at 1 0 ≡ At e
 unfolding end-at
-term-ends t f w = ap walk-end (walk-term t f w)
+term-ends t f w = ap traversal-end (traverse-term t f w)
 
-module _ {s places : List ℕ} {k : ℕ} {table : List ℕ} {pos i : ℕ} (u : Listing s places k table pos i) (room : k < length table) where
+module _ {s places : List ℕ} {k : ℕ} {table : List ℕ} {pos i : ℕ} (u : ArgumentsListing s places k table pos i) (room : k < length table) where
   -- the place of one more term
-  pub listing-next : i < k → {o : Found} {next : ℕ} → o ≡ end-at s pos 1 0 → next ≡ position o → Listing s places k (set table i pos) next (i + 1)
+  pub listing-next : i < k → {o : Found} {next : ℕ} → o ≡ end-at s pos 1 0 → next ≡ position o → ArgumentsListing s places k (set table i pos) next (i + 1)
   unfolding term-places
   listing-next h {o} {next} is e = go (u .left) (u .formed) (u .many) (u .stands) (u .whole)
     where
       go : (ts : Terms) → TermsFormed ts → i + arity ts ≡ k → Stands s pos (terms-bytes ts) (u .end) → take i table ++ term-places pos ts ≡ places
-          → Listing s places k (set table i pos) next (i + 1)
+          → ArgumentsListing s places k (set table i pos) next (i + 1)
       go nil f m w p = absurd (omega arith)
       go (cons t ts) f m w p =
           let q : next ≡ pos + length (term-bytes t) = e ∙ ap position (is ∙ term-ends t (f .0) (stands-first (term-bytes t) (terms-bytes ts) w)) in
@@ -107,7 +107,7 @@ module _ {k : ℕ} {table : List ℕ} (t : TermTable k table) where
       ∙ next-place (t .at) (t .terms) m i (omega (arith, t .many)) ∙ ap (λ (j : ℕ). j + length (term-bytes (numbered (t .terms) m i))) (sym (at-entry i (omega arith)))
 
   -- how long an argument is
-  pub argument-ends : (m i : ℕ) → i < k → {r : Range} → r ≡ entry table i → r .to ≡ r .from + length (term-bytes (numbered (t .terms) m i))
+  pub argument-ends : (m i : ℕ) → i < k → {r : Range} → r ≡ argument-range table i → r .to ≡ r .from + length (term-bytes (numbered (t .terms) m i))
   argument-ends m i h is = rw is (next-entry m i h)
 
   -- a variable behind the head's
@@ -120,7 +120,7 @@ module _ {k : ℕ} {table : List ℕ} (t : TermTable k table) where
       go (cons x ts) (suc i) h = go ts i (omega arith) ∙ ap var (omega arith)
 
 -- an argument stands where the table says, and is what the range there cuts out
-module _ {s : List ℕ} {k : ℕ} {table : List ℕ} (a : ArgumentTable s k table) (m i : ℕ) (h : i < k) {r : Range} (is : r ≡ entry table i) where
+module _ {s : List ℕ} {k : ℕ} {table : List ℕ} (a : ArgumentTable s k table) (m i : ℕ) (h : i < k) {r : Range} (is : r ≡ argument-range table i) where
   argument-stands : Stands s (r .from) (term-bytes (numbered (a .listed .terms) m i)) (r .to)
   argument-stands =
       rw (is, next-entry (a .listed) m i h, at-entry (a .listed) i (omega arith)) (place-stands (a .listed .terms) (a .stands) m i (omega (arith, a .listed .many)))

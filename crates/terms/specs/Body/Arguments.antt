@@ -8,8 +8,6 @@ use Rattle.records.specs.Format.Syntax.Terms.{nil, cons}
 use Rattle.records.specs.Format.Encode.{term-bytes, terms-bytes}
 use Rattle.records.specs.Format.Formed.{TermsFormed}
 use Rattle.records.specs.Ends.Stands.{Stands}
-use Rattle.records.specs.declared.ends.Found.{Found}
-use Rattle.records.specs.declared.ends.Found.the-variants.{At, Nothing}
 use Rattle.records.specs.declared.put.Range.{Range}
 use Rattle.terms.specs.declared.arguments.Arguments.{Arguments}
 
@@ -21,19 +19,14 @@ pub record ArgumentsAt (s : List ℕ) (a : Arguments) : Type 0 where
   pub end : ℕ
   pub stands : Stands s (a .at) (terms-bytes terms) end
 
--- the position that was found, else 0
-abbrev pub position : Found → ℕ
-position (At e) = e
-position Nothing = 0
-
 -- where each of the terms starts that stand from a position on, and where the last one ends
 unfoldable pub term-places : ℕ → Terms → List ℕ
 term-places at nil = at ∷ []
 term-places at (cons t ts) = at ∷ term-places (at + length (term-bytes t)) ts
 
 -- from entry i to the next one
-abbrev pub entry : List ℕ → ℕ → Range
-entry table i = record { from = getD table i 0; to = getD table (i + 1) 0 }
+abbrev pub argument-range : List ℕ → ℕ → Range
+argument-range table i = record { from = getD table i 0; to = getD table (i + 1) 0 }
 
 -- a table of the places of k terms
 pub record TermTable (k : ℕ) (table : List ℕ) : Type 0 where

@@ -1,6 +1,6 @@
--- The body of an atom (document 01, "Body"): its definition's goal with the head's variables become the atom's arguments, as they stand and all
+-- The body of an atom (SPECIFICATION 4): its definition's goal with the head's variables become the atom's arguments, as they stand and all
 -- at once, and the locals become new variables.
--- Choices: the first new variable is one definition, which is given the whole call event though release 1 looks at goal and ancestors only.
+-- Choices: the first new variable is one definition, which is given the whole call event though only goal and ancestors are looked at.
 use mathlib.Core.List.{List, [], _∷_, _++_}
 use mathlib.Core.Bool.{Bool, _&&_, cond}
 use mathlib.Core.HLevel.{Discrete}
@@ -12,14 +12,14 @@ use Rattle.records.specs.Format.Syntax.Term.{var}
 use Rattle.records.specs.Format.Syntax.Terms.{nil, cons}
 use Rattle.records.specs.Format.Syntax.Goal.{truth, failure, equal, conj, disj, atom}
 use Rattle.records.specs.Format.Syntax.Definition.{definition}
+use Rattle.records.specs.Format.Encode.{each}
 use Rattle.records.specs.Gate.RecordRules.{goal-variables, ancestor-variables}
+use Rattle.records.specs.Ends.Above.{above}
 use Rattle.terms.specs.Theory.Substitution.{Substitution, substitute, substitute-all}
-use Rattle.terms.specs.Theory.Variables.{above}
 
 -- the variables of an ancestor stack
 abbrev pub ancestors-variables : List Ancestor → List ℕ
-ancestors-variables [] = []
-ancestors-variables (a ∷ u) = ancestor-variables a ++ ancestors-variables u
+ancestors-variables u = each ancestor-variables u
 
 -- m: one more than the greatest variable number in the goal and the ancestors of the call event, or 0 if there is none
 unfoldable pub next-variable : Goal → List Ancestor → List Bet → ℕ

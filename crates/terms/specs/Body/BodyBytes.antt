@@ -36,7 +36,7 @@ body-answer room too-many = TooMany
 body-answer room undefined = Undefined
 body-answer room (defined g) = cond (leb (length (goal-bytes g)) room) (Defined (length (goal-bytes g))) TooLong
 
--- the paper's number for an answer: question 9 or 10 says no, else 0
+-- the number (SPECIFICATION 7) for an answer: question 9 or 10 says no, else 0
 abbrev pub body-refusal : BodyAnswer → ℕ
 body-refusal TooMany = 9
 body-refusal Undefined = 0
@@ -44,7 +44,7 @@ body-refusal (Defined n) = 0
 body-refusal TooLong = 10
 
 -- the answer is the body's; where the body fits it stands at the start of the output, with the rest as it was; else nothing changes
-pub record Answered (before after : List ℕ) (b : Body) (r : BodyAnswer) : Type 0 where
+pub record BodyAnswered (before after : List ℕ) (b : Body) (r : BodyAnswer) : Type 0 where
   pub is : r ≡ body-answer (length before) b
   pub written : (g : Goal) → b ≡ defined g → length (goal-bytes g) ≤ length before → Put before 0 (goal-bytes g) after (length (goal-bytes g))
   pub kept : ((n : ℕ) → r ≡ Defined n → ⊥) → after ≡ before

@@ -2,7 +2,7 @@
 use mathlib.Core.Path.{_≡_, refl, sym, _∙_, ap}
 use mathlib.Core.Logic.{inl, inr}
 use mathlib.Core.List.{List, [], _∷_, _++_}
-use mathlib.Core.Bool.{Bool, true, false, cond}
+use mathlib.Core.Bool.{Bool, true, false, cond, true≢false}
 use mathlib.Core.Option.{Option, none, some}
 use native.Mathlib.Omega.{arith}
 use Prim.Native.Nat.{ℕ, zero, suc, _+_, _≤_, _<_}
@@ -128,7 +128,7 @@ locals-within m l h k = ltb-false 65536 (m + l) (rw (lt-ltb 0 l k) at h)
 pub definition-found : (Φ : Definition → Type 0) (ds : List Definition) (p n : ℕ) (d : Definition) → definition-of ds p n ≡ some d → All Φ ds
     → Φ d × (defines p n d ≡ true)
 unfolding definition-of
-definition-found Φ [] p n d e h = absurd (let z : _≡_ {A = ℕ} 0 1 = cc in omega arith)
+definition-found Φ [] p n d e h = absurd (true≢false cc)
 definition-found Φ (c ∷ ds) p n d e h = go (defines p n c) refl e (λ q. definition-found Φ ds p n d q (h .1))
   where
     go : (b : Bool) → defines p n c ≡ b → cond b (some c) (definition-of ds p n) ≡ some d
@@ -148,7 +148,7 @@ body-formed program p ts u s g d r a e = found (definition-of program p (arity t
     numbers : (q n l : ℕ) (b : Goal) → DefinitionFormed (definition q n l b) → definition-rules (definition q n l b) ≡ true
         → defines p (arity ts) (definition q n l b) ≡ true
         → (c : Bool) → locals-beyond m l ≡ c → cond c too-many (defined (substitute-goal (numbered ts m) b)) ≡ defined g → GoalFormed g
-    numbers q n l b h k o true z f = absurd (let w : _≡_ {A = ℕ} 0 1 = cc in omega arith)
+    numbers q n l b h k o true z f = absurd (true≢false cc)
     numbers q n l b h k o false z f =
         let w : substitute-goal (numbered ts m) b ≡ g = cc in
         let same : arity ts ≡ n = eqb-true (arity ts) n (and-right (eqb p q) (eqb (arity ts) n) o) in
@@ -158,7 +158,7 @@ body-formed program p ts u s g d r a e = found (definition-of program p (arity t
         (λ v i. let y = small v i in numbered-formed ts m l v (a .2) (locals-within m l z) (omega arith)) (h .3))
 
     found : (o : Option Definition) → definition-of program p (arity ts) ≡ o → body-of o ts m ≡ defined g → GoalFormed g
-    found none q f = absurd (let w : _≡_ {A = ℕ} 0 1 = cc in omega arith)
+    found none q f = absurd (true≢false cc)
     found (some (definition q n l b)) z f =
         let x = definition-found DefinitionFormed program p (arity ts) (definition q n l b) z d in
         let y = definition-found (λ c. definition-rules c ≡ true) program p (arity ts) (definition q n l b) z

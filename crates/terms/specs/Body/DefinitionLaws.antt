@@ -1,22 +1,22 @@
 -- The laws of the search for a definition in a program's record.
 use mathlib.Core.Path.{_≡_, refl, sym, ap, _∙_}
-use mathlib.Core.List.{List, [], _∷_, _++_, append-assoc}
-use mathlib.Core.Bool.{Bool, true, false, _&&_}
+use mathlib.Core.List.{List, [], _∷_, _++_}
+use mathlib.Core.Bool.{Bool, true, false, cond, _&&_, true≢false}
 use mathlib.Core.Option.{none, some}
 use Prim.Native.Nat.{ℕ, _+_, _-_, _<_, _≤_}
 use native.Mathlib.Omega.{arith}
 use lib.Dec.{eqb}
-use lib.ListN.{length, length-append}
+use lib.ListN.{length}
 use borrow.Author.Tests.{eqb-true}
 use Rattle.records.specs.Format.Syntax.{Definition}
 use Rattle.records.specs.Format.Syntax.Definition.{definition}
 use Rattle.records.specs.Format.Encode.{word, each, goal-bytes, definition-bytes}
-use Rattle.records.specs.Format.Formed.{DefinitionFormed}
+use Rattle.records.specs.Format.Formed.{All, DefinitionFormed}
 use Rattle.records.specs.Format.Heads.{definition-head-at, word-at}
 use Rattle.records.specs.Format.Items.{read-definition}
 use Rattle.records.specs.Format.Exact.{definition-exact}
-use Rattle.records.specs.Ends.Walk.{end-of}
-use Rattle.records.specs.Ends.Stands.{Stands, stands-second, stands-within, stands-ends, definition-stands, word-stands}
+use Rattle.records.specs.Ends.Traversal.{end-of}
+use Rattle.records.specs.Ends.Stands.{Stands, stands-first, stands-second, stands-within, stands-ends, definition-stands, word-stands}
 use Rattle.records.specs.declared.ends.Found.{Found}
 use Rattle.records.specs.declared.ends.Found.the-variants.{At, Nothing}
 use Rattle.records.specs.declared.heads.Signature.{Signature}
@@ -24,12 +24,12 @@ use Rattle.records.specs.declared.heads.Signature.the-variants.{Predicate, NoPr
 use Rattle.records.specs.declared.heads.Word.{Word}
 use Rattle.records.specs.declared.heads.Word.the-variants.{Number, Short}
 use Rattle.terms.specs.Body.Body.{defines, definition-of}
-use Rattle.terms.specs.Theory.TestLaws.{and-left, and-right}
-use Rattle.terms.specs.Standing.Rows.{First, row-first, row-none}
+use Rattle.terms.specs.Standing.Rows.{FirstOf, row-first, row-none}
 use Rattle.terms.specs.declared.definitions.Entry.{Entry}
+use Rattle.terms.specs.declared.definitions.Place.{Place}
 use Rattle.terms.specs.declared.definitions.Lookup.{Lookup}
 use Rattle.terms.specs.declared.definitions.Lookup.the-variants.{Absent, Present}
-use Rattle.terms.specs.Body.Definitions.{ProgramAt, DefinitionAt, DefinitionsAt, EntryOf, Located}
+use Rattle.terms.specs.Body.Definitions.{ProgramAt, DefinitionAt, DefinitionsAt, EntryOf, FoundAt, definition-place, find-definition}
 
 -- the head of a definition
 abbrev signature : Definition → Signature
@@ -51,7 +51,7 @@ module _ {s : List ℕ} {at : ℕ} (d : DefinitionAt s at) where
     entry-headed e = go (d .item) (sym e ∙ is ∙ entry-head)
       where
         go : {P : Type 0} (i : Definition) → NoPredicate ≡ signature i → P
-        go (definition p k n g) q = absurd (let z : _≡_ {A = ℕ} 0 1 = cc in omega arith)
+        go (definition p k n g) q = absurd (true≢false cc)
 
     pub entry-is : {p k n e : ℕ} {f : Found} → h ≡ Predicate p k n → f ≡ end-of read-definition s at → f ≡ At e
         → EntryOf d (record { predicate = p; arity = k; locals = n; end = e })
@@ -63,7 +63,7 @@ module _ {s : List ℕ} {at : ℕ} (d : DefinitionAt s at) where
             record { goal = g; same = x ∙ (let u : p′ ≡ p = cc in let v : k′ ≡ k = cc in let w : n′ ≡ n = cc in cc); end = cc }
 
   pub entry-ended : {P : Type 0} {f : Found} → f ≡ end-of read-definition s at → f ≡ Nothing → P
-  entry-ended is e = absurd (let q : Nothing ≡ At (d .end) = sym e ∙ is ∙ entry-end in let z : _≡_ {A = ℕ} 0 1 = cc in omega arith)
+  entry-ended is e = absurd (let q : Nothing ≡ At (d .end) = sym e ∙ is ∙ entry-end in absurd (true≢false cc))
 
   -- a definition has four bytes before its goal
   pub entry-room : at + 4 ≤ length s
@@ -72,84 +72,71 @@ module _ {s : List ℕ} {at : ℕ} (d : DefinitionAt s at) where
       go : (i : Definition) → Stands s at (definition-bytes i) (d .end) → at + 4 ≤ length s
       go (definition p k n g) w = omega (arith, stands-within w (omega arith), w .end)
 
--- a search on its way: i of n definitions passed, none of them that of p of arity k, and the others from `at` on
+-- the next of the definitions is of another predicate or arity, or it is the one looked for
+past-definition : (at i : ℕ) (d : Definition) (ds : List Definition) (p k : ℕ) → defines p k d ≡ false
+    → find-definition at i (d ∷ ds) p k ≡ find-definition (at + length (definition-bytes d)) (i + 1) ds p k
+unfolding find-definition
+past-definition at i d ds p k e = rw e
+
+at-definition : (at i : ℕ) (d : Definition) (ds : List Definition) (p k : ℕ) → defines p k d ≡ true → find-definition at i (d ∷ ds) p k ≡ Present (definition-place at i d)
+unfolding find-definition
+at-definition at i d ds p k e = rw e
+
+-- a search on its way: i of n definitions passed, and the others from `at` on
 pub record Searched (s : List ℕ) (n p k at i : ℕ) : Type 0 where
   pub within : i ≤ n
-  pub passed : DefinitionsAt s 5 n → List Definition
   pub rest : DefinitionsAt s 5 n → DefinitionsAt s at (n - i)
-  pub split : (ds : DefinitionsAt s 5 n) → ds .items ≡ passed ds ++ rest ds .items
-  pub many : (ds : DefinitionsAt s 5 n) → length (passed ds) ≡ i
-  pub same : (ds : DefinitionsAt s 5 n) → definition-of (ds .items) p k ≡ definition-of (rest ds .items) p k
+  pub same : (ds : DefinitionsAt s 5 n) → find-definition 5 0 (ds .items) p k ≡ find-definition at i (rest ds .items) p k
 
 pub searched-start : (s : List ℕ) (n p k : ℕ) → Searched s n p k 5 0
 searched-start s n p k = record {
   within = omega arith;
-  passed = λ ds. [];
   rest = λ ds. record { items = ds .items; formed = ds .formed; many = ds .many ∙ omega arith; end = ds .end; stands = ds .stands };
-  split = λ ds. refl;
-  many = λ ds. refl;
   same = λ ds. refl;
 }
 
--- a definition of another predicate or arity is passed over, one of this is found
-found-first : (d : Definition) (ds : List Definition) (p k : ℕ) → defines p k d ≡ true → definition-of (d ∷ ds) p k ≡ some d
-unfolding definition-of
-found-first d ds p k e = rw e
-
-passed-first : (d : Definition) (ds : List Definition) (p k : ℕ) → defines p k d ≡ false → definition-of (d ∷ ds) p k ≡ definition-of ds p k
-unfolding definition-of
-passed-first d ds p k e = rw e
-
 module _ {s : List ℕ} {n p k at i : ℕ} (w : Searched s n p k at i) (h : i < n) where
-  first-left : (ds : DefinitionsAt s 5 n) → First (w .rest ds)
+  first-left : (ds : DefinitionsAt s 5 n) → FirstOf (w .rest ds)
   first-left ds = row-first (w .rest ds) (omega arith)
 
   pub searched-item : DefinitionsAt s 5 n → DefinitionAt s at
   searched-item ds = first-left ds .first
 
   module _ {r : Entry} (entry : (d : DefinitionAt s at) → EntryOf d r) {b : Bool} (is : b ≡ (eqb p (r .predicate) && eqb k (r .arity))) where
-    tested : (ds : DefinitionsAt s 5 n) → defines p k (first-left ds .first .item) ≡ b
-    tested ds = ap (defines p k) (entry (first-left ds .first) .same) ∙ sym is
+    tested : (d : DefinitionAt s at) → defines p k (d .item) ≡ b
+    tested d = ap (defines p k) (entry d .same) ∙ sym is
+
+    ends : (d : DefinitionAt s at) → r .end ≡ at + length (definition-bytes (d .item))
+    ends d = entry d .end ∙ d .stands .end
+
+    onward : (ds : DefinitionsAt s 5 n) → find-definition 5 0 (ds .items) p k ≡ find-definition at i (first-left ds .first .item ∷ first-left ds .rest .items) p k
+    onward ds = w .same ds ∙ ap (λ (l : List Definition). find-definition at i l p k) (first-left ds .whole)
 
     pub searched-next : b ≡ false → Searched s n p k (r .end) (i + 1)
     searched-next e = record {
       within = omega arith;
-      passed = λ ds. w .passed ds ++ (first-left ds .first .item ∷ []);
       rest = λ ds. next (first-left ds) (entry (first-left ds .first) .end);
-      split = λ ds. w .split ds ∙ ap (λ (l : List Definition). w .passed ds ++ l) (first-left ds .whole) ∙ sym (append-assoc (w .passed ds) (first-left ds .first .item ∷ []) (first-left ds .rest .items));
-      many = λ ds. length-append (w .passed ds) (first-left ds .first .item ∷ []) ∙ ap (λ (m : ℕ). m + 1) (w .many ds);
-      same = λ ds. w .same ds ∙ ap (λ (l : List Definition). definition-of l p k) (first-left ds .whole) ∙ passed-first (first-left ds .first .item) (first-left ds .rest .items) p k (tested ds ∙ e);
+      same = λ ds. onward ds ∙ past-definition at i (first-left ds .first .item) (first-left ds .rest .items) p k (tested (first-left ds .first) ∙ e)
+          ∙ ap (λ (j : ℕ). find-definition j (i + 1) (first-left ds .rest .items) p k) (sym (ends (first-left ds .first)));
     }
       where
-        next : {ds : DefinitionsAt s at (n - i)} (f : First ds) → r .end ≡ f .first .end → DefinitionsAt s (r .end) (n - (i + 1))
+        next : {ds : DefinitionsAt s at (n - i)} (f : FirstOf ds) → r .end ≡ f .first .end → DefinitionsAt s (r .end) (n - (i + 1))
         next f q = record { items = f .rest .items; formed = f .rest .formed; many = f .rest .many ∙ omega arith; end = f .rest .end; stands = rw q (f .rest .stands) }
 
     pub searched-found : b ≡ true → (ds : DefinitionsAt s 5 n)
-        → Located s (ds .items) p k (Present (record { index = i; start = at; locals = r .locals; goal = at + 4; end = r .end }))
-    unfolding Located
-    searched-found e ds =
-        let f = first-left ds in
-        let d = entry (f .first) in
-        let t : (eqb p (r .predicate) && eqb k (r .arity)) ≡ true = sym is ∙ e in
-        let x : p ≡ r .predicate = eqb-true p (r .predicate) (and-left (eqb p (r .predicate)) (eqb k (r .arity)) t) in
-        let y : k ≡ r .arity = eqb-true k (r .arity) (and-right (eqb p (r .predicate)) (eqb k (r .arity)) t) in
-        let z : f .first .item ≡ definition p k (r .locals) (d .goal) = d .same ∙ cc in
-        let st : Stands s at (definition-bytes (definition p k (r .locals) (d .goal))) (r .end) = rw (d .end) (rw z at (f .first .stands)) in
-        record {
-          goal = d .goal;
-          found = w .same ds ∙ ap (λ (l : List Definition). definition-of l p k) (f .whole) ∙ found-first (f .first .item) (f .rest .items) p k (tested ds ∙ e) ∙ ap some z;
-          formed = rw z at (f .first .formed);
-          before = w .passed ds;
-          after = f .rest .items;
-          split = w .split ds ∙ ap (λ (l : List Definition). w .passed ds ++ l) (f .whole ∙ ap (λ (c : Definition). c ∷ f .rest .items) z);
-          index = w .many ds;
-          stands = st;
-          goal-stands = stands-second (word p ++ (k ∷ (r .locals ∷ []))) (goal-bytes (d .goal)) st;
-        }
+        → Present (record { index = i; start = at; locals = r .locals; goal = at + 4; end = r .end }) ≡ find-definition 5 0 (ds .items) p k
+    searched-found e ds = sym (onward ds ∙ at-definition at i (d .item) (first-left ds .rest .items) p k (tested d ∙ e) ∙ ap Present (place (d .item) (entry d .same) (ends d)))
+      where
+        d : DefinitionAt s at
+        d = first-left ds .first
 
-pub searched-none : {s : List ℕ} {n p k at i : ℕ} → Searched s n p k at i → n ≤ i → (ds : DefinitionsAt s 5 n) → Located s (ds .items) p k Absent
-unfolding Located definition-of
-searched-none {p = p} {k = k} w h ds = w .same ds ∙ ap (λ (l : List Definition). definition-of l p k) (row-none (w .rest ds) (omega (arith, w .within)))
+        place : (x : Definition) → x ≡ definition (r .predicate) (r .arity) (r .locals) (entry d .goal) → r .end ≡ at + length (definition-bytes x)
+            → definition-place at i x ≡ record { index = i; start = at; locals = r .locals; goal = at + 4; end = r .end }
+        place x q z = rw (z, q) refl
+
+pub searched-none : {s : List ℕ} {n p k at i : ℕ} → Searched s n p k at i → n ≤ i → (ds : DefinitionsAt s 5 n) → Absent ≡ find-definition 5 0 (ds .items) p k
+unfolding find-definition
+searched-none {p = p} {k = k} {at = at} {i = i} w h ds = sym (w .same ds ∙ ap (λ (l : List Definition). find-definition at i l p k) (row-none (w .rest ds) (omega (arith, w .within))))
 
 -- the count of a program's definitions, and the definitions after it
 module _ {s : List ℕ} (d : ProgramAt s) where
@@ -166,9 +153,51 @@ module _ {s : List ℕ} (d : ProgramAt s) where
   }
 
   pub program-counted : {P : Type 0} {w : Word} → w ≡ word-at s 3 → w ≡ Short → P
-  program-counted is e = absurd (let q : Number (length (d .definitions)) ≡ Short = sym program-count ∙ sym is ∙ e in let z : _≡_ {A = ℕ} 0 1 = cc in omega arith)
+  program-counted is e = absurd (let q : Number (length (d .definitions)) ≡ Short = sym program-count ∙ sym is ∙ e in absurd (true≢false cc))
 
-  pub program-located : {w : Word} {n : ℕ} (p k : ℕ) (r : Lookup) → w ≡ word-at s 3 → w ≡ Number n
-      → ((ds : DefinitionsAt s 5 n) → Located s (ds .items) p k r) → Located s (d .definitions) p k r
+  pub program-searched : (p k : ℕ) {w : Word} {n : ℕ} {r : Lookup} → w ≡ word-at s 3 → w ≡ Number n
+      → ((ds : DefinitionsAt s 5 n) → r ≡ find-definition 5 0 (ds .items) p k) → r ≡ find-definition 5 0 (d .definitions) p k
   unfolding program-row
-  program-located p k r is e h = h (program-row is e)
+  program-searched p k is e h = h (program-row is e)
+
+-- nothing is found where nothing is defined
+pub absent-none : (at i : ℕ) (ds : List Definition) (p k : ℕ) → find-definition at i ds p k ≡ Absent → definition-of ds p k ≡ none
+unfolding find-definition definition-of
+absent-none at i [] p k e = refl
+absent-none at i (d ∷ ds) p k e = go (defines p k d) e (absent-none (at + length (definition-bytes d)) (i + 1) ds p k)
+  where
+    go : (b : Bool) → cond b (Present (definition-place at i d)) (find-definition (at + length (definition-bytes d)) (i + 1) ds p k) ≡ Absent
+        → (find-definition (at + length (definition-bytes d)) (i + 1) ds p k ≡ Absent → definition-of ds p k ≡ none) → cond b (some d) (definition-of ds p k) ≡ none
+    go true q ih = absurd (true≢false cc)
+    go false q ih = ih q
+
+-- what is found is the definition, and its goal stands there
+found-at : {s : List ℕ} {e : ℕ} (at i : ℕ) (ds : List Definition) → All DefinitionFormed ds → Stands s at (each definition-bytes ds) e → (p k : ℕ) {a : Place}
+    → find-definition at i ds p k ≡ Present a → FoundAt s ds p k a
+unfolding find-definition definition-of
+found-at at i [] f w p k q = absurd (true≢false cc)
+found-at {s} {e} at i (definition x y l g ∷ ds) f w p k {a} q = go (eqb p x) refl (eqb k y) refl q (λ z. found-at (at + length (definition-bytes d)) (i + 1) ds (f .1) (stands-second (definition-bytes d) (each definition-bytes ds) w) p k z)
+  where
+    d : Definition
+    d = definition x y l g
+
+    own : Stands s (at + 4) (goal-bytes g) (at + length (definition-bytes d))
+    own = stands-second (word x ++ (y ∷ (l ∷ []))) (goal-bytes g) (stands-first (definition-bytes d) (each definition-bytes ds) w)
+
+    others : (eqb p x && eqb k y) ≡ false → FoundAt s ds p k a → FoundAt s (d ∷ ds) p k a
+    others b u = record { goal = u .goal; few = u .few; found = rw b (u .found) }
+
+    go : (b : Bool) → eqb p x ≡ b → (c : Bool) → eqb k y ≡ c → cond (b && c) (Present (definition-place at i d)) (find-definition (at + length (definition-bytes d)) (i + 1) ds p k) ≡ Present a
+        → (find-definition (at + length (definition-bytes d)) (i + 1) ds p k ≡ Present a → FoundAt s ds p k a) → FoundAt s (d ∷ ds) p k a
+    go true u true v z ih =
+        let t : definition-place at i d ≡ a = cc in
+        rw (← t) (record {
+          goal = record { item = g; formed = f .0 .3; end = at + length (definition-bytes d); stands = own };
+          few = f .0 .2;
+          found = rw (u, v, eqb-true p x u, eqb-true k y v) refl;
+        })
+    go true u false v z ih = others (rw (u, v)) (ih z)
+    go false u c v z ih = others (rw u) (ih z)
+
+pub found-in : {s : List ℕ} (d : ProgramAt s) {p k : ℕ} {a : Place} → find-definition 5 0 (d .definitions) p k ≡ Present a → FoundAt s (d .definitions) p k a
+found-in d e = found-at 5 0 (d .definitions) (d .formed .1) (stands-second (word (length (d .definitions))) (each definition-bytes (d .definitions)) (d .stands)) _ _ e

@@ -1,83 +1,79 @@
--- The greatest variable of what stands somewhere: what a walk meets are the variables of the tree.
+-- The greatest variable of what stands somewhere: what a traversal meets are the variables of the tree.
+use mathlib.Core.Bool.{true≢false}
 use mathlib.Core.Path.{_≡_, refl, sym, ap, ap₂, _∙_}
 use mathlib.Core.List.{List, [], _∷_, _++_, append-nil}
 use Prim.Native.Nat.{ℕ, _+_, _-_, _<_, max}
 use native.Mathlib.Omega.{arith}
-use Rattle.records.specs.Format.Syntax.{Term, Terms, Goal, Ancestor, Bet, arity}
+use lib.ListN.{length}
+use Rattle.records.specs.Format.Syntax.{Term, Terms, Goal, Ancestor, Binding, Bet, arity}
 use Rattle.records.specs.Format.Syntax.Term.{var, app}
 use Rattle.records.specs.Format.Syntax.Terms.{nil, cons}
 use Rattle.records.specs.Format.Syntax.Goal.{truth, failure, equal, conj, disj, atom}
 use Rattle.records.specs.Format.Syntax.Ancestor.{called, in-conj, in-disj}
-use Rattle.records.specs.Format.Encode.{word, tag, terms-bytes, goal-bytes, ancestor-bytes}
-use Rattle.records.specs.Format.Formed.{GoalFormed, AncestorFormed}
+use Rattle.records.specs.Format.Syntax.Bet.{unifier, or, by}
+use Rattle.records.specs.Format.Encode.{word, tag, each, terms-bytes, goal-bytes, ancestor-bytes, binding-bytes, bet-bytes}
+use Rattle.records.specs.Format.Formed.{GoalFormed, AncestorFormed, BetFormed}
 use Rattle.records.specs.Gate.RecordRules.{term-variables, terms-variables, goal-variables, ancestor-variables}
-use Rattle.records.specs.Format.Heads.{ancestor-head-at}
+use Rattle.records.specs.Gate.Kept.{term-met, terms-met, goal-met, along-raised}
+use Rattle.records.specs.Format.Heads.{ancestor-head-at, bet-head-at, word-at}
 use Rattle.records.specs.Format.Reader.Parts.{parts}
 use Rattle.records.specs.Format.ReaderLaws.{parts-bytes}
 use Rattle.records.specs.Format.ItemLaws.{parts-exact}
-use Rattle.records.specs.Ends.Walk.{Node, Walk, term-nodes, terms-nodes, goal-nodes, node-variables, walked, walk}
-use Rattle.records.specs.Ends.Walk.Node.{variable, other}
-use Rattle.records.specs.Ends.Walk.Walk.{off, on}
-use Rattle.records.specs.Ends.Steps.{On, along, raised, Tops}
-use Rattle.records.specs.Ends.Stands.{Stands, stands-second, stands-read, head-of-ancestor, ancestor-stands, walk-terms, walk-goal}
+use Rattle.records.specs.Ends.Traversal.{Node, Traversal, term-nodes, terms-nodes, goal-nodes, node-variables, traversed, traverse}
+use Rattle.records.specs.Ends.Traversal.Node.{variable, other}
+use Rattle.records.specs.Ends.Traversal.Traversal.{off, on}
+use Rattle.records.specs.Ends.Steps.{On, Tops}
+use Rattle.records.specs.Ends.Stands.{Stands, stands-second, stands-read, head-of-ancestor, ancestor-stands, head-of-bet, bet-stands, traverse-term, traverse-terms, traverse-goal}
 use Rattle.records.specs.declared.heads.AncestorHead.{AncestorHead}
 use Rattle.records.specs.declared.heads.AncestorHead.the-variants.{Called, InConj, InDisj, NoAncestor}
-use Rattle.records.specs.declared.walk.Top.{Top}
-use Rattle.terms.specs.Theory.Variables.{above}
+use Rattle.records.specs.declared.heads.BetHead.{BetHead}
+use Rattle.records.specs.declared.heads.BetHead.the-variants.{Unifier, Or, By, NoBet}
+use Rattle.records.specs.declared.heads.Word.{Word}
+use Rattle.records.specs.declared.heads.Word.the-variants.{Number, Short}
+use Rattle.records.specs.declared.traverse.Top.{Top}
+use Rattle.records.specs.Ends.Above.{above}
 use Rattle.terms.specs.Body.Body.{ancestors-variables, next-variable}
-use Rattle.terms.specs.Standing.Frames.{GoalAt, AncestorAt, AncestorsAt}
-use Rattle.terms.specs.Standing.Rows.{First, row-first, row-none, row-moved}
+use Rattle.terms.specs.Body.Tops.{pair-variables, bet-variables, Member, member-variables, members-variables, MemberAt, StackAt, TopOf, PieceOf}
+use Rattle.terms.specs.Standing.Frames.{GoalAt, AncestorAt, PairAt, PairsAt, BetAt}
+use Rattle.terms.specs.Standing.Rows.{FirstOf, row-first, row-none, row-none-end, row-empty, row-moved}
+use Rattle.terms.specs.Standing.BetRow.{pair-parts}
+use Rattle.terms.specs.declared.variables.Piece.{Piece}
+use Rattle.terms.specs.declared.variables.Stack.{Stack}
+use Rattle.terms.specs.declared.variables.Stack.the-variants.{Ancestors, Bets}
 
--- one more than the greatest number of a list, gathered along it
-pub along-raised : (a : ℕ) (l : List ℕ) → along raised a l ≡ max a (above l)
-along-raised a [] = omega arith
-along-raised a (v ∷ l) = along-raised (raised a v) l ∙ omega arith
-
+-- the least number above two lists
 pub above-append : (l m : List ℕ) → above (l ++ m) ≡ max (above l) (above m)
 above-append [] m = omega arith
 above-append (v ∷ l) m = let h = above-append l m in omega arith
 
--- the variables among the nodes of a tree are those of the tree
-node-variables-append : (l m : List Node) → node-variables (l ++ m) ≡ node-variables l ++ node-variables m
-node-variables-append [] m = refl
-node-variables-append (variable v ∷ l) m = ap (λ (x : List ℕ). v ∷ x) (node-variables-append l m)
-node-variables-append (other x ∷ l) m = node-variables-append l m
-
-joined-variables : (l m : List Node) {x y : List ℕ} → node-variables l ≡ x → node-variables m ≡ y → node-variables (l ++ m) ≡ x ++ y
-joined-variables l m p q = node-variables-append l m ∙ ap₂ _++_ p q
-
-mutual
-  pub term-nodes-variables : (t : Term) → node-variables (term-nodes t) ≡ term-variables t
-  term-nodes-variables (var v) = refl
-  term-nodes-variables (app f ts) = terms-nodes-variables ts
-
-  pub terms-nodes-variables : (ts : Terms) → node-variables (terms-nodes ts) ≡ terms-variables ts
-  terms-nodes-variables nil = refl
-  terms-nodes-variables (cons t ts) = joined-variables (term-nodes t) (terms-nodes ts) (term-nodes-variables t) (terms-nodes-variables ts)
-
-pub goal-nodes-variables : (g : Goal) → node-variables (goal-nodes g) ≡ goal-variables g
-goal-nodes-variables truth = refl
-goal-nodes-variables failure = refl
-goal-nodes-variables (equal t u) = joined-variables (term-nodes t) (term-nodes u) (term-nodes-variables t) (term-nodes-variables u)
-goal-nodes-variables (conj a b) = joined-variables (goal-nodes a) (goal-nodes b) (goal-nodes-variables a) (goal-nodes-variables b)
-goal-nodes-variables (disj a b) = joined-variables (goal-nodes a) (goal-nodes b) (goal-nodes-variables a) (goal-nodes-variables b)
-goal-nodes-variables (atom p ts) = terms-nodes-variables ts
-
--- the walk over two goals that stand there
-walk-two : {s : List ℕ} {at e : ℕ} (a b : Goal) → GoalFormed a → GoalFormed b → Stands s at (goal-bytes a ++ goal-bytes b) e
-    → walk s at 0 2 ≡ on (goal-nodes a ++ goal-nodes b) e
-unfolding walk
-walk-two {s} {at} {e} a b fa fb h =
+-- the traversal over two goals that stand there
+traverse-two : {s : List ℕ} {at e : ℕ} (a b : Goal) → GoalFormed a → GoalFormed b → Stands s at (goal-bytes a ++ goal-bytes b) e
+    → traverse s at 0 2 ≡ on (goal-nodes a ++ goal-nodes b) e
+unfolding traverse
+traverse-two {s} {at} {e} a b fa fb h =
     let w : Stands s at (parts-bytes (parts nil (a ∷ b ∷ []))) e = rw append-nil h in
-    ap (walked at) (stands-read (parts-exact 0 2) (parts nil (a ∷ b ∷ [])) (refl, refl, tt, (fa, (fb, tt))) w)
+    ap (traversed at) (stands-read (parts-exact 0 2) (parts nil (a ∷ b ∷ [])) (refl, refl, tt, (fa, (fb, tt))) w)
     ∙ ap (on (goal-nodes a ++ (goal-nodes b ++ []))) (sym (w .end)) ∙ ap (λ (l : List Node). on (goal-nodes a ++ l) e) (append-nil (goal-nodes b))
 
+-- what a traversal tells of the tree whose nodes it goes over
+pub nodes-top : {w : Traversal} (l : List Node) (e : ℕ) {x : List ℕ} {r : Top} → w ≡ on l e → node-variables l ≡ x → Tops w r → TopOf x e r
+nodes-top l e {x} {r} q i t =
+    let w : Tops (on l e) r = rw q at t in
+    record { top = w .top ∙ along-raised 0 (node-variables l) ∙ ap (λ (k : List ℕ). max 0 (above k)) i ∙ omega arith; end = w .end }
+
+-- a goal
+pub goal-on : {s : List ℕ} {at : ℕ} (g : GoalAt s at) → On (traverse s at 0 1)
+goal-on g = rw (traverse-goal (g .item) (g .formed) (g .stands)) tt
+
+pub goal-top : {s : List ℕ} {at : ℕ} (g : GoalAt s at) {r : Top} → Tops (traverse s at 0 1) r → TopOf (goal-variables (g .item)) (g .end) r
+goal-top g = nodes-top (goal-nodes (g .item)) (g .end) (traverse-goal (g .item) (g .formed) (g .stands)) (goal-met (g .item))
+
 -- an ancestor's parts, by its head
-abbrev pub ancestor-walk : List ℕ → ℕ → AncestorHead → Walk
-ancestor-walk s at (Called p k) = walk s (at + 4) k 0
-ancestor-walk s at (InConj k) = walk s (at + 2) 0 2
-ancestor-walk s at (InDisj k) = walk s (at + 2) 0 2
-ancestor-walk s at NoAncestor = off
+abbrev pub ancestor-traversal : List ℕ → ℕ → AncestorHead → Traversal
+ancestor-traversal s at (Called p k) = traverse s (at + 4) k 0
+ancestor-traversal s at (InConj k) = traverse s (at + 2) 0 2
+ancestor-traversal s at (InDisj k) = traverse s (at + 2) 0 2
+ancestor-traversal s at NoAncestor = off
 
 abbrev pub ancestor-nodes : Ancestor → List Node
 ancestor-nodes (called p ts) = terms-nodes ts
@@ -85,80 +81,174 @@ ancestor-nodes (in-conj h a b) = goal-nodes a ++ goal-nodes b
 ancestor-nodes (in-disj h a b) = goal-nodes a ++ goal-nodes b
 
 ancestor-nodes-variables : (a : Ancestor) → node-variables (ancestor-nodes a) ≡ ancestor-variables a
-ancestor-nodes-variables (called p ts) = terms-nodes-variables ts
-ancestor-nodes-variables (in-conj h a b) = goal-nodes-variables (conj a b)
-ancestor-nodes-variables (in-disj h a b) = goal-nodes-variables (disj a b)
+ancestor-nodes-variables (called p ts) = terms-met ts
+ancestor-nodes-variables (in-conj h a b) = goal-met (conj a b)
+ancestor-nodes-variables (in-disj h a b) = goal-met (disj a b)
 
-ancestor-walked : {s : List ℕ} {at e : ℕ} (a : Ancestor) → AncestorFormed a → Stands s at (ancestor-bytes a) e
-    → ancestor-walk s at (head-of-ancestor a) ≡ on (ancestor-nodes a) e
-ancestor-walked (called p ts) f h = walk-terms ts (f .2) (stands-second (0x15 ∷ (word p ++ (arity ts ∷ []))) (terms-bytes ts) h)
-ancestor-walked (in-conj k a b) f h = walk-two a b (f .0) (f .1) (stands-second (0x30 ∷ (tag k ∷ [])) (goal-bytes a ++ goal-bytes b) h)
-ancestor-walked (in-disj k a b) f h = walk-two a b (f .0) (f .1) (stands-second (0x31 ∷ (tag k ∷ [])) (goal-bytes a ++ goal-bytes b) h)
-
--- what is found of an ancestor that stands there: one more than its greatest variable, and its end
-pub record AncestorTop {s : List ℕ} {at : ℕ} (a : AncestorAt s at) (r : Top) : Type 0 where
-  pub top : r .top ≡ above (ancestor-variables (a .item))
-  pub end : r .end ≡ a .end
+ancestor-traversed : {s : List ℕ} {at e : ℕ} (a : Ancestor) → AncestorFormed a → Stands s at (ancestor-bytes a) e
+    → ancestor-traversal s at (head-of-ancestor a) ≡ on (ancestor-nodes a) e
+ancestor-traversed (called p ts) f h = traverse-terms ts (f .2) (stands-second (0x15 ∷ (word p ++ (arity ts ∷ []))) (terms-bytes ts) h)
+ancestor-traversed (in-conj k a b) f h = traverse-two a b (f .0) (f .1) (stands-second (0x30 ∷ (tag k ∷ [])) (goal-bytes a ++ goal-bytes b) h)
+ancestor-traversed (in-disj k a b) f h = traverse-two a b (f .0) (f .1) (stands-second (0x31 ∷ (tag k ∷ [])) (goal-bytes a ++ goal-bytes b) h)
 
 module _ {s : List ℕ} {at : ℕ} (a : AncestorAt s at) {h : AncestorHead} (is : h ≡ ancestor-head-at s at) where
-  ancestor-arm : (i : AncestorHead) → h ≡ i → ancestor-walk s at i ≡ on (ancestor-nodes (a .item)) (a .end)
+  ancestor-arm : (i : AncestorHead) → h ≡ i → ancestor-traversal s at i ≡ on (ancestor-nodes (a .item)) (a .end)
   ancestor-arm i e =
-      ap (ancestor-walk s at) (sym e ∙ is ∙ ancestor-stands (a .item) (a .formed) (a .stands)) ∙ ancestor-walked (a .item) (a .formed) (a .stands)
+      ap (ancestor-traversal s at) (sym e ∙ is ∙ ancestor-stands (a .item) (a .formed) (a .stands)) ∙ ancestor-traversed (a .item) (a .formed) (a .stands)
 
   -- for code that has the head h from a call
-  pub ancestor-on : (i : AncestorHead) → h ≡ i → On (ancestor-walk s at i)
+  pub ancestor-on : (i : AncestorHead) → h ≡ i → On (ancestor-traversal s at i)
   ancestor-on i e = rw (ancestor-arm i e) tt
 
-  pub ancestor-tops : (i : AncestorHead) → h ≡ i → {r : Top} → Tops (ancestor-walk s at i) r → AncestorTop a r
-  ancestor-tops i e {r} t =
-      let w : Tops (on (ancestor-nodes (a .item)) (a .end)) r = rw (ancestor-arm i e) at t in
-      record {
-        top = w .top ∙ along-raised 0 (node-variables (ancestor-nodes (a .item))) ∙ ap (max 0) (ap above (ancestor-nodes-variables (a .item))) ∙ omega arith;
-        end = w .end;
-      }
+  pub ancestor-tops : (i : AncestorHead) → h ≡ i → {r : Top} → Tops (ancestor-traversal s at i) r → TopOf (ancestor-variables (a .item)) (a .end) r
+  ancestor-tops i e = nodes-top (ancestor-nodes (a .item)) (a .end) (ancestor-arm i e) (ancestor-nodes-variables (a .item))
 
   pub ancestor-never : {P : Type 0} → h ≡ NoAncestor → P
   ancestor-never e = absurd (ancestor-on NoAncestor e)
 
--- a goal
-pub goal-top : {s : List ℕ} {at : ℕ} (g : GoalAt s at) {r : Top} → Tops (walk s at 0 1) r → r .top ≡ above (goal-variables (g .item))
-goal-top {s} {at} g {r} t =
-    let w : Tops (on (goal-nodes (g .item)) (g .end)) r = rw (walk-goal (g .item) (g .formed) (g .stands)) at t in
-    w .top ∙ along-raised 0 (node-variables (goal-nodes (g .item))) ∙ ap (max 0) (ap above (goal-nodes-variables (g .item))) ∙ omega arith
+-- a pair: its variable and the traversal over its term
+module _ {s : List ℕ} {at : ℕ} (p : PairAt s at) where
+  pub pair-on : On (traverse s (at + 2) 1 0)
+  pair-on = let q = pair-parts p in rw (traverse-term (q .term) (q .formed) (q .stands)) tt
 
-pub goal-on : {s : List ℕ} {at : ℕ} (g : GoalAt s at) → On (walk s at 0 1)
-goal-on g = rw (walk-goal (g .item) (g .formed) (g .stands)) tt
+  -- for code that has the word w from a call
+  module _ {w : Word} (is : w ≡ word-at s at) where
+    pub pair-tops : {v : ℕ} → w ≡ Number v → {t : Top} → Tops (traverse s (at + 2) 1 0) t → {m : ℕ} → m ≡ max (v + 1) (t .top)
+        → TopOf (pair-variables (p .item)) (p .end) (record { top = m; end = t .end })
+    pair-tops {v} e {t} u {m} i =
+        let q = pair-parts p in
+        let x : Number v ≡ Number (q .variable) = sym e ∙ is ∙ q .number in
+        let y : v ≡ q .variable = cc in
+        let z = nodes-top (term-nodes (q .term)) (p .end) (traverse-term (q .term) (q .formed) (q .stands)) (term-met (q .term)) u in
+        record { top = rw (q .is) (omega (arith, z .top)); end = z .end }
 
--- a row of ancestors on the way: m is gathered, and `left` of them stand from pos on
-pub record Gathered (s : List ℕ) (at n low pos left m : ℕ) : Type 0 where
-  pub rest : AncestorsAt s at n → AncestorsAt s pos left
-  pub same : (u : AncestorsAt s at n) → max low (above (ancestors-variables (u .items))) ≡ max m (above (ancestors-variables (rest u .items)))
+    pub pair-never : {P : Type 0} → w ≡ Short → P
+    pair-never e = let x : Short ≡ Number (pair-parts p .variable) = sym e ∙ is ∙ pair-parts p .number in absurd (true≢false cc)
 
-pub gathered-start : (s : List ℕ) (at n low : ℕ) → Gathered s at n low at n low
-gathered-start s at n low = record { rest = λ u. u; same = λ u. refl }
+-- what no pairs follow is a whole piece
+pub whole-piece : {s x : List ℕ} {e : ℕ} {t : Top} {r : Piece} → (r .top ≡ t .top) × (r .end ≡ t .end) × (r .pairs ≡ 0) → TopOf x e t → PieceOf s x e r
+whole-piece {s} {x} {e} {t} {r} q w = record {
+  few = omega arith;
+  pairs = rw (q .2) (row-empty s (r .end));
+  end = q .1 ∙ w .end;
+  top = omega (arith, w .top);
+}
 
-module _ {s : List ℕ} {at n low pos left m : ℕ} (g : Gathered s at n low pos left m) (h : 0 < left) where
-  pub gathered-item : AncestorsAt s at n → AncestorAt s pos
-  gathered-item u = row-first (g .rest u) h .first
+-- a bet, for code that has its head h from a call: a piece, or a goal
+module _ {s : List ℕ} {at : ℕ} (b : BetAt s at) {h : BetHead} (is : h ≡ bet-head-at s at) where
+  abbrev pub BetArm : BetHead → Type 0
+  BetArm (Unifier n) = PieceOf s (bet-variables (b .item)) (b .end) (record { top = 0; end = at + 3; pairs = n })
+  BetArm (Or k) = PieceOf s (bet-variables (b .item)) (b .end) (record { top = 0; end = at + 2; pairs = 0 })
+  BetArm By = (g : GoalAt s (at + 1)) × (g .end ≡ b .end) × (bet-variables (b .item) ≡ goal-variables (g .item))
+  BetArm NoBet = ⊥
 
-  pub gathered-next : {r : Top} {b : ℕ} → ((a : AncestorAt s pos) → AncestorTop a r) → b ≡ max m (r .top)
-      → Gathered s at n low (r .end) (left - 1) b
-  gathered-next {r} {b} t e = record {
-    rest = λ u. row-moved (t (row-first (g .rest u) h .first) .end) (row-first (g .rest u) h .rest);
-    same = λ u. g .same u ∙ split (g .rest u) (row-first (g .rest u) h);
-  }
+  pub bet-arm : (i : BetHead) → h ≡ i → BetArm i
+  bet-arm i e = rw (sym e ∙ is ∙ bet-stands (b .item) (b .formed) (b .stands)) (go (b .item) refl (b .formed) (b .stands))
     where
-      split : (v : AncestorsAt s pos left) (f : First v)
-          → max m (above (ancestors-variables (v .items))) ≡ max b (above (ancestors-variables (f .rest .items)))
-      split v f =
-          let w = t (f .first) .top in
-          let x : above (ancestors-variables (v .items)) ≡ max (above (ancestor-variables (f .first .item))) (above (ancestors-variables (f .rest .items))) =
-          ap (λ (l : List Ancestor). above (ancestors-variables l)) (f .whole) ∙ above-append (ancestor-variables (f .first .item)) (ancestors-variables (f .rest .items)) in
-          omega arith
+      go : (x : Bet) → b .item ≡ x → BetFormed x → Stands s at (bet-bytes x) (b .end) → BetArm (head-of-bet x)
+      go (unifier σ) q f w = record {
+        few = f .0;
+        pairs = record { items = σ; formed = f .1; many = refl; end = b .end; stands = stands-second (0x20 ∷ word (length σ)) (each binding-bytes σ) w };
+        end = refl;
+        top = rw q (omega arith);
+      }
+      go (or k) q f w = record { few = omega arith; pairs = row-empty s (at + 2); end = sym (w .end); top = rw q (omega arith) }
+      go (by g) q f w = (record { item = g; formed = f; end = b .end; stands = stands-second (0x22 ∷ []) (goal-bytes g) w }, refl, ap bet-variables q)
 
-pub gathered-end : {s : List ℕ} {at n low pos left m : ℕ} → Gathered s at n low pos left m → left ≡ 0 → (u : AncestorsAt s at n)
-    → m ≡ max low (above (ancestors-variables (u .items)))
-gathered-end {m = m} g e u = sym (g .same u ∙ ap (λ (l : List Ancestor). max m (above (ancestors-variables l))) (row-none (g .rest u) e) ∙ omega arith)
+  pub by-piece : h ≡ By → {t : Top} → Tops (traverse s (at + 1) 0 1) t → {r : Piece} → (r .top ≡ t .top) × (r .end ≡ t .end) × (r .pairs ≡ 0)
+      → PieceOf s (bet-variables (b .item)) (b .end) r
+  by-piece e u q =
+      let y = bet-arm By e in
+      let w = goal-top (y .0) u in
+      whole-piece q (record { top = w .top ∙ ap above (sym (y .2)); end = w .end ∙ y .1 })
+
+-- a member is what its stack holds
+module _ {s : List ℕ} {at : ℕ} {k : Stack} where
+  pub as-ancestor : k ≡ Ancestors → MemberAt k s at → AncestorAt s at
+  as-ancestor e = rw e (λ a. a)
+
+  pub as-bet : k ≡ Bets → MemberAt k s at → BetAt s at
+  as-bet e = rw e (λ a. a)
+
+  pub ancestor-piece : {r : Piece} → k ≡ Ancestors → ((a : AncestorAt s at) → PieceOf s (ancestor-variables (a .item)) (a .end) r)
+      → (a : MemberAt k s at) → PieceOf s (member-variables k (a .item)) (a .end) r
+  ancestor-piece e h = rw e h
+
+  pub bet-piece : {r : Piece} → k ≡ Bets → ((a : BetAt s at) → PieceOf s (bet-variables (a .item)) (a .end) r)
+      → (a : MemberAt k s at) → PieceOf s (member-variables k (a .item)) (a .end) r
+  bet-piece e h = rw e h
+
+regrouped : (m a b c : ℕ) → max m (max (max a b) c) ≡ max (max m a) (max b c)
+regrouped m a b c = omega arith
+
+-- a stack on the way: m is gathered, so many pairs stand from pos on and then `left` members
+pub record Gathered (k : Stack) (s : List ℕ) (at n low pos pairs left m : ℕ) : Type 0 where
+  pub own : StackAt k s at n → PairsAt s pos pairs
+  pub rest : (u : StackAt k s at n) → StackAt k s (own u .end) left
+  pub same : (u : StackAt k s at n)
+      → max low (above (members-variables k (u .items))) ≡ max m (max (above (each pair-variables (own u .items))) (above (members-variables k (rest u .items))))
+
+pub gathered-start : (k : Stack) (s : List ℕ) (at n low : ℕ) → Gathered k s at n low at 0 n low
+gathered-start k s at n low = record { own = λ u. row-empty s at; rest = λ u. u; same = λ u. omega arith }
+
+module _ {k : Stack} {s : List ℕ} {at n low pos pairs left m : ℕ} (g : Gathered k s at n low pos pairs left m) where
+  -- the next pair
+  module _ (h : 0 < pairs) where
+    pub gathered-pair : StackAt k s at n → PairAt s pos
+    gathered-pair u = row-first (g .own u) h .first
+
+    pub gathered-past-pair : {r : Top} {b : ℕ} → ((p : PairAt s pos) → TopOf (pair-variables (p .item)) (p .end) r) → b ≡ max m (r .top)
+        → Gathered k s at n low (r .end) (pairs - 1) left b
+    gathered-past-pair {r} {b} t e = record {
+      own = λ u. row-moved (t (row-first (g .own u) h .first) .end) (row-first (g .own u) h .rest);
+      rest = λ u. row-moved (row-first (g .own u) h .same-end) (g .rest u);
+      same = λ u. g .same u ∙ split u (row-first (g .own u) h);
+    }
+      where
+        split : (u : StackAt k s at n) (f : FirstOf (g .own u))
+            → max m (max (above (each pair-variables (g .own u .items))) (above (members-variables k (g .rest u .items))))
+            ≡ max b (max (above (each pair-variables (f .rest .items))) (above (members-variables k (g .rest u .items))))
+        split u f =
+            let x : above (each pair-variables (g .own u .items)) ≡ max (above (pair-variables (f .first .item))) (above (each pair-variables (f .rest .items))) =
+            ap (λ (l : List Binding). above (each pair-variables l)) (f .whole) ∙ above-append (pair-variables (f .first .item)) (each pair-variables (f .rest .items)) in
+            omega (arith, x, t (f .first) .top, e)
+
+  -- the next member, once no pairs are left
+  module _ (z : pairs ≡ 0) where
+    abbrev rest-here : StackAt k s at n → StackAt k s pos left
+    rest-here u = row-moved (sym (row-none-end (g .own u) z)) (g .rest u)
+
+    none-left : (u : StackAt k s at n) → above (each pair-variables (g .own u .items)) ≡ 0
+    none-left u = ap (λ (l : List Binding). above (each pair-variables l)) (row-none (g .own u) z)
+
+    pub gathered-end : left ≡ 0 → (u : StackAt k s at n) → m ≡ max low (above (members-variables k (u .items)))
+    gathered-end e u =
+        let x : above (members-variables k (g .rest u .items)) ≡ 0 = ap (λ (l : List (Member k)). above (members-variables k l)) (row-none (g .rest u) e) in
+        omega (arith, x, none-left u, g .same u)
+
+    module _ (h : 0 < left) where
+      pub gathered-member : StackAt k s at n → MemberAt k s pos
+      gathered-member u = row-first (rest-here u) h .first
+
+      pub gathered-past-member : {r : Piece} {b : ℕ} → ((a : MemberAt k s pos) → PieceOf s (member-variables k (a .item)) (a .end) r) → b ≡ max m (r .top)
+          → Gathered k s at n low (r .end) (r .pairs) (left - 1) b
+      gathered-past-member {r} {b} t e = record {
+        own = λ u. t (row-first (rest-here u) h .first) .pairs;
+        rest = λ u. row-moved (t (row-first (rest-here u) h .first) .end) (row-first (rest-here u) h .rest);
+        same = λ u. g .same u ∙ split u (row-first (rest-here u) h);
+      }
+        where
+          split : (u : StackAt k s at n) (f : FirstOf (rest-here u))
+              → max m (max (above (each pair-variables (g .own u .items))) (above (members-variables k (g .rest u .items))))
+              ≡ max b (max (above (each pair-variables (t (f .first) .pairs .items))) (above (members-variables k (f .rest .items))))
+          split u f =
+              let x : above (members-variables k (g .rest u .items)) ≡ max (above (member-variables k (f .first .item))) (above (members-variables k (f .rest .items))) =
+              ap (λ (l : List (Member k)). above (members-variables k l)) (f .whole) ∙ above-append (member-variables k (f .first .item)) (members-variables k (f .rest .items)) in
+              let p = above (each pair-variables (t (f .first) .pairs .items)) in
+              let q = above (members-variables k (f .rest .items)) in
+              let v : above (members-variables k (g .rest u .items)) ≡ max (max (r .top) p) q = x ∙ ap (λ (i : ℕ). max i q) (t (f .first) .top) in
+              let w : max (above (each pair-variables (g .own u .items))) (above (members-variables k (g .rest u .items))) ≡ above (members-variables k (g .rest u .items)) = omega (arith, none-left u) in
+              ap (max m) (w ∙ v) ∙ regrouped m (r .top) p q ∙ ap (λ (i : ℕ). max i (max p q)) (sym e)
 
 -- both together are the first new variable
 pub next-is : (g : Goal) (u : List Ancestor) (b : List Bet) (t r : ℕ) → t ≡ above (goal-variables g) → r ≡ max t (above (ancestors-variables u)) → r ≡ next-variable g u b

@@ -10,7 +10,7 @@ use lib.Seq.{getD-set-same, getD-set-other}
 use Rattle.records.specs.Format.Syntax.Term.{var}
 use Rattle.terms.specs.Theory.Substitution.{substitute}
 use Rattle.terms.specs.Theory.Unify.{less, same, more, compare}
-use Rattle.terms.specs.Classes.Nodes.{at, Nodes, count, In, number, IsVariable, Table}
+use Rattle.terms.specs.Classes.Nodes.{at, Nodes, count, In, node-number, IsVariable, Table}
 use Rattle.terms.specs.Classes.ClassesLaws.{variable-term}
 use Rattle.terms.specs.Classes.ClassState.{Better, Partition, State, Unitable, United, First, Firsts}
 use Rattle.terms.specs.Classes.CloseLaws.{united-unites, unitable}
@@ -22,17 +22,17 @@ first-itself n i h = record { low = omega arith; other = λ _. refl; variables =
 -- looking for the first node of i's variable: there is none below j
 pub record Seeking (n : Nodes) (i j : ℕ) : Type 0 where
   pub bound : j ≤ i
-  pub none : (k : ℕ) → k < j → IsVariable n k → number n k ≡ number n i → ⊥
+  pub none : (k : ℕ) → k < j → IsVariable n k → node-number n k ≡ node-number n i → ⊥
 
 module _ (n : Nodes) (i : ℕ) where
   pub seeking-start : Seeking n i 0
   seeking-start = record { bound = omega arith; none = λ k h. absurd (omega arith) }
 
   module _ (j : ℕ) (h : Seeking n i j) where
-    pub seeking-next : j < i → (IsVariable n j → number n j ≡ number n i → ⊥) → Seeking n i (j + 1)
+    pub seeking-next : j < i → (IsVariable n j → node-number n j ≡ node-number n i → ⊥) → Seeking n i (j + 1)
     seeking-next l k = record { bound = omega arith; none = below-more _ _ (h .none) k }
 
-    pub seeking-found : IsVariable n i → IsVariable n j → number n j ≡ number n i → First n i j
+    pub seeking-found : IsVariable n i → IsVariable n j → node-number n j ≡ node-number n i → First n i j
     seeking-found a b e = record { low = h .bound; other = λ k. absurd (k a); variables = λ _. b; numbers = e; least = λ _. h .none }
 
     pub seeking-end : IsVariable n i → i ≤ j → First n i i
@@ -56,7 +56,7 @@ pub firsts-end : (n : Nodes) (rep : List ℕ) (m : ℕ) → Firsts n rep m → c
 firsts-end n rep m f l = subst (Firsts n rep) (omega (arith, f .bound)) f
 
 -- nodes of one variable have one first
-first-shared : (n : Nodes) (i j x y : ℕ) → IsVariable n i → IsVariable n j → number n i ≡ number n j → First n i x → First n j y → x ≡ y
+first-shared : (n : Nodes) (i j x y : ℕ) → IsVariable n i → IsVariable n j → node-number n i ≡ node-number n j → First n i x → First n j y → x ≡ y
 first-shared n i j x y a b e f g = elim (compare x y) [
   | same p ↦ p
   | less p ↦ absurd (g .least b x p (f .variables a) (f .numbers ∙ e))

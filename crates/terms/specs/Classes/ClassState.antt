@@ -13,7 +13,7 @@ use Rattle.terms.specs.declared.classes.Turn.{Turn}
 use Rattle.terms.specs.declared.classes.Turn.the-variants.{Fine, Joined, Stuck}
 use Rattle.terms.specs.Theory.Substitution.{Substitution, substitute}
 use Rattle.terms.specs.Theory.Mgu.{Unifies}
-use Rattle.terms.specs.Classes.Nodes.{at, Nodes, count, In, number, IsVariable, IsSymbol, Children, Nested, Graph}
+use Rattle.terms.specs.Classes.Nodes.{at, Nodes, count, In, node-number, IsVariable, IsSymbol, Children, Nested, Graph}
 use Rattle.terms.specs.Classes.Classes.{Paired}
 
 -- no substitution makes the terms at s and t equal, whatever terms the table holds
@@ -29,7 +29,7 @@ Forced n s t p q =
 -- node a may represent node b: a symbol before a variable, and of variables the lower
 pub record Better (n : Nodes) (a b : ℕ) : Type 0 where
   pub symbols : IsSymbol n b → IsSymbol n a
-  pub variables : (IsSymbol n b → ⊥) → (IsSymbol n a → ⊥) → number n a ≤ number n b
+  pub variables : (IsSymbol n b → ⊥) → (IsSymbol n a → ⊥) → node-number n a ≤ node-number n b
 
 -- classes that only hold what a unifier of s and t must make equal
 pub record Partition (n : Nodes) (s t : ℕ) (rep : List ℕ) : Type 0 where
@@ -39,7 +39,7 @@ pub record Partition (n : Nodes) (s t : ℕ) (rep : List ℕ) : Type 0 where
   pub inside : (i : ℕ) → In n i → In n (at rep i)
   pub root : (i : ℕ) → In n i → at rep (at rep i) ≡ at rep i
   pub better : (i : ℕ) → In n i → Better n (at rep i) i
-  pub shared : (i j : ℕ) → In n i → In n j → IsVariable n i → IsVariable n j → number n i ≡ number n j → at rep i ≡ at rep j
+  pub shared : (i j : ℕ) → In n i → In n j → IsVariable n i → IsVariable n j → node-number n i ≡ node-number n j → at rep i ≡ at rep j
   pub sound : (i : ℕ) → In n i → Forced n s t (at rep i) i
 
 -- and s and t are in one class
@@ -87,18 +87,18 @@ pub record Comparable (numbers nexts rep : List ℕ) (i r : ℕ) : Type 0 where
 
 -- two symbols: the same number and children of the same classes; or another number or other counts of children; or children p and q at one
 -- place whose classes differ
-unfoldable pub Compared : List ℕ → List ℕ → List ℕ → ℕ → ℕ → Comparison → Type 0
-Compared numbers nexts rep i r Same =
+unfoldable pub NodesCompared : List ℕ → List ℕ → List ℕ → ℕ → ℕ → Comparison → Type 0
+NodesCompared numbers nexts rep i r Same =
     (at numbers i ≡ at numbers r) × ((cs ds : List ℕ) → Children nexts i cs → Children nexts r ds → map (at rep) cs ≡ map (at rep) ds)
-Compared numbers nexts rep i r Clash =
+NodesCompared numbers nexts rep i r Clash =
     (at numbers i ≡ at numbers r → ⊥) ⊎ ((cs ds : List ℕ) → Children nexts i cs → Children nexts r ds → length cs ≡ length ds → ⊥)
-Compared numbers nexts rep i r (Differ p q) =
+NodesCompared numbers nexts rep i r (Differ p q) =
     (p < length nexts) × (q < length nexts) × (at rep p ≡ at rep q → ⊥)
     × ((cs ds : List ℕ) → Children nexts i cs → Children nexts r ds → Paired p q cs ds)
 
 -- node i agrees with its representative
 abbrev pub Settled : Nodes → List ℕ → ℕ → Type 0
-Settled n rep i = IsSymbol n i → Compared (n .numbers) (n .nexts) rep i (at rep i) Same
+Settled n rep i = IsSymbol n i → NodesCompared (n .numbers) (n .nexts) rep i (at rep i) Same
 
 -- how many nodes from k on represent themselves
 abbrev pub roots : ℕ → List ℕ → ℕ
@@ -106,10 +106,10 @@ roots k [] = 0
 roots k (x ∷ l) = ite (ℕ-discrete x k) 1 0 + roots (suc k) l
 
 -- one turn at node i: it agrees with its representative, or two classes have become one, or there is no unifier
-unfoldable pub Turned : Nodes → ℕ → ℕ → ℕ → List ℕ → List ℕ → Turn → Type 0
-Turned n s t i old new Fine = (new ≡ old) × Settled n old i
-Turned n s t i old new Joined = State n s t new × (roots 0 new < roots 0 old)
-Turned n s t i old new Stuck = Apart n s t
+unfoldable pub Visited : Nodes → ℕ → ℕ → ℕ → List ℕ → List ℕ → Turn → Type 0
+Visited n s t i old new Fine = (new ≡ old) × Settled n old i
+Visited n s t i old new Joined = State n s t new × (roots 0 new < roots 0 old)
+Visited n s t i old new Stuck = Apart n s t
 
 -- every node agrees with its representative
 pub record Finished (n : Nodes) (s t : ℕ) (rep : List ℕ) : Type 0 where
@@ -126,8 +126,8 @@ pub record First (n : Nodes) (i r : ℕ) : Type 0 where
   pub low : r ≤ i
   pub other : (IsVariable n i → ⊥) → r ≡ i
   pub variables : IsVariable n i → IsVariable n r
-  pub numbers : number n r ≡ number n i
-  pub least : IsVariable n i → (j : ℕ) → j < r → IsVariable n j → number n j ≡ number n i → ⊥
+  pub numbers : node-number n r ≡ node-number n i
+  pub least : IsVariable n i → (j : ℕ) → j < r → IsVariable n j → node-number n j ≡ node-number n i → ⊥
 
 -- each of the first m nodes is represented by the first of its variable
 pub record Firsts (n : Nodes) (rep : List ℕ) (m : ℕ) : Type 0 where

@@ -1,5 +1,6 @@
 -- The theorem behind the unifier's code: closed classes without a clash or a cycle give the most general unifier; and what a unifier tells of
 -- two nodes of one class, so that a clash or a cycle shows that there is none.
+use mathlib.Core.Bool.{true≢false}
 use mathlib.Core.Path.{_≡_, refl, sym, _∙_, ap, ap₂}
 use mathlib.Core.Logic.{inl, inr}
 use mathlib.Core.List.{List, [], _∷_, map}
@@ -15,8 +16,8 @@ use Rattle.terms.specs.Theory.SubstitutionLaws.{terms-length-cons}
 use Rattle.terms.specs.Theory.Variables.{Listed}
 use Rattle.terms.specs.Theory.TestLaws.{all-listed}
 use Rattle.terms.specs.Theory.MostGeneral.{MostGeneral}
-use Rattle.terms.specs.Classes.Nodes.{Nodes, number, IsVariable, IsSymbol, In, terms-at, Node, variable, symbol}
-use Rattle.terms.specs.Classes.Classes.{Respects, Sound, Closed, Expands, Reads, Paired}
+use Rattle.terms.specs.Classes.Nodes.{Nodes, node-number, IsVariable, IsSymbol, In, terms-at, TableNode, variable, symbol}
+use Rattle.terms.specs.Classes.Classes.{Respects, ClassesSound, Closed, Expands, Reads, Paired}
 
 -- children of equal terms are as many, and equal
 pub same-children : (term : ℕ → Term) (θ : Substitution) (cs ds : List ℕ)
@@ -44,9 +45,9 @@ child-length term θ c (d ∷ ds) (inr o) =
     let h = child-length term θ c ds o in
     omega (arith, terms-length-cons (substitute θ (term d)) (substitute-all θ (terms-at term ds)))
 
-module _ (n : Nodes) (children : ℕ → List ℕ) (term : ℕ → Term) (node : (i : ℕ) → In n i → Node n children term i) where
+module _ (n : Nodes) (children : ℕ → List ℕ) (term : ℕ → Term) (node : (i : ℕ) → In n i → TableNode n children term i) where
   -- what stands at a variable's node
-  pub variable-term : (i : ℕ) → In n i → IsVariable n i → term i ≡ var (number n i)
+  pub variable-term : (i : ℕ) → In n i → IsVariable n i → term i ≡ var (node-number n i)
   variable-term i l a = elim (node i l) [ variable b q ↦ q | symbol b q k ↦ absurd (omega arith) ]
 
   module _ (s t : ℕ) (rep : ℕ → ℕ) (expansion : ℕ → Term) (σ : Substitution)
@@ -55,16 +56,16 @@ module _ (n : Nodes) (children : ℕ → List ℕ) (term : ℕ → Term) (node :
     mutual
       becomes : (u : Term) (i : ℕ) → In n i → term i ≡ u → substitute σ u ≡ expansion (rep i)
       becomes (var x) i l p = elim (node i l) [
-        | variable a b ↦ (let z : x ≡ number n i = cc in ap σ z ∙ r .met i l a)
-        | symbol a b k ↦ (let z : _≡_ {A = ℕ} 0 1 = cc in absurd (omega arith))
+        | variable a b ↦ (let z : x ≡ node-number n i = cc in ap σ z ∙ r .met i l a)
+        | symbol a b k ↦ (absurd (true≢false cc))
       ]
       becomes (app f us) i l p = elim (node i l) [
-        | variable a b ↦ (let z : _≡_ {A = ℕ} 0 1 = cc in absurd (omega arith))
+        | variable a b ↦ (absurd (true≢false cc))
         | symbol a b k ↦
             (let g = c .agrees i l .symbols (omega arith) in
             let h : substitute-all σ us ≡ terms-at expansion (map rep (children i)) = become us (children i) k (cc) in
             let q = e .symbols i l (g .0) in
-            let w : f ≡ number n i = cc in
+            let w : f ≡ node-number n i = cc in
             cc (g .1, g .2))
       ]
 
@@ -81,17 +82,17 @@ module _ (n : Nodes) (children : ℕ → List ℕ) (term : ℕ → Term) (node :
         expansion-equal (var x) i l p = elim (node (rep i) (c .inside i l)) [
           | variable a b ↦
               (let q = e .variables i l a in
-              let z : x ≡ number n (rep i) = cc in
-              let y : substitute θ (term (rep i)) ≡ θ (number n (rep i)) = ap (substitute θ) b in
+              let z : x ≡ node-number n (rep i) = cc in
+              let y : substitute θ (term (rep i)) ≡ θ (node-number n (rep i)) = ap (substitute θ) b in
               ap θ z ∙ sym y ∙ h i l)
-          | symbol a b k ↦ (let q = e .symbols i l (omega arith) in let z : _≡_ {A = ℕ} 0 1 = cc in absurd (omega arith))
+          | symbol a b k ↦ (let q = e .symbols i l (omega arith) in absurd (true≢false cc))
         ]
         expansion-equal (app f us) i l p = elim (node (rep i) (c .inside i l)) [
-          | variable a b ↦ (let q = e .variables i l a in let z : _≡_ {A = ℕ} 0 1 = cc in absurd (omega arith))
+          | variable a b ↦ (let q = e .variables i l a in absurd (true≢false cc))
           | symbol a b k ↦
               (let q = e .symbols i l (omega arith) in
-              let z : f ≡ number n (rep i) = cc in
-              let y : substitute θ (term (rep i)) ≡ app (number n (rep i)) (substitute-all θ (terms-at term (children (rep i)))) =
+              let z : f ≡ node-number n (rep i) = cc in
+              let y : substitute θ (term (rep i)) ≡ app (node-number n (rep i)) (substitute-all θ (terms-at term (children (rep i)))) =
               ap (substitute θ) b in
               ap₂ app z (expansions-equal us (children (rep i)) k (cc)) ∙ sym y ∙ h i l)
         ]
@@ -99,26 +100,26 @@ module _ (n : Nodes) (children : ℕ → List ℕ) (term : ℕ → Term) (node :
         expansions-equal : (us : Terms) (cs : List ℕ) → All (In n) cs → terms-at expansion (map rep cs) ≡ us
             → substitute-all θ us ≡ substitute-all θ (terms-at term cs)
         expansions-equal nil [] k p = refl
-        expansions-equal nil (d ∷ ds) k p = let z : _≡_ {A = ℕ} 0 1 = cc in absurd (omega arith)
-        expansions-equal (cons u us) [] k p = let z : _≡_ {A = ℕ} 0 1 = cc in absurd (omega arith)
+        expansions-equal nil (d ∷ ds) k p = absurd (true≢false cc)
+        expansions-equal (cons u us) [] k p = absurd (true≢false cc)
         expansions-equal (cons u us) (d ∷ ds) k p =
             ap₂ cons (expansion-equal u d (k .0) (cc)) (expansions-equal us ds (k .1) (cc))
 
-    lower-class : (i w : ℕ) → In n i → IsVariable n i → expansion (rep i) ≡ var w → w ≤ number n i
+    lower-class : (i w : ℕ) → In n i → IsVariable n i → expansion (rep i) ≡ var w → w ≤ node-number n i
     lower-class i w l a p = elim (node (rep i) (c .inside i l)) [
-      | variable b q ↦ (let k = c .agrees i l .variables a b in let z : w ≡ number n (rep i) = cc (e .variables i l b) in omega arith)
+      | variable b q ↦ (let k = c .agrees i l .variables a b in let z : w ≡ node-number n (rep i) = cc (e .variables i l b) in omega arith)
       | symbol b q k ↦ (let z : _≡_ {A = ℕ} 0 1 = cc (e .symbols i l (omega arith)) in absurd (omega arith))
     ]
 
     -- the theorem
-    pub closed-most-general : In n s → In n t → Sound n term s t rep → MostGeneral (term s) (term t) σ
+    pub closed-most-general : In n s → In n t → ClassesSound n term s t rep → MostGeneral (term s) (term t) σ
     closed-most-general ls lt sound = record {
       unifies = becomes (term s) s ls refl ∙ ap expansion (c .joined) ∙ sym (becomes (term t) t lt refl);
       general = λ θ u x. elim (r .each x) [
         | inl m ↦
             (let (i, l, a, k) = m in
             let q = expansion-equal θ (sound θ u) (expansion (rep i)) i l refl in
-            let y : substitute θ (term i) ≡ θ (number n i) = ap (substitute θ) (variable-term i l a) in
+            let y : substitute θ (term i) ≡ θ (node-number n i) = ap (substitute θ) (variable-term i l a) in
             ap (λ v. substitute θ (σ v)) (sym k) ∙ ap (substitute θ) (r .met i l a) ∙ q ∙ y ∙ ap θ k)
         | inr k ↦ ap (substitute θ) k
       ];
@@ -131,15 +132,15 @@ module _ (n : Nodes) (children : ℕ → List ℕ) (term : ℕ → Term) (node :
   module _ (θ : Substitution) (rep : ℕ → ℕ) (h : Respects n term rep θ) where
     -- two symbols of one class are the same, and their children's images too
     pub same-class : (i : ℕ) → In n i → In n (rep i) → IsSymbol n i → IsSymbol n (rep i)
-        → (number n (rep i) ≡ number n i) × (substitute-all θ (terms-at term (children (rep i))) ≡ substitute-all θ (terms-at term (children i)))
+        → (node-number n (rep i) ≡ node-number n i) × (substitute-all θ (terms-at term (children (rep i))) ≡ substitute-all θ (terms-at term (children i)))
     same-class i l m a b = go (node i l) (node (rep i) m)
       where
-        go : Node n children term i → Node n children term (rep i)
-            → (number n (rep i) ≡ number n i) × (substitute-all θ (terms-at term (children (rep i))) ≡ substitute-all θ (terms-at term (children i)))
+        go : TableNode n children term i → TableNode n children term (rep i)
+            → (node-number n (rep i) ≡ node-number n i) × (substitute-all θ (terms-at term (children (rep i))) ≡ substitute-all θ (terms-at term (children i)))
         go (variable p q) y = absurd (omega arith)
         go (symbol p q k) (variable p′ q′) = absurd (omega arith)
         go (symbol p q k) (symbol p′ q′ k′) =
-            let z : app (number n (rep i)) (substitute-all θ (terms-at term (children (rep i)))) ≡ app (number n i) (substitute-all θ (terms-at term (children i))) =
+            let z : app (node-number n (rep i)) (substitute-all θ (terms-at term (children (rep i)))) ≡ app (node-number n i) (substitute-all θ (terms-at term (children i))) =
             sym (ap (substitute θ) q′) ∙ h i l ∙ ap (substitute θ) q in
             (cc, cc)
 
@@ -149,7 +150,7 @@ module _ (n : Nodes) (children : ℕ → List ℕ) (term : ℕ → Term) (node :
     child-shorter r l a d o = elim (node r l) [
       | variable b q ↦ absurd (omega arith)
       | symbol b q k ↦
-          (let z : term-length (substitute θ (term r)) ≡ term-length (app (number n r) (substitute-all θ (terms-at term (children r)))) =
+          (let z : term-length (substitute θ (term r)) ≡ term-length (app (node-number n r) (substitute-all θ (terms-at term (children r)))) =
           ap (λ u. term-length (substitute θ u)) q in
           let y = child-length term θ d (children r) o in
           (all-listed (In n) (children r) k d o, omega arith))

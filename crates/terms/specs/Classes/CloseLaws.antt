@@ -17,7 +17,7 @@ use Rattle.terms.specs.declared.classes.Turn.{Turn}
 use Rattle.terms.specs.declared.classes.Turn.the-variants.{Fine, Joined, Stuck}
 use Rattle.terms.specs.Theory.Substitution.{Substitution, substitute-all}
 use Rattle.terms.specs.Theory.Mgu.{Unifies}
-use Rattle.terms.specs.Classes.Nodes.{at, Nodes, count, In, number, IsSymbol, Children, Table, terms-at, Graph}
+use Rattle.terms.specs.Classes.Nodes.{at, Nodes, count, In, node-number, IsSymbol, Children, Table, terms-at, Graph}
 use Rattle.terms.specs.Classes.Classes.{Respects}
 use Rattle.terms.specs.Classes.ClassesLaws.{same-children, paired-equal, same-class}
 use Rattle.terms.specs.Classes.ClassState.{
@@ -31,24 +31,24 @@ use Rattle.terms.specs.Classes.ClassState.{
   Unitable,
   United,
   Comparable,
-  Compared,
+  NodesCompared,
   Settled,
   roots,
-  Turned,
+  Visited,
   Ended,
 }
 use Rattle.terms.specs.Classes.RelabelLaws.{relabelled-fewer, relabelled-one, relabelled-joined, relabelled-partition}
 
 -- of two nodes that are no symbols the one with the lower number is preferred
-pub preferred-lower : (n : Nodes) (a b : ℕ) → (IsSymbol n a → ⊥) → (IsSymbol n b → ⊥) → Preferred n a b (leb (number n a) (number n b))
+pub preferred-lower : (n : Nodes) (a b : ℕ) → (IsSymbol n a → ⊥) → (IsSymbol n b → ⊥) → Preferred n a b (leb (node-number n a) (node-number n b))
 unfolding Preferred
-preferred-lower n a b na nb = go (leb (number n a) (number n b)) refl
+preferred-lower n a b na nb = go (leb (node-number n a) (node-number n b)) refl
   where
-    go : (d : Bool) → leb (number n a) (number n b) ≡ d → Preferred n a b d
-    go true e = record { symbols = λ h. absurd (nb h); variables = λ h k. leb-true (number n a) (number n b) e }
+    go : (d : Bool) → leb (node-number n a) (node-number n b) ≡ d → Preferred n a b d
+    go true e = record { symbols = λ h. absurd (nb h); variables = λ h k. leb-true (node-number n a) (node-number n b) e }
     go false e = record {
       symbols = λ h. absurd (na h);
-      variables = λ h k. let z = leb-false (number n a) (number n b) e in omega arith;
+      variables = λ h k. let z = leb-false (node-number n a) (node-number n b) e in omega arith;
     }
 
 -- a symbol is preferred to any node
@@ -139,25 +139,25 @@ module _ (n : Nodes) (s t : ℕ) (rep : List ℕ) (st : State n s t rep) where
     rep-symbol = st .partition .better i l .symbols a
 
     alike : (children : ℕ → List ℕ) (term : ℕ → Term) → Graph n children term → (θ : Substitution) → Unifies (term s) (term t) θ
-        → (number n (at rep i) ≡ number n i)
+        → (node-number n (at rep i) ≡ node-number n i)
         × (substitute-all θ (terms-at term (children (at rep i))) ≡ substitute-all θ (terms-at term (children i)))
     alike children term g θ u =
         same-class n children term (g .node) θ (at rep) (state-respects children term g θ u) i l rep-in a rep-symbol
 
-    clash-apart : Compared (n .numbers) (n .nexts) rep i (at rep i) Clash → Apart n s t
-    unfolding Compared
+    clash-apart : NodesCompared (n .numbers) (n .nexts) rep i (at rep i) Clash → Apart n s t
+    unfolding NodesCompared
     clash-apart c children term g θ u = go c (alike children term g θ u)
       where
-        go : (number n i ≡ number n (at rep i) → ⊥)
+        go : (node-number n i ≡ node-number n (at rep i) → ⊥)
             ⊎ ((cs ds : List ℕ) → Children (n .nexts) i cs → Children (n .nexts) (at rep i) ds → length cs ≡ length ds → ⊥)
-            → (number n (at rep i) ≡ number n i)
+            → (node-number n (at rep i) ≡ node-number n i)
             × (substitute-all θ (terms-at term (children (at rep i))) ≡ substitute-all θ (terms-at term (children i))) → ⊥
         go (inl h) z = h (sym (z .0))
         go (inr f) z = f (children i) (children (at rep i)) (g .path i l a) (g .path (at rep i) rep-in rep-symbol)
             (same-children term θ (children i) (children (at rep i)) (sym (z .1)))
 
-    differ-forced : (p q : ℕ) → Compared (n .numbers) (n .nexts) rep i (at rep i) (Differ p q) → Forced n s t p q
-    unfolding Compared
+    differ-forced : (p q : ℕ) → NodesCompared (n .numbers) (n .nexts) rep i (at rep i) (Differ p q) → Forced n s t p q
+    unfolding NodesCompared
     differ-forced p q c children term g θ u =
         paired-equal term θ p q (children i) (children (at rep i)) (sym (alike children term g θ u .1))
         (c .3 (children i) (children (at rep i)) (g .path i l a) (g .path (at rep i) rep-in rep-symbol))
@@ -173,35 +173,35 @@ module _ (n : Nodes) (s t : ℕ) (rep : List ℕ) (st : State n s t rep) where
     }
 
     -- the turn at the symbol i, by the comparison
-    module _ (o : Comparison) (c : Compared (n .numbers) (n .nexts) rep i (at rep i) o) where
-      compared : (r : Comparison) → o ≡ r → Compared (n .numbers) (n .nexts) rep i (at rep i) r
-      compared r e = subst (Compared (n .numbers) (n .nexts) rep i (at rep i)) e c
+    module _ (o : Comparison) (c : NodesCompared (n .numbers) (n .nexts) rep i (at rep i) o) where
+      compared : (r : Comparison) → o ≡ r → NodesCompared (n .numbers) (n .nexts) rep i (at rep i) r
+      compared r e = subst (NodesCompared (n .numbers) (n .nexts) rep i (at rep i)) e c
 
-      pub turned-stuck : o ≡ Clash → (new : List ℕ) → Turned n s t i rep new Stuck
-      unfolding Turned
+      pub turned-stuck : o ≡ Clash → (new : List ℕ) → Visited n s t i rep new Stuck
+      unfolding Visited
       turned-stuck e new = clash-apart (compared Clash e)
 
-      pub turned-fine : o ≡ Same → Turned n s t i rep rep Fine
-      unfolding Turned
+      pub turned-fine : o ≡ Same → Visited n s t i rep rep Fine
+      unfolding Visited
       turned-fine e = (refl, (λ h. compared Same e))
 
       module _ (p q : ℕ) (e : o ≡ Differ p q) where
         pair : (In n p × In n q) × ((at rep p ≡ at rep q → ⊥) × Forced n s t p q)
-        unfolding Compared
+        unfolding NodesCompared
         pair = let d = compared (Differ p q) e in ((d .0, d .1), (d .2, differ-forced p q d))
 
         pub differ-unitable : Table n → Unitable (n .kinds) (n .numbers) rep p q
         differ-unitable table = unitable n s t rep table (st .partition) p q (pair .0 .0) (pair .0 .1)
 
-        pub turned-joined : (new : List ℕ) → United n p q rep new → Turned n s t i rep new Joined
-        unfolding Turned
+        pub turned-joined : (new : List ℕ) → United n p q rep new → Visited n s t i rep new Joined
+        unfolding Visited
         turned-joined new u =
             let z = united-unites n s t rep new (st .partition) p q (pair .0 .0) (pair .0 .1) (pair .1 .0) (pair .1 .1) u in
             (record { partition = z .partition; joined = z .still (st .joined) }, z .fewer)
 
 -- a variable's node has nothing to agree in
-pub turned-variable : (n : Nodes) (s t i : ℕ) (rep : List ℕ) → (IsSymbol n i → ⊥) → Turned n s t i rep rep Fine
-unfolding Turned
+pub turned-variable : (n : Nodes) (s t i : ℕ) (rep : List ℕ) → (IsSymbol n i → ⊥) → Visited n s t i rep rep Fine
+unfolding Visited
 turned-variable n s t i rep h = (refl, (λ a. absurd (h a)))
 
 -- the loop: the nodes below i agree with their representatives
@@ -221,14 +221,14 @@ pub closing-end : (n : Nodes) (s t : ℕ) (rep : List ℕ) (i : ℕ) → Closing
 unfolding Ended
 closing-end n s t rep i c l = record { state = c .state; settled = λ k m. c .settled k (omega arith) }
 
-module _ (n : Nodes) (s t i : ℕ) (rep new : List ℕ) (o : Turn) (h : Turned n s t i rep new o) where
+module _ (n : Nodes) (s t i : ℕ) (rep new : List ℕ) (o : Turn) (h : Visited n s t i rep new o) where
   fine : o ≡ Fine → (new ≡ rep) × Settled n rep i
-  unfolding Turned
-  fine e = subst (Turned n s t i rep new) e h
+  unfolding Visited
+  fine e = subst (Visited n s t i rep new) e h
 
   joined : o ≡ Joined → State n s t new × (roots 0 new < roots 0 rep)
-  unfolding Turned
-  joined e = subst (Turned n s t i rep new) e h
+  unfolding Visited
+  joined e = subst (Visited n s t i rep new) e h
 
   pub closing-fine : o ≡ Fine → Closing n s t rep i → In n i → Closing n s t new (i + 1)
   closing-fine e c l =
@@ -238,8 +238,8 @@ module _ (n : Nodes) (s t i : ℕ) (rep new : List ℕ) (o : Turn) (h : Turned n
   closing-joined e = closing-start n s t new (joined e .0)
 
   pub closing-stuck : o ≡ Stuck → (rest : List ℕ) → Ended n s t rest false
-  unfolding Turned Ended
-  closing-stuck e rest = subst (Turned n s t i rep new) e h
+  unfolding Visited Ended
+  closing-stuck e rest = subst (Visited n s t i rep new) e h
 
   pub fine-less : o ≡ Fine → In n i → closing-left new (count n) (i + 1) < closing-left rep (count n) i
   fine-less e l = rw (fine e .0) (omega arith)

@@ -8,11 +8,11 @@ use lib.ListN.{length}
 use Rattle.terms.specs.declared.classes.Comparison.the-variants.{Same, Clash, Differ}
 use Rattle.terms.specs.Classes.Nodes.{at, Path, Children}
 use Rattle.terms.specs.Classes.Classes.{Paired}
-use Rattle.terms.specs.Classes.ClassState.{Comparable, Compared}
+use Rattle.terms.specs.Classes.ClassState.{Comparable, NodesCompared}
 
 -- symbols with other numbers
-pub other-numbers : (numbers nexts rep : List ℕ) (i r : ℕ) → (at numbers i ≡ at numbers r → ⊥) → Compared numbers nexts rep i r Clash
-unfolding Compared
+pub other-numbers : (numbers nexts rep : List ℕ) (i r : ℕ) → (at numbers i ≡ at numbers r → ⊥) → NodesCompared numbers nexts rep i r Clash
+unfolding NodesCompared
 other-numbers numbers nexts rep i r h = inl h
 
 -- a path that has not ended goes on, and one that has is empty
@@ -25,7 +25,7 @@ path-end nexts p e [] h k = refl
 path-end nexts p e (c ∷ l) h k = absurd (omega (arith, h .1))
 
 -- the children cs and ds from p and q on are still to be compared, those before are of the same classes
-pub record Ahead (nexts rep : List ℕ) (e f p q : ℕ) (cs ds : List ℕ) : Type 0 where
+pub record ChildrenAhead (nexts rep : List ℕ) (e f p q : ℕ) (cs ds : List ℕ) : Type 0 where
   pub left : List ℕ
   pub right : List ℕ
   pub left-path : Path nexts p e left
@@ -43,7 +43,7 @@ pub record Comparing (numbers nexts rep : List ℕ) (i r p q : ℕ) : Type 0 whe
   pub p-high : p ≤ at nexts i
   pub q-low : r < q
   pub q-high : q ≤ at nexts r
-  pub ahead : (cs ds : List ℕ) → Children nexts i cs → Children nexts r ds → Ahead nexts rep (at nexts i) (at nexts r) p q cs ds
+  pub ahead : (cs ds : List ℕ) → Children nexts i cs → Children nexts r ds → ChildrenAhead nexts rep (at nexts i) (at nexts r) p q cs ds
 
 module _ (numbers nexts rep : List ℕ) (i r : ℕ) where
   pub comparing-start : Comparable numbers nexts rep i r → at numbers i ≡ at numbers r → Comparing numbers nexts rep i r (i + 1) (r + 1)
@@ -59,8 +59,8 @@ module _ (numbers nexts rep : List ℕ) (i r : ℕ) where
         record { left = cs; right = ds; left-path = k; right-path = m; classes = λ z. z; pairs = λ x y z. z; counts = λ z. z };
   }
 
-  ahead-step : (p q : ℕ) (cs ds : List ℕ) → Ahead nexts rep (at nexts i) (at nexts r) p q cs ds → p < at nexts i → q < at nexts r
-      → at rep p ≡ at rep q → Ahead nexts rep (at nexts i) (at nexts r) (at nexts p) (at nexts q) cs ds
+  ahead-step : (p q : ℕ) (cs ds : List ℕ) → ChildrenAhead nexts rep (at nexts i) (at nexts r) p q cs ds → p < at nexts i → q < at nexts r
+      → at rep p ≡ at rep q → ChildrenAhead nexts rep (at nexts i) (at nexts r) (at nexts p) (at nexts q) cs ds
   ahead-step p q cs ds h a b e =
       let (l, le, lp) = path-more nexts p (at nexts i) (h .left) (h .left-path) a in
       let (m, me, mp) = path-more nexts q (at nexts r) (h .right) (h .right-path) b in
@@ -97,8 +97,8 @@ module _ (numbers nexts rep : List ℕ) (i r : ℕ) where
           ahead = λ cs ds k m. ahead-step p q cs ds (w .ahead cs ds k m) a b h;
         }
 
-    pub comparing-differ : p < at nexts i → q < at nexts r → (at rep p ≡ at rep q → ⊥) → Compared numbers nexts rep i r (Differ p q)
-    unfolding Compared
+    pub comparing-differ : p < at nexts i → q < at nexts r → (at rep p ≡ at rep q → ⊥) → NodesCompared numbers nexts rep i r (Differ p q)
+    unfolding NodesCompared
     comparing-differ a b h =
         let hi = w .i-high in
         let hr = w .r-high in (
@@ -113,8 +113,8 @@ module _ (numbers nexts rep : List ℕ) (i r : ℕ) where
         )
 
     -- more children of i than of r
-    pub comparing-more : p < at nexts i → at nexts r ≤ q → Compared numbers nexts rep i r Clash
-    unfolding Compared
+    pub comparing-more : p < at nexts i → at nexts r ≤ q → NodesCompared numbers nexts rep i r Clash
+    unfolding NodesCompared
     comparing-more a b = inr (λ cs ds k m e.
         let z = w .ahead cs ds k m in
         let (l, le, lp) = path-more nexts p (at nexts i) (z .left) (z .left-path) a in
@@ -123,8 +123,8 @@ module _ (numbers nexts rep : List ℕ) (i r : ℕ) where
         omega arith)
 
     -- fewer children of i than of r
-    pub comparing-fewer : at nexts i ≤ p → q < at nexts r → Compared numbers nexts rep i r Clash
-    unfolding Compared
+    pub comparing-fewer : at nexts i ≤ p → q < at nexts r → NodesCompared numbers nexts rep i r Clash
+    unfolding NodesCompared
     comparing-fewer a b = inr (λ cs ds k m e.
         let z = w .ahead cs ds k m in
         let (l, le, lp) = path-more nexts q (at nexts r) (z .right) (z .right-path) b in
@@ -132,8 +132,8 @@ module _ (numbers nexts rep : List ℕ) (i r : ℕ) where
         sym (ap length (path-end nexts p (at nexts i) (z .left) (z .left-path) a)) ∙ z .counts e ∙ ap length le in
         omega arith)
 
-    pub comparing-same : at nexts i ≤ p → at nexts r ≤ q → Compared numbers nexts rep i r Same
-    unfolding Compared
+    pub comparing-same : at nexts i ≤ p → at nexts r ≤ q → NodesCompared numbers nexts rep i r Same
+    unfolding NodesCompared
     comparing-same a b = (
       w .number,
       (λ cs ds k m.

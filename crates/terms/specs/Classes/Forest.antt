@@ -6,9 +6,9 @@ use Rattle.records.specs.Format.Syntax.Term.{var, app}
 use Rattle.records.specs.Format.Syntax.Terms.{nil, cons}
 
 -- one argument list after another
-abbrev pub joined : Terms → Terms → Terms
-joined nil us = us
-joined (cons t ts) us = cons t (joined ts us)
+abbrev pub joined-forest : Terms → Terms → Terms
+joined-forest nil us = us
+joined-forest (cons t ts) us = cons t (joined-forest ts us)
 
 -- how many nodes a term has, and an argument list
 abbrev mutual
@@ -31,27 +31,27 @@ abbrev mutual
   rows f (cons t ts) = row f t ++ rows f ts
 
 -- a node's kind: 1 for a variable, 2 + arity for a symbol
-abbrev pub kind-of : Term → ℕ
-kind-of (var v) = 1
-kind-of (app f ts) = 2 + arity ts
+abbrev pub term-kind : Term → ℕ
+term-kind (var v) = 1
+term-kind (app f ts) = 2 + arity ts
 
 -- the number of its variable or symbol
-abbrev pub number-of : Term → ℕ
-number-of (var v) = v
-number-of (app f ts) = f
+abbrev pub term-number : Term → ℕ
+term-number (var v) = v
+term-number (app f ts) = f
 
 -- what is left of a forest behind its first i nodes
-abbrev pub after : ℕ → Terms → Terms
-after zero ts = ts
-after (suc i) nil = nil
-after (suc i) (cons (var v) ts) = after i ts
-after (suc i) (cons (app f us) ts) = after i (joined us ts)
+abbrev pub forest-after : ℕ → Terms → Terms
+forest-after zero ts = ts
+forest-after (suc i) nil = nil
+forest-after (suc i) (cons (var v) ts) = forest-after i ts
+forest-after (suc i) (cons (app f us) ts) = forest-after i (joined-forest us ts)
 
 -- the first term of a forest
-abbrev pub first-term : Terms → Term
-first-term nil = var 0
-first-term (cons t ts) = t
+abbrev pub forest-first : Terms → Term
+forest-first nil = var 0
+forest-first (cons t ts) = t
 
 -- the term at node i of a forest
 abbrev pub term-at : Terms → ℕ → Term
-term-at ts i = first-term (after i ts)
+term-at ts i = forest-first (forest-after i ts)

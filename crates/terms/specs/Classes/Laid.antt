@@ -10,8 +10,8 @@ use Rattle.records.specs.Format.Formed.{TermFormed}
 use Rattle.records.specs.Writing.Patched.{Put}
 use Rattle.records.specs.declared.heads.TermHead.{TermHead}
 use Rattle.records.specs.declared.heads.TermHead.the-variants.{Variable, Symbol, NoTerm}
-use Rattle.terms.specs.Classes.Nodes.{at, Nodes, nodes, count, In, kind, number}
-use Rattle.terms.specs.Classes.Forest.{node-count, nodes-count, row, rows, kind-of, number-of, term-at}
+use Rattle.terms.specs.Classes.Nodes.{at, Nodes, nodes, count, In, kind, node-number}
+use Rattle.terms.specs.Classes.Forest.{node-count, nodes-count, row, rows, term-kind, term-number, term-at}
 use Rattle.terms.specs.declared.load.NodeHead.{NodeHead}
 use Rattle.terms.specs.declared.load.Places.{Places}
 
@@ -37,8 +37,8 @@ pub record Layable (a b kinds numbers nexts : List ℕ) : Type 0 where
 
 -- the kinds and numbers of t's nodes are written from `start` on
 pub record RowsPut (start : ℕ) (kinds numbers kinds′ numbers′ : List ℕ) (end : ℕ) (t : Term) : Type 0 where
-  pub kind-row : Put kinds start (row kind-of t) kinds′ end
-  pub number-row : Put numbers start (row number-of t) numbers′ end
+  pub kind-row : Put kinds start (row term-kind t) kinds′ end
+  pub number-row : Put numbers start (row term-number t) numbers′ end
 
 -- whatever term the bytes are
 pub record Loads (b : List ℕ) (start : ℕ) (kinds numbers kinds′ numbers′ : List ℕ) (end : ℕ) : Type 0 where
@@ -51,41 +51,41 @@ Linked ts nexts i = (j : ℕ) → i ≤ j → j < nodes-count ts → at nexts j 
 -- the kinds are those of a forest that is linked from node i on
 pub record Linkable (kinds nexts : List ℕ) (i : ℕ) : Type 0 where
   pub terms : Terms
-  pub same : kinds ≡ rows kind-of terms
+  pub same : kinds ≡ rows term-kind terms
   pub long : length nexts ≡ length kinds
   pub bound : i ≤ length kinds
   pub linked : Linked terms nexts i
 
 -- e is the first node behind the subtree of node i, whatever forest the kinds are of
 pub record Behind (kinds nexts : List ℕ) (i e : ℕ) : Type 0 where
-  pub each : (ts : Terms) → kinds ≡ rows kind-of ts → Linked ts nexts (i + 1) → e ≡ i + node-count (term-at ts i)
+  pub each : (ts : Terms) → kinds ≡ rows term-kind ts → Linked ts nexts (i + 1) → e ≡ i + node-count (term-at ts i)
 
 -- linked, whatever forest the kinds are of
 pub record Links (kinds nexts : List ℕ) (i : ℕ) : Type 0 where
-  pub each : (ts : Terms) → kinds ≡ rows kind-of ts → Linked ts nexts i
+  pub each : (ts : Terms) → kinds ≡ rows term-kind ts → Linked ts nexts i
 
 -- one term and then another
 abbrev pub pair : Term → Term → Terms
 pair s t = cons s (cons t nil)
 
 -- the table holds s from node 0 on and t from node m on
-pub record Laid (n : Nodes) (s t : Term) (m : ℕ) : Type 0 where
+pub record TermsLaid (n : Nodes) (s t : Term) (m : ℕ) : Type 0 where
   pub middle : m ≡ node-count s
   pub long : count n ≡ nodes-count (pair s t)
-  pub kinds : n .kinds ≡ rows kind-of (pair s t)
-  pub numbers : n .numbers ≡ rows number-of (pair s t)
+  pub kinds : n .kinds ≡ rows term-kind (pair s t)
+  pub numbers : n .numbers ≡ rows term-number (pair s t)
   pub linked : Linked (pair s t) (n .nexts) 0
 
 -- kinds and numbers are as small as well-formed terms have them
-pub record Small (n : Nodes) : Type 0 where
+pub record SmallNodes (n : Nodes) : Type 0 where
   pub kinds : (i : ℕ) → In n i → kind n i ≤ 18
-  pub numbers : (i : ℕ) → In n i → number n i < 65536
+  pub numbers : (i : ℕ) → In n i → node-number n i < 65536
 
 -- the first nodes of the tables hold the two terms, whatever terms the bytes are
 pub record Lay (kinds numbers nexts : List ℕ) (p : Places) (s t : Term) : Type 0 where
   pub fits : p .count ≤ length kinds
   pub all : p .count ≡ nodes-count (pair s t)
-  pub laid : Laid (nodes (take (p .count) kinds) (take (p .count) numbers) (take (p .count) nexts)) s t (p .middle)
+  pub laid : TermsLaid (nodes (take (p .count) kinds) (take (p .count) numbers) (take (p .count) nexts)) s t (p .middle)
 
 pub record Lays (a b kinds numbers nexts : List ℕ) (p : Places) : Type 0 where
   pub each : (s t : Term) → TermFormed s → TermFormed t → a ≡ term-bytes s → b ≡ term-bytes t → Lay kinds numbers nexts p s t

@@ -9,7 +9,7 @@ use Rattle.records.specs.Format.Syntax.{Term}
 use Rattle.records.specs.Format.Encode.{term-bytes}
 use Rattle.records.specs.Format.Formed.{TermFormed}
 use Rattle.records.specs.Writing.Patched.{Put, put-then, put-front}
-use Rattle.terms.specs.Classes.Forest.{node-count, row, rows, kind-of, number-of}
+use Rattle.terms.specs.Classes.Forest.{node-count, row, rows, term-kind, term-number}
 use Rattle.terms.specs.Classes.ForestLaws.{row-length, rows-length, count-bytes}
 use Rattle.terms.specs.Classes.Laid.{Loads, Layable, Linkable, Links, pair, Lays}
 
@@ -30,7 +30,7 @@ module _ (a b kinds₀ numbers₀ nexts : List ℕ) (layable : Layable a b kinds
     (first : Loads a 0 kinds₀ numbers₀ kinds₁ numbers₁ m) where
   -- where the second term starts, and the room that is left for it
   middle-is : (s : Term) → TermFormed s → a ≡ term-bytes s → m ≡ node-count s
-  middle-is s f e = omega (arith, first .each s f e .kind-row .place, row-length kind-of s)
+  middle-is s f e = omega (arith, first .each s f e .kind-row .place, row-length term-kind s)
 
   pub second-room : length kinds₁ ≡ length kinds₀ → 3 * m + length b ≤ 3 * length kinds₁
   second-room k =
@@ -40,18 +40,18 @@ module _ (a b kinds₀ numbers₀ nexts : List ℕ) (layable : Layable a b kinds
   module _ (kinds numbers : List ℕ) (c : ℕ) (second : Loads b m kinds₁ numbers₁ kinds numbers c) (kept : length kinds ≡ length kinds₀) where
     module _ (s t : Term) (f : TermFormed s) (g : TermFormed t) (p : a ≡ term-bytes s) (q : b ≡ term-bytes t) where
       count-is : c ≡ node-count s + node-count t
-      count-is = omega (arith, middle-is s f p, second .each t g q .kind-row .place, row-length kind-of t)
+      count-is = omega (arith, middle-is s f p, second .each t g q .kind-row .place, row-length term-kind t)
 
       fits : node-count s + node-count t ≤ length kinds₀
       fits = omega (arith, layable .room, count-bytes s, count-bytes t, ap length p, ap length q)
 
-      kinds-are : take c kinds ≡ rows kind-of (pair s t)
-      kinds-are = pair-front kind-of s t kinds₀ kinds₁ kinds m c (first .each s f p .kind-row) (second .each t g q .kind-row) fits
+      kinds-are : take c kinds ≡ rows term-kind (pair s t)
+      kinds-are = pair-front term-kind s t kinds₀ kinds₁ kinds m c (first .each s f p .kind-row) (second .each t g q .kind-row) fits
 
-      numbers-are : take c numbers ≡ rows number-of (pair s t)
+      numbers-are : take c numbers ≡ rows term-number (pair s t)
       numbers-are =
           let h = fits in
-          pair-front number-of s t numbers₀ numbers₁ numbers m c (first .each s f p .number-row) (second .each t g q .number-row)
+          pair-front term-number s t numbers₀ numbers₁ numbers m c (first .each s f p .number-row) (second .each t g q .number-row)
           (omega (arith, layable .numbers-long))
 
     pub count-fits : (c ≤ length kinds) × (c ≤ length nexts)
@@ -76,7 +76,7 @@ module _ (a b kinds₀ numbers₀ nexts : List ℕ) (layable : Layable a b kinds
           same = e;
           long = omega arith;
           bound = omega arith;
-          linked = λ j x y. absurd (omega (arith, ap length e, rows-length kind-of (pair (v .term) (w .term))));
+          linked = λ j x y. absurd (omega (arith, ap length e, rows-length term-kind (pair (v .term) (w .term))));
         }
 
     pub pair-laid : (part : List ℕ) → length part ≡ length (take c nexts) → Links (take c kinds) part 0

@@ -12,14 +12,14 @@ use Rattle.records.specs.Format.Syntax.Terms.{nil, cons}
 use Rattle.records.specs.Format.Formed.{All}
 use Rattle.terms.specs.Theory.Substitution.{term-length}
 use Rattle.terms.specs.Theory.Variables.{Listed}
-use Rattle.terms.specs.Classes.Nodes.{at, Nodes, count, In, number, IsVariable, IsSymbol, Children, Nested, Graph}
+use Rattle.terms.specs.Classes.Nodes.{at, Nodes, count, In, node-number, IsVariable, IsSymbol, Children, Nested, Graph}
 use Rattle.terms.specs.Classes.ClassState.{Apart, Finished}
 
 -- t is the term of the class that r represents
 abbrev mutual
   pub Expansion : Nodes → (ℕ → List ℕ) → (ℕ → ℕ) → ℕ → Term → Type 0
-  Expansion n children rep r (var x) = IsVariable n r × (x ≡ number n r)
-  Expansion n children rep r (app f ts) = IsSymbol n r × (f ≡ number n r) × Expansions n children rep (children r) ts
+  Expansion n children rep r (var x) = IsVariable n r × (x ≡ node-number n r)
+  Expansion n children rep r (app f ts) = IsSymbol n r × (f ≡ node-number n r) × Expansions n children rep (children r) ts
 
   pub Expansions : Nodes → (ℕ → List ℕ) → (ℕ → ℕ) → List ℕ → Terms → Type 0
   Expansions n children rep cs nil = cs ≡ []
@@ -40,8 +40,8 @@ total rep size [] = 0
 total rep size (c ∷ cs) = at size (at rep c) + total rep size cs
 
 -- the lengths of the classes of these nodes are known
-abbrev pub Known : List ℕ → List ℕ → List ℕ → Type 0
-Known rep size cs = All (λ c. at size (at rep c) ≡ 0 → ⊥) cs
+abbrev pub LengthsKnown : List ℕ → List ℕ → List ℕ → Type 0
+LengthsKnown rep size cs = All (λ c. at size (at rep c) ≡ 0 → ⊥) cs
 
 -- what weighing rests on
 pub record Weighable (kinds nexts rep size : List ℕ) : Type 0 where
@@ -62,7 +62,7 @@ pub record Weighs (kinds nexts rep size : List ℕ) (r w : ℕ) : Type 0 where
   pub positive : 0 < w
   pub capped : w ≤ length-cap
   pub variables : (2 ≤ at kinds r → ⊥) → w ≡ 3
-  pub symbols : 2 ≤ at kinds r → (cs : List ℕ) → Children nexts r cs → Known rep size cs × (w ≡ min length-cap (4 + total rep size cs))
+  pub symbols : 2 ≤ at kinds r → (cs : List ℕ) → Children nexts r cs → LengthsKnown rep size cs × (w ≡ min length-cap (4 + total rep size cs))
 
 -- what weighing r gives: its length, or 0 where r waits
 unfoldable pub Weighed : List ℕ → List ℕ → List ℕ → List ℕ → ℕ → ℕ → Type 0
@@ -78,8 +78,8 @@ Offered kinds nexts rep size i w =
     ((w ≡ 0) × (Open rep size i → Waits kinds nexts rep size i)) ⊎ (Open rep size i × Weighs kinds nexts rep size i w)
 
 -- a known length is that of the class's term
-abbrev pub Measured : Nodes → List ℕ → List ℕ → Type 0
-Measured n rep size =
+abbrev pub ClassesMeasured : Nodes → List ℕ → List ℕ → Type 0
+ClassesMeasured n rep size =
     (r : ℕ) → In n r → (at size r ≡ 0 → ⊥) → (children : ℕ → List ℕ) (term : ℕ → Term) → Graph n children term
     → (t : Term) × Expansion n children (at rep) r t × (at size r ≡ min length-cap (term-length t))
 
@@ -88,7 +88,7 @@ pub record Measuring (n : Nodes) (rep size : List ℕ) (i : ℕ) : Type 0 where
   pub long : length size ≡ count n
   pub bound : i ≤ count n
   pub capped : Capped size
-  pub measured : Measured n rep size
+  pub measured : ClassesMeasured n rep size
   pub waits : (k : ℕ) → k < i → Open rep size k → Waits (n .kinds) (n .nexts) rep size k
 
 -- before measuring nothing is known

@@ -12,8 +12,8 @@ use Rattle.records.specs.Format.Formed.{TermFormed, TermsFormed}
 use Rattle.records.specs.Writing.Patched.{Put, put-none, put-set, put-then}
 use Rattle.records.specs.Format.Heads.{term-head-at}
 use Rattle.records.specs.Ends.Stands.{Stands, stands-first, stands-second, stands-within, term-stands, head-of-term}
-use Rattle.terms.specs.Classes.Forest.{joined, row, rows, kind-of, number-of}
-use Rattle.terms.specs.Classes.ForestLaws.{joined-bytes, joined-rows, joined-formed, count-bytes, count-positive}
+use Rattle.terms.specs.Classes.Forest.{joined-forest, row, rows, term-kind, term-number}
+use Rattle.terms.specs.Classes.ForestLaws.{joined-forest-bytes, joined-rows, joined-formed, count-bytes, count-positive}
 use Rattle.terms.specs.Classes.Laid.{head-of, IsValue, RowsPut, Loads}
 use Rattle.terms.specs.declared.load.NodeHead.{NodeHead}
 
@@ -22,23 +22,23 @@ drop-all : (b : List ℕ) → drop (length b) b ≡ []
 drop-all b = drop-of-length-le b {i = length b} (omega arith)
 
 -- the numbers of t's nodes up to those that are left are written
-pub record Filling (f : Term → ℕ) (t : Term) (left : Terms) (old : List ℕ) (start : ℕ) (new : List ℕ) (i : ℕ) : Type 0 where
+pub record RowLoading (f : Term → ℕ) (t : Term) (left : Terms) (old : List ℕ) (start : ℕ) (new : List ℕ) (i : ℕ) : Type 0 where
   pub done : List ℕ
   pub put : Put old start done new i
   pub all : done ++ rows f left ≡ row f t
 
-filling-start : (f : Term → ℕ) (t : Term) (old : List ℕ) (start : ℕ) → Filling f t (cons t nil) old start old start
+filling-start : (f : Term → ℕ) (t : Term) (old : List ℕ) (start : ℕ) → RowLoading f t (cons t nil) old start old start
 filling-start f t old start = record { done = []; put = put-none; all = append-nil (row f t) }
 
 filling-step : (f : Term → ℕ) (t : Term) (left left′ : Terms) (old : List ℕ) (start : ℕ) (new : List ℕ) (i x : ℕ) → rows f left ≡ x ∷ rows f left′
-    → Filling f t left old start new i → Filling f t left′ old start (set new i x) (i + 1)
+    → RowLoading f t left old start new i → RowLoading f t left′ old start (set new i x) (i + 1)
 filling-step f t left left′ old start new i x e h = record {
   done = h .done ++ (x ∷ []);
   put = put-then (h .put) put-set;
   all = append-assoc (h .done) (x ∷ []) (rows f left′) ∙ ap (λ l. h .done ++ l) (sym e) ∙ h .all;
 }
 
-filling-end : (f : Term → ℕ) (t : Term) (old : List ℕ) (start : ℕ) (new : List ℕ) (i : ℕ) → Filling f t nil old start new i → Put old start (row f t) new i
+filling-end : (f : Term → ℕ) (t : Term) (old : List ℕ) (start : ℕ) (new : List ℕ) (i : ℕ) → RowLoading f t nil old start new i → Put old start (row f t) new i
 filling-end f t old start new i h = rw (sym (sym (append-nil (h .done)) ∙ h .all)) (h .put)
 
 -- t's bytes from p on are those of what is left of it, and the nodes before are written
@@ -46,8 +46,8 @@ pub record Loading (b kinds₀ numbers₀ : List ℕ) (start : ℕ) (kinds numbe
   pub left : Terms
   pub formed : TermsFormed left
   pub stands : Stands b p (terms-bytes left) (length b)
-  pub kind-row : Filling kind-of t left kinds₀ start kinds i
-  pub number-row : Filling number-of t left numbers₀ start numbers i
+  pub kind-row : RowLoading term-kind t left kinds₀ start kinds i
+  pub number-row : RowLoading term-number t left numbers₀ start numbers i
 
 module _ (b kinds₀ numbers₀ : List ℕ) (start : ℕ) where
   pub loading-start : (t : Term) → TermFormed t → b ≡ term-bytes t → Loading b kinds₀ numbers₀ start kinds₀ numbers₀ start 0 t
@@ -55,8 +55,8 @@ module _ (b kinds₀ numbers₀ : List ℕ) (start : ℕ) where
     left = cons t nil;
     formed = (f, tt);
     stands = whole;
-    kind-row = filling-start kind-of t kinds₀ start;
-    number-row = filling-start number-of t numbers₀ start;
+    kind-row = filling-start term-kind t kinds₀ start;
+    number-row = filling-start term-number t numbers₀ start;
   }
     where
       whole : Stands b 0 (term-bytes t ++ []) (length b)
@@ -74,8 +74,8 @@ module _ (b kinds₀ numbers₀ : List ℕ) (start : ℕ) where
       where
         step : (u : Term) (left′ : Terms) → term-head-at b p ≡ head-of-term u → TermsFormed left′ → (x : List ℕ) → Stands b p (x ++ terms-bytes left′) (length b)
             → length x ≡ head-of (head-of-term u) .size → 3 ≤ length x
-            → Filling kind-of t left′ kinds₀ start (set kinds i (kind-of u)) (i + 1) → Filling number-of t left′ numbers₀ start (set numbers i (number-of u)) (i + 1)
-            → head-of (head-of-term u) .kind ≡ kind-of u → head-of (head-of-term u) .number ≡ number-of u → HeadStep h
+            → RowLoading term-kind t left′ kinds₀ start (set kinds i (term-kind u)) (i + 1) → RowLoading term-number t left′ numbers₀ start (set numbers i (term-number u)) (i + 1)
+            → head-of (head-of-term u) .kind ≡ term-kind u → head-of (head-of-term u) .number ≡ term-number u → HeadStep h
         step u left′ e f x w s o k m a c =
             let q : h ≡ head-of (head-of-term u) = is ∙ ap head-of e in
             let first = stands-first x (terms-bytes left′) w in
@@ -92,24 +92,24 @@ module _ (b kinds₀ numbers₀ : List ℕ) (start : ℕ) where
             })
 
         go : (left : Terms) → TermsFormed left → Stands b p (terms-bytes left) (length b)
-            → Filling kind-of t left kinds₀ start kinds i → Filling number-of t left numbers₀ start numbers i → HeadStep h
+            → RowLoading term-kind t left kinds₀ start kinds i → RowLoading term-number t left numbers₀ start numbers i → HeadStep h
         go nil f w k m = absurd (omega (arith, w .end))
         go (cons (var v) ts) f w k m =
             step (var v) ts (term-stands (var v) (f .0) (stands-first (term-bytes (var v)) (terms-bytes ts) w)) (f .1) (term-bytes (var v)) w refl (omega arith)
-            (filling-step kind-of t (cons (var v) ts) ts kinds₀ start kinds i 1 refl k)
-            (filling-step number-of t (cons (var v) ts) ts numbers₀ start numbers i v refl m) refl refl
+            (filling-step term-kind t (cons (var v) ts) ts kinds₀ start kinds i 1 refl k)
+            (filling-step term-number t (cons (var v) ts) ts numbers₀ start numbers i v refl m) refl refl
         go (cons (app g us) ts) f w k m =
-            step (app g us) (joined us ts) (term-stands (app g us) (f .0) (stands-first (term-bytes (app g us)) (terms-bytes ts) w))
-            (joined-formed us ts (f .0 .2) (f .1)) (0x02 ∷ (word g ++ (arity us ∷ []))) (rw joined-bytes w) refl (omega arith)
-            (filling-step kind-of t (cons (app g us) ts) (joined us ts) kinds₀ start kinds i (2 + arity us) (ap (λ l. (2 + arity us) ∷ l) (sym (joined-rows kind-of us ts))) k)
-            (filling-step number-of t (cons (app g us) ts) (joined us ts) numbers₀ start numbers i g (ap (λ l. g ∷ l) (sym (joined-rows number-of us ts))) m) refl refl
+            step (app g us) (joined-forest us ts) (term-stands (app g us) (f .0) (stands-first (term-bytes (app g us)) (terms-bytes ts) w))
+            (joined-formed us ts (f .0 .2) (f .1)) (0x02 ∷ (word g ++ (arity us ∷ []))) (rw joined-forest-bytes w) refl (omega arith)
+            (filling-step term-kind t (cons (app g us) ts) (joined-forest us ts) kinds₀ start kinds i (2 + arity us) (ap (λ l. (2 + arity us) ∷ l) (sym (joined-rows term-kind us ts))) k)
+            (filling-step term-number t (cons (app g us) ts) (joined-forest us ts) numbers₀ start numbers i g (ap (λ l. g ∷ l) (sym (joined-rows term-number us ts))) m) refl refl
 
     pub loading-end : Loading b kinds₀ numbers₀ start kinds numbers i p t → length b ≤ p → RowsPut start kinds₀ numbers₀ kinds numbers i t
     loading-end l le = go (l .left) (l .stands) (l .kind-row) (l .number-row)
       where
-        go : (left : Terms) → Stands b p (terms-bytes left) (length b) → Filling kind-of t left kinds₀ start kinds i
-            → Filling number-of t left numbers₀ start numbers i → RowsPut start kinds₀ numbers₀ kinds numbers i t
-        go nil w k m = record { kind-row = filling-end kind-of t kinds₀ start kinds i k; number-row = filling-end number-of t numbers₀ start numbers i m }
+        go : (left : Terms) → Stands b p (terms-bytes left) (length b) → RowLoading term-kind t left kinds₀ start kinds i
+            → RowLoading term-number t left numbers₀ start numbers i → RowsPut start kinds₀ numbers₀ kinds numbers i t
+        go nil w k m = record { kind-row = filling-end term-kind t kinds₀ start kinds i k; number-row = filling-end term-number t numbers₀ start numbers i m }
         go (cons u ts) w k m =
             let z = count-bytes u in
             let y = count-positive u in

@@ -28,8 +28,8 @@ abbrev pub kind : Nodes → ℕ → ℕ
 kind n i = at (n .kinds) i
 
 -- node i's number
-abbrev pub number : Nodes → ℕ → ℕ
-number n i = at (n .numbers) i
+abbrev pub node-number : Nodes → ℕ → ℕ
+node-number n i = at (n .numbers) i
 
 -- node i is a variable
 abbrev pub IsVariable : Nodes → ℕ → Type 0
@@ -74,11 +74,11 @@ terms-at term [] = nil
 terms-at term (c ∷ cs) = cons (term c) (terms-at term cs)
 
 -- `term` gives the term at node i, and `children` its children
-pub data Node (n : Nodes) (children : ℕ → List ℕ) (term : ℕ → Term) (i : ℕ) : Type 0 where
-  variable : IsVariable n i → term i ≡ var (number n i) → Node n children term i
-  symbol : kind n i ≡ 2 + length (children i) → term i ≡ app (number n i) (terms-at term (children i)) → All (In n) (children i) → Node n children term i
+pub data TableNode (n : Nodes) (children : ℕ → List ℕ) (term : ℕ → Term) (i : ℕ) : Type 0 where
+  variable : IsVariable n i → term i ≡ var (node-number n i) → TableNode n children term i
+  symbol : kind n i ≡ 2 + length (children i) → term i ≡ app (node-number n i) (terms-at term (children i)) → All (In n) (children i) → TableNode n children term i
 
 -- the table holds these terms
 pub record Graph (n : Nodes) (children : ℕ → List ℕ) (term : ℕ → Term) : Type 0 where
-  pub node : (i : ℕ) → In n i → Node n children term i
+  pub node : (i : ℕ) → In n i → TableNode n children term i
   pub path : (i : ℕ) → In n i → IsSymbol n i → Children (n .nexts) i (children i)

@@ -10,7 +10,7 @@ use lib.ListN.{length, set, length-set}
 use lib.Seq.{getD-set-same, getD-set-other}
 use Rattle.records.specs.Format.Syntax.{Term}
 use Rattle.terms.specs.Theory.Substitution.{substitute}
-use Rattle.terms.specs.Classes.Nodes.{at, Nodes, number, In, IsSymbol}
+use Rattle.terms.specs.Classes.Nodes.{at, Nodes, node-number, In, IsSymbol}
 use Rattle.terms.specs.Classes.ClassState.{Forced, Better, Partition, merged, Relabelled, roots}
 
 pub merged-same : (a b x : ℕ) → x ≡ b → merged a b x ≡ a
@@ -131,7 +131,7 @@ module _ (n : Nodes) (s t : ℕ) (old new : List ℕ) (a b : ℕ) (partition : P
         let nb : IsSymbol n b → ⊥ = λ z. na (best .symbols z) in
         let x = best .variables nb na in
         let y = h .variables k (λ z. nb (subst (IsSymbol n) p z)) in
-        omega (arith, ap (number n) q, ap (number n) p);
+        omega (arith, ap (node-number n) q, ap (node-number n) p);
   }
 
   pub relabelled-partition : Better n a b → Forced n s t a b → Partition n s t new

@@ -11,15 +11,16 @@ use Rattle.records.specs.Format.Syntax.{Term, Terms}
 use Rattle.records.specs.Format.Syntax.Term.{var, app}
 use Rattle.records.specs.Format.Syntax.Terms.{nil, cons}
 use Rattle.records.specs.Format.Formed.{All}
+use Rattle.records.specs.Ends.Above.{above}
 use Rattle.terms.specs.Theory.Substitution.{Substitution}
-use Rattle.terms.specs.Theory.Variables.{above, both-variables}
+use Rattle.terms.specs.Theory.Variables.{both-variables}
 use Rattle.terms.specs.Theory.Unify.{bindings, unify}
 use Rattle.terms.specs.Theory.MostGeneral.{MostGeneral}
 use Rattle.terms.specs.Theory.UnifyLaws.{is-unify, most-general-unify}
-use Rattle.terms.specs.Classes.Nodes.{at, Nodes, count, In, number, IsVariable, IsSymbol, Children, terms-at, Node, variable, symbol, Graph}
+use Rattle.terms.specs.Classes.Nodes.{at, Nodes, count, In, node-number, IsVariable, IsSymbol, Children, terms-at, TableNode, variable, symbol, Graph}
 use Rattle.terms.specs.Classes.Classes.{Closed, Expands, Met, Reads}
 use Rattle.terms.specs.Classes.ClassesLaws.{closed-most-general}
-use Rattle.terms.specs.Classes.ClassState.{Apart, State, Compared, Finished, Ended}
+use Rattle.terms.specs.Classes.ClassState.{Apart, State, NodesCompared, Finished, Ended}
 use Rattle.terms.specs.Classes.Lengths.{Expansion, Expansions, Measuring, Checked, Solution, Solved}
 use Rattle.terms.specs.Classes.MeasureLaws.{waiting-apart}
 
@@ -44,7 +45,7 @@ module _ (n : Nodes) (children : ℕ → List ℕ) (rep : ℕ → ℕ) where
         (expansions-unique ts (p .1) us (p .4) (subst (λ l. Expansions n children rep l us) (sym e₁) (q .4)))
 
   -- a function that gives each class its term
-  module _ (inside : (i : ℕ) → In n i → In n (rep i)) (term : ℕ → Term) (node : (i : ℕ) → In n i → Node n children term i)
+  module _ (inside : (i : ℕ) → In n i → In n (rep i)) (term : ℕ → Term) (node : (i : ℕ) → In n i → TableNode n children term i)
       (expansion : ℕ → Term) (h : (i : ℕ) → In n i → Expansion n children rep (rep i) (expansion (rep i))) where
     expansions-at : (cs : List ℕ) → All (In n) cs → Expansions n children rep cs (terms-at expansion (map rep cs))
     expansions-at [] k = refl
@@ -53,12 +54,12 @@ module _ (n : Nodes) (children : ℕ → List ℕ) (rep : ℕ → ℕ) where
     pub expansion-expands : Expands n children rep expansion
     expansion-expands = record { variables = lone; symbols = full }
       where
-        lone : (i : ℕ) → In n i → IsVariable n (rep i) → expansion (rep i) ≡ var (number n (rep i))
-        lone i l a = expansion-unique (expansion (rep i)) (rep i) (var (number n (rep i))) (h i l) (a, refl)
+        lone : (i : ℕ) → In n i → IsVariable n (rep i) → expansion (rep i) ≡ var (node-number n (rep i))
+        lone i l a = expansion-unique (expansion (rep i)) (rep i) (var (node-number n (rep i))) (h i l) (a, refl)
 
-        full : (i : ℕ) → In n i → IsSymbol n (rep i) → expansion (rep i) ≡ app (number n (rep i)) (terms-at expansion (map rep (children (rep i))))
+        full : (i : ℕ) → In n i → IsSymbol n (rep i) → expansion (rep i) ≡ app (node-number n (rep i)) (terms-at expansion (map rep (children (rep i))))
         full i l a =
-            expansion-unique (expansion (rep i)) (rep i) (app (number n (rep i)) (terms-at expansion (map rep (children (rep i))))) (h i l) (
+            expansion-unique (expansion (rep i)) (rep i) (app (node-number n (rep i)) (terms-at expansion (map rep (children (rep i))))) (h i l) (
               a,
               refl,
               elim (node (rep i) (inside i l)) [
@@ -69,24 +70,24 @@ module _ (n : Nodes) (children : ℕ → List ℕ) (rep : ℕ → ℕ) where
 
 -- whether x is the variable of a node
 abbrev pub Unmet : Nodes → ℕ → ℕ → Type 0
-Unmet n x m = (i : ℕ) → i < m → IsVariable n i → number n i ≡ x → ⊥
+Unmet n x m = (i : ℕ) → i < m → IsVariable n i → node-number n i ≡ x → ⊥
 
-pub met? : (n : Nodes) (x m : ℕ) → ((i : ℕ) × (i < m) × IsVariable n i × (number n i ≡ x)) ⊎ Unmet n x m
+pub met? : (n : Nodes) (x m : ℕ) → ((i : ℕ) × (i < m) × IsVariable n i × (node-number n i ≡ x)) ⊎ Unmet n x m
 met? n x zero = inr (λ i l. absurd (omega arith))
-met? n x (suc m) = go (met? n x m) (ℕ-discrete (at (n .kinds) m) 1) (ℕ-discrete (number n m) x)
+met? n x (suc m) = go (met? n x m) (ℕ-discrete (at (n .kinds) m) 1) (ℕ-discrete (node-number n m) x)
   where
-    go : ((i : ℕ) × (i < m) × IsVariable n i × (number n i ≡ x)) ⊎ Unmet n x m → Dec (IsVariable n m) → Dec (number n m ≡ x)
-        → ((i : ℕ) × (i < suc m) × IsVariable n i × (number n i ≡ x)) ⊎ Unmet n x (suc m)
+    go : ((i : ℕ) × (i < m) × IsVariable n i × (node-number n i ≡ x)) ⊎ Unmet n x m → Dec (IsVariable n m) → Dec (node-number n m ≡ x)
+        → ((i : ℕ) × (i < suc m) × IsVariable n i × (node-number n i ≡ x)) ⊎ Unmet n x (suc m)
     go (inl p) d e = inl (p .0, omega (arith, p .1), p .2, p .3)
     go (inr f) (yes a) (yes b) = inl (m, omega arith, a, b)
     go (inr f) (no a) e = inr (λ i l p q. elim (ℕ-discrete i m) [ yes k ↦ a (ap (at (n .kinds)) (sym k) ∙ p) | no k ↦ f i (omega arith) p q ])
-    go (inr f) (yes a) (no b) = inr (λ i l p q. elim (ℕ-discrete i m) [ yes k ↦ b (ap (number n) (sym k) ∙ q) | no k ↦ f i (omega arith) p q ])
+    go (inr f) (yes a) (no b) = inr (λ i l p q. elim (ℕ-discrete i m) [ yes k ↦ b (ap (node-number n) (sym k) ∙ q) | no k ↦ f i (omega arith) p q ])
 
 module _ (n : Nodes) (s t : ℕ) (rep : List ℕ) (f : Finished n s t rep) (children : ℕ → List ℕ) (term : ℕ → Term) (g : Graph n children term) where
   settled : (i : ℕ) → In n i → IsSymbol n i
-      → (number n i ≡ number n (at rep i))
+      → (node-number n i ≡ node-number n (at rep i))
       × ((cs ds : List ℕ) → Children (n .nexts) i cs → Children (n .nexts) (at rep i) ds → map (at rep) cs ≡ map (at rep) ds)
-  unfolding Compared
+  unfolding NodesCompared
   settled i l a = f .settled i l a
 
   pub finished-closed : Closed n children s t (at rep)
@@ -138,8 +139,8 @@ module _ (n : Nodes) (s t : ℕ) (rep size : List ℕ) (solution : Solution n s 
   pub found : Substitution
   found x = found-by x (met? n x (count n))
 
-  found-by-met : (i : ℕ) → In n i → IsVariable n i → (d : Met n (number n i) ⊎ Unmet n (number n i) (count n))
-      → found-by (number n i) d ≡ class-term (at rep i)
+  found-by-met : (i : ℕ) → In n i → IsVariable n i → (d : Met n (node-number n i) ⊎ Unmet n (node-number n i) (count n))
+      → found-by (node-number n i) d ≡ class-term (at rep i)
   unfolding found-by
   found-by-met i l a (inl p) = ap class-term (solution .finished .state .partition .shared (p .0) i (p .1) l (p .2) a (p .3))
   found-by-met i l a (inr h) = absurd (h i l a refl)
@@ -152,7 +153,7 @@ module _ (n : Nodes) (s t : ℕ) (rep size : List ℕ) (solution : Solution n s 
   found-reads : Reads n (at rep) class-term found
   unfolding found
   found-reads = record {
-    met = λ i l a. found-by-met i l a (met? n (number n i) (count n));
+    met = λ i l a. found-by-met i l a (met? n (node-number n i) (count n));
     each = λ x. found-by-each x (met? n x (count n));
   }
 
@@ -167,7 +168,7 @@ module _ (n : Nodes) (s t : ℕ) (rep size : List ℕ) (solution : Solution n s 
       (λ θ u i l. solution .finished .state .partition .sound i l children term g θ u)
 
   -- it gives each variable of the nodes the term of its class
-  pub found-expansion : (i : ℕ) → In n i → IsVariable n i → Expansion n children (at rep) (at rep i) (found (number n i))
+  pub found-expansion : (i : ℕ) → In n i → IsVariable n i → Expansion n children (at rep) (at rep i) (found (node-number n i))
   found-expansion i l a = subst (Expansion n children (at rep) (at rep i)) (sym (found-reads .met i l a)) (class-expansion i l)
 
   -- and leaves the others

@@ -12,9 +12,9 @@ use Rattle.records.specs.Format.Formed.{All}
 use Rattle.terms.specs.Theory.Substitution.{term-length, terms-length}
 use Rattle.terms.specs.Theory.SubstitutionLaws.{terms-length-cons}
 use Rattle.terms.specs.Theory.Variables.{Listed}
-use Rattle.terms.specs.Classes.Nodes.{at, Nodes, In, number, Path, Children, variable, symbol, Graph}
+use Rattle.terms.specs.Classes.Nodes.{at, Nodes, In, node-number, Path, Children, variable, symbol, Graph}
 use Rattle.terms.specs.Classes.CompareLaws.{path-more, path-end}
-use Rattle.terms.specs.Classes.Lengths.{Expansion, Expansions, length-cap, total, Known, Weighable, Weighs, Weighed, Measured}
+use Rattle.terms.specs.Classes.Lengths.{Expansion, Expansions, length-cap, total, LengthsKnown, Weighable, Weighs, Weighed, ClassesMeasured}
 
 -- a variable is three bytes
 pub variable-weighed : (kinds nexts rep size : List ℕ) (r : ℕ) → (2 ≤ at kinds r → ⊥) → Weighed kinds nexts rep size r 3
@@ -26,7 +26,7 @@ variable-weighed kinds nexts rep size r h =
 pub record Unweighed (nexts rep size : List ℕ) (e p w : ℕ) (cs : List ℕ) : Type 0 where
   pub left : List ℕ
   pub path : Path nexts p e left
-  pub known : Known rep size left → Known rep size cs
+  pub known : LengthsKnown rep size left → LengthsKnown rep size cs
   pub sum : min length-cap (w + total rep size left) ≡ min length-cap (4 + total rep size cs)
   pub listed : (c : ℕ) → Listed c left → Listed c cs
 
@@ -57,7 +57,7 @@ unweighed-step nexts rep size e p w cs h l k v q =
     record {
       left = m;
       path = mp;
-      known = λ z. h .known (subst (Known rep size) (sym me) (k, z));
+      known = λ z. h .known (subst (LengthsKnown rep size) (sym me) (k, z));
       sum = omega (arith, h .sum);
       listed = λ c z. h .listed c (subst (Listed c) (sym me) (inr z));
     }
@@ -110,13 +110,13 @@ module _ (kinds nexts rep size : List ℕ) (r p w : ℕ) (c : Weighable kinds ne
         let f = h .rest cs k in
         let e : f .left ≡ [] = path-end nexts p (at nexts r) (f .left) (f .path) l in
         let s : total rep size (f .left) ≡ 0 = ap (total rep size) e in
-        (f .known (subst (Known rep size) (sym e) tt), omega (arith, f .sum, h .w-high));
+        (f .known (subst (LengthsKnown rep size) (sym e) tt), omega (arith, f .sum, h .w-high));
   })
 
 -- what is weighed is the length of the class's term
-module _ (n : Nodes) (rep size : List ℕ) (m : Measured n rep size) (inside : (i : ℕ) → In n i → In n (at rep i))
+module _ (n : Nodes) (rep size : List ℕ) (m : ClassesMeasured n rep size) (inside : (i : ℕ) → In n i → In n (at rep i))
     (children : ℕ → List ℕ) (term : ℕ → Term) (g : Graph n children term) where
-  known-expansions : (cs : List ℕ) → All (In n) cs → Known rep size cs
+  known-expansions : (cs : List ℕ) → All (In n) cs → LengthsKnown rep size cs
       → (ts : Terms) × Expansions n children (at rep) cs ts × (min length-cap (total rep size cs) ≡ min length-cap (terms-length ts))
   known-expansions [] k d = (nil, refl, refl)
   known-expansions (c ∷ cs) k d =
@@ -127,9 +127,9 @@ module _ (n : Nodes) (rep size : List ℕ) (m : Measured n rep size) (inside : (
   pub weighs-expansion : (r w : ℕ) → In n r → Weighs (n .kinds) (n .nexts) rep size r w
       → (t : Term) × Expansion n children (at rep) r t × (w ≡ min length-cap (term-length t))
   weighs-expansion r w l h = elim (g .node r l) [
-    | variable a q ↦ (var (number n r), (a, refl), h .variables (λ z. omega arith))
+    | variable a q ↦ (var (node-number n r), (a, refl), h .variables (λ z. omega arith))
     | symbol a q k ↦
         (let x = h .symbols (omega arith) (children r) (g .path r l (omega arith)) in
         let y = known-expansions (children r) k (x .0) in
-        (app (number n r) (y .0), (omega arith, refl, y .1), omega (arith, x .1, y .2)))
+        (app (node-number n r) (y .0), (omega arith, refl, y .1), omega (arith, x .1, y .2)))
   ]

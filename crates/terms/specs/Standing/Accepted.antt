@@ -2,21 +2,21 @@
 -- of a program. Each is an abbreviation, so that its tree is seen to be the one that was read.
 use mathlib.Core.Path.{_≡_, refl, sym, _∙_}
 use mathlib.Core.Bool.{true}
-use mathlib.Core.List.{List, _∷_, _++_}
+use mathlib.Core.List.{List, _∷_}
 use Prim.Native.Nat.{ℕ, _+_}
 use lib.ListN.{length}
 use Rattle.records.specs.Format.Syntax.{Term, Terms, Goal, Ancestor, Bet, Port, Event, Definition}
 use Rattle.records.specs.Format.Syntax.Goal.{equal, atom}
 use Rattle.records.specs.Format.Syntax.Ancestor.{called}
 use Rattle.records.specs.Format.Syntax.Event.{event}
-use Rattle.records.specs.Format.Encode.{word, each, counted, term-bytes, goal-bytes, ancestor-bytes, bet-bytes, definition-bytes}
+use Rattle.records.specs.Format.Encode.{word, each, counted, term-bytes, ancestor-bytes, bet-bytes, definition-bytes}
 use Rattle.records.specs.Gate.RecordRules.{event-rules, bet-rules, every}
 use Rattle.records.specs.Format.HeadLaws.{Known, bytes-all}
 use Rattle.records.specs.Gate.Gate.{read-event, read-program}
 use Rattle.records.specs.Gate.Gate.Reading.{tree}
 use Rattle.records.specs.Gate.GateLaws.{event-tree, program-tree}
-use Rattle.records.specs.Ends.Places.{goal-end, Parts, event-parts}
-use Rattle.records.specs.Ends.Children.{equal-parts, stack-parts}
+use Rattle.records.specs.Ends.Places.{goal-end, EventParts, event-parts}
+use Rattle.records.specs.Ends.Stands.{equal-parts, stack-parts}
 use Rattle.records.specs.Ends.Stands.{Stands, body-stands, stands-second}
 use Rattle.terms.specs.Standing.BetRow.{Bets}
 use Rattle.terms.specs.Values.Applied.{TermAt}
@@ -90,7 +90,7 @@ module _ {s : List ℕ} where
   }
 
 -- an event's goal and stacks, as its places tell
-module _ {s : List ℕ} {p : Port} {g : Goal} {u : List Ancestor} {b : List Bet} (w : Parts s p g u b) where
+module _ {s : List ℕ} {p : Port} {g : Goal} {u : List Ancestor} {b : List Bet} (w : EventParts s p g u b) where
   abbrev pub parts-frame : FrameAt s (frame-of (event p g u b))
   parts-frame = record {
     goal = record { item = g; formed = w .formed .0; end = goal-end 4 g; stands = w .goal-stands };
@@ -111,7 +111,7 @@ module _ {s : List ℕ} {p : Port} {g : Goal} {u : List Ancestor} {b : List Bet}
   }
 
 -- the frame of the atom that the goal of an event stands under
-module _ {s : List ℕ} {p : Port} {g : Goal} {k : ℕ} {ts : Terms} {u : List Ancestor} {b : List Bet} (w : Parts s p g (called k ts ∷ u) b) where
+module _ {s : List ℕ} {p : Port} {g : Goal} {k : ℕ} {ts : Terms} {u : List Ancestor} {b : List Bet} (w : EventParts s p g (called k ts ∷ u) b) where
   abbrev pub parts-under : AtomAt s (frame-under g k ts u b)
   parts-under = record {
     frame = record {

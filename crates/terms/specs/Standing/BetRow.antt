@@ -1,42 +1,25 @@
--- A row of bets that stand in a record, and the pairs of each.
+-- The bets that stand in a record, and the pairs of each.
 use mathlib.Core.Path.{_≡_, refl, sym, ap, _∙_}
-use mathlib.Core.Bool.{true, _&&_}
-use mathlib.Core.List.{List, [], _∷_, _++_}
+use mathlib.Core.Bool.{true}
+use mathlib.Core.List.{List, [], _∷_}
 use native.Mathlib.Omega.{arith}
-use Prim.Native.Nat.{ℕ, _+_, _-_, _≤_, _<_}
+use Prim.Native.Nat.{ℕ, _+_, _*_, _≤_, _<_}
 use lib.ListN.{length, length-append}
 use Rattle.records.specs.Format.Syntax.{Term, Binding, Bet}
 use Rattle.records.specs.Format.Syntax.Binding.{bind}
 use Rattle.records.specs.Format.Syntax.Bet.{unifier, or, by}
-use Rattle.records.specs.Format.Encode.{word, each, binding-bytes, bet-bytes}
-use Rattle.records.specs.Format.Formed.{All, BetFormed}
-use Rattle.records.specs.Gate.RecordRules.{bound, every, rising, unifier-rules, bet-rules}
-use Rattle.records.specs.Format.Heads.{bet-head-at}
-use Rattle.records.specs.Format.Items.{read-bet}
-use Rattle.records.specs.Format.Exact.{bet-exact}
-use Rattle.records.specs.Ends.Walk.{end-of}
-use Rattle.records.specs.Ends.Stands.{Stands, stands-first, stands-second, stands-within, stands-ends, bet-stands, head-of-bet}
-use Rattle.records.specs.declared.ends.Found.the-variants.{At}
+use Rattle.records.specs.Format.Encode.{word, each, term-bytes, binding-bytes, bet-bytes}
+use Rattle.records.specs.Format.Formed.{All, TermFormed, BindingFormed, BetFormed}
+use Rattle.records.specs.Gate.RecordRules.{every, bet-rules}
+use Rattle.records.specs.Format.Heads.{word-at, bet-head-at}
+use Rattle.records.specs.Ends.Stands.{Stands, stands-second, stands-within, word-stands, bet-stands, head-of-bet}
+use Rattle.records.specs.declared.heads.Word.the-variants.{Number}
 use Rattle.records.specs.declared.heads.BetHead.{BetHead}
 use Rattle.records.specs.declared.heads.BetHead.the-variants.{Unifier, Or, By, NoBet}
-use Rattle.terms.specs.Theory.Substitution.{as-substitution, substitute, apply}
-use Rattle.terms.specs.Theory.SubstitutionLaws.{substitute-var, term-length-least}
-use Rattle.terms.specs.Theory.TestLaws.{and-left, and-right}
-use Rattle.terms.specs.Standing.Pairs.{Pairs}
+use Rattle.terms.specs.Theory.SubstitutionLaws.{term-length-least}
+use Rattle.terms.specs.Standing.Frames.{PairAt, PairsAt, BetAt, BetsAt}
 
--- the bet b stands at a position, well formed and by the rules
-pub record BetAt (s : List ℕ) (at : ℕ) (b : Bet) : Type 0 where
-  pub formed : BetFormed b
-  pub rules : bet-rules b ≡ true
-  pub end : ℕ
-  pub stands : Stands s at (bet-bytes b) end
-
--- some bet does
-pub record BetHere (s : List ℕ) (at : ℕ) : Type 0 where
-  pub bet : Bet
-  pub here : BetAt s at bet
-
--- n bets stand at a position, top first
+-- n bets stand at a position, top first, and keep the rules
 pub record Bets (s : List ℕ) (at n : ℕ) : Type 0 where
   pub bets : List Bet
   pub count : length bets ≡ n
@@ -44,6 +27,9 @@ pub record Bets (s : List ℕ) (at n : ℕ) : Type 0 where
   pub rules : every bet-rules bets ≡ true
   pub end : ℕ
   pub stands : Stands s at (each bet-bytes bets) end
+
+abbrev pub bets-row : {s : List ℕ} {at n : ℕ} → Bets s at n → BetsAt s at n
+bets-row p = record { items = p .bets; formed = p .formed; many = p .count; end = p .end; stands = p .stands }
 
 -- the pairs of a bet: OR and BY have none
 abbrev pub bet-pairs : Bet → List Binding
@@ -58,91 +44,54 @@ head-pairs (Or k) = 0
 head-pairs By = 0
 head-pairs NoBet = 0
 
--- a bet is applied by its pairs
-pub apply-pairs : (b : Bet) (bets : List Bet) (t : Term) → apply (b ∷ bets) t ≡ substitute (as-substitution (bet-pairs b)) (apply bets t)
-unfolding apply
-apply-pairs (unifier σ) bets t = refl
-apply-pairs (or h) bets t = sym (substitute-var (apply bets t))
-apply-pairs (by g) bets t = sym (substitute-var (apply bets t))
+-- the variable and the term of a pair that stands somewhere
+pub record PairParts {s : List ℕ} {at : ℕ} (p : PairAt s at) : Type 0 where
+  pub variable : ℕ
+  pub term : Term
+  pub is : p .item ≡ bind variable term
+  pub number : word-at s at ≡ Number variable
+  pub formed : TermFormed term
+  pub stands : Stands s (at + 2) (term-bytes term) (p .end)
 
--- the first of some bets
-pub record FirstBet (s : List ℕ) (at n : ℕ) (p : Bets s at n) : Type 0 where
-  pub bet : Bet
-  pub after : ℕ
-  pub others : Bets s after (n - 1)
-  pub is : p .bets ≡ bet ∷ others .bets
-  pub first : BetAt s at bet
-  pub first-end : after ≡ at + length (bet-bytes bet)
-  pub ends : end-of read-bet s at ≡ At after
-
-pub first-bet : {s : List ℕ} {at n : ℕ} (p : Bets s at n) → 0 < n → FirstBet s at n p
-first-bet {s} {at} {n} p h = go (p .bets) refl
+pub pair-parts : {s : List ℕ} {at : ℕ} (p : PairAt s at) → PairParts p
+pair-parts {s} {at} p = go (p .item) refl (p .formed) (p .stands)
   where
-    go : (l : List Bet) → p .bets ≡ l → FirstBet s at n p
-    go [] e = absurd (omega (arith, p .count, ap length e))
-    go (b ∷ bets) e =
-        let f : All BetFormed (b ∷ bets) = rw e at (p .formed) in
-        let r : (bet-rules b && every bet-rules bets) ≡ true = rw e at (p .rules) in
-        let w : Stands s at (bet-bytes b ++ each bet-bytes bets) (p .end) = rw e at (p .stands) in
-        let a = stands-first (bet-bytes b) (each bet-bytes bets) w in
-        record {
-          bet = b;
-          after = at + length (bet-bytes b);
-          others = record {
-            bets = bets;
-            count = omega (arith, p .count, ap length e);
-            formed = f .1;
-            rules = and-right (bet-rules b) (every bet-rules bets) r;
-            end = p .end;
-            stands = stands-second (bet-bytes b) (each bet-bytes bets) w;
-          };
-          is = e;
-          first = record { formed = f .0; rules = and-left (bet-rules b) (every bet-rules bets) r; end = at + length (bet-bytes b); stands = a };
-          first-end = refl;
-          ends = stands-ends bet-exact b (f .0) a;
-        }
+    go : (b : Binding) → p .item ≡ b → BindingFormed b → Stands s at (binding-bytes b) (p .end) → PairParts p
+    go (bind x t) e f w = record { variable = x; term = t; is = e; number = word-stands x (term-bytes t) (f .0) w; formed = f .1; stands = stands-second (word x) (term-bytes t) w }
 
 -- the pairs of the bet that stands there, by its head
-pub head-pairs-are : {s : List ℕ} {at : ℕ} (b : Bet) → BetAt s at b → head-pairs (bet-head-at s at) ≡ length (bet-pairs b)
-head-pairs-are {s} {at} b a = ap head-pairs (bet-stands b (a .formed) (a .stands)) ∙ go b
+pub head-pairs-are : {s : List ℕ} {at : ℕ} (b : BetAt s at) → head-pairs (bet-head-at s at) ≡ length (bet-pairs (b .item))
+head-pairs-are {s} {at} b = ap head-pairs (bet-stands (b .item) (b .formed) (b .stands)) ∙ go (b .item)
   where
-    go : (b : Bet) → head-pairs (head-of-bet b) ≡ length (bet-pairs b)
+    go : (i : Bet) → head-pairs (head-of-bet i) ≡ length (bet-pairs i)
     go (unifier σ) = refl
     go (or h) = refl
     go (by g) = refl
 
--- a bet that binds something has at least 8 bytes
-pub bet-long : (b : Bet) → 0 < length (bet-pairs b) → 8 ≤ length (bet-bytes b)
-bet-long (or h) l = absurd (omega arith)
-bet-long (by g) l = absurd (omega arith)
-bet-long (unifier []) l = absurd (omega arith)
-bet-long (unifier (bind x t ∷ σ)) l =
-    omega (arith, term-length-least t, length-append (binding-bytes (bind x t)) (each binding-bytes σ))
+-- they stand behind its kind and its count; n is their number, and not 0
+pub record PairsOf {s : List ℕ} {at : ℕ} (b : BetAt s at) (n : ℕ) : Type 0 where
+  pub pairs : PairsAt s (at + 3) n
+  pub are : pairs .items ≡ bet-pairs (b .item)
+  pub room : at + 3 ≤ length s
 
--- they stand behind its kind and its count
-pub record PairsOf (s : List ℕ) (at n : ℕ) (b : Bet) : Type 0 where
-  pub pairs : Pairs s (at + 3) n
-  pub are : pairs .bindings ≡ bet-pairs b
-  pub room : at + 8 ≤ length s
+pub pairs-of : {s : List ℕ} {at n : ℕ} (b : BetAt s at) → n ≡ head-pairs (bet-head-at s at) → (n ≡ 0 → ⊥) → PairsOf b n
+pairs-of {s} {at} {n} b e h = go (b .item) refl (b .formed) (b .stands) (e ∙ head-pairs-are b)
+  where
+    go : (i : Bet) → b .item ≡ i → BetFormed i → Stands s at (bet-bytes i) (b .end) → n ≡ length (bet-pairs i) → PairsOf b n
+    go (unifier σ) q f w l = record {
+      pairs = record { items = σ; formed = f .1; many = sym l; end = b .end; stands = stands-second (0x20 ∷ word (length σ)) (each binding-bytes σ) w };
+      are = ap bet-pairs (sym q);
+      room = omega (arith, w .end, stands-within w (omega arith));
+    }
+    go (or k) q f w l = absurd (h l)
+    go (by g) q f w l = absurd (h l)
 
-pub pairs-of : {s : List ℕ} {at n : ℕ} (b : Bet) → BetAt s at b → n ≡ length (bet-pairs b) → 0 < n → PairsOf s at n b
-unfolding unifier-rules
-pairs-of {s} {at} {n} (or h) a e l = absurd (omega arith)
-pairs-of {s} {at} {n} (by g) a e l = absurd (omega arith)
-pairs-of {s} {at} {n} (unifier σ) a e l = record {
-  pairs = record {
-    bindings = σ;
-    count = sym e;
-    formed = a .formed .1;
-    low = 0;
-    rises = and-left (rising (bound σ)) _ (a .rules);
-    end = a .end;
-    stands = stands-second (0x20 ∷ word (length σ)) (each binding-bytes σ) (a .stands);
-  };
-  are = refl;
-  room = omega (arith, a .stands .end, stands-within (a .stands) (omega arith), bet-long (unifier σ) (omega arith));
-}
+-- a pair has at least 5 bytes, and a bet one more than its pairs
+pairs-long : (σ : List Binding) → 5 * length σ ≤ length (each binding-bytes σ)
+pairs-long [] = omega arith
+pairs-long (bind x t ∷ σ) = omega (arith, pairs-long σ, term-length-least t, length-append (binding-bytes (bind x t)) (each binding-bytes σ))
 
--- for code that has the number n of its pairs from a call
-pub pairs-here : {s : List ℕ} {at n : ℕ} (b : Bet) → BetAt s at b → n ≡ head-pairs (bet-head-at s at) → (n ≡ 0 → ⊥) → PairsOf s at n b
-pairs-here b a e h = pairs-of b a (e ∙ head-pairs-are b a) (omega arith)
+pub bet-pairs-long : (b : Bet) → 5 * length (bet-pairs b) < length (bet-bytes b)
+bet-pairs-long (unifier σ) = omega (arith, pairs-long σ)
+bet-pairs-long (or h) = omega arith
+bet-pairs-long (by g) = omega arith

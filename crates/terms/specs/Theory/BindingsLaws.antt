@@ -1,4 +1,5 @@
 -- Laws of the list of bindings of a substitution: it rises, holds what the substitution changes, and does what the substitution does.
+use mathlib.Core.Bool.{true≢false}
 use mathlib.Core.Path.{_≡_, refl, sym, _∙_, ap}
 use mathlib.Core.Logic.{inl, inr, ite, if-pos, if-neg}
 use mathlib.Core.List.{List, [], _∷_, _++_}
@@ -24,7 +25,7 @@ pub data Putting (k : ℕ) (t : Term) (σ : List Binding) : Type 0 where
   put : (t ≡ var k → ⊥) → put-binding k t σ ≡ bind k t ∷ σ → Putting k t σ
 
 pub putting : (k : ℕ) (t : Term) (σ : List Binding) → Putting k t σ
-putting k (app f ts) σ = put (λ e. let z : _≡_ {A = ℕ} 0 1 = cc in omega arith) refl
+putting k (app f ts) σ = put (λ e. absurd (true≢false cc)) refl
 putting k (var w) σ = elim (ℕ-discrete w k) [
   | yes e ↦ itself (ap var e) (rw e (if-pos (ℕ-discrete k k) refl σ (bind k (var k) ∷ σ)))
   | no n ↦ put (λ e. n (cc)) (if-neg (ℕ-discrete w k) n σ (bind k (var w) ∷ σ))

@@ -1,4 +1,5 @@
 -- What the leftmost difference of two terms says of the substitutions that make them equal.
+use mathlib.Core.Bool.{true≢false}
 use mathlib.Core.Path.{_≡_, refl, sym, ap, ap₂}
 use mathlib.Core.Logic.{_⊎_, inl, inr, ite}
 use native.Mathlib.Decide.{ℕ-discrete}
@@ -10,7 +11,7 @@ use Rattle.records.specs.Format.Syntax.Terms.{nil, cons}
 use Rattle.terms.specs.Theory.Substitution.{Substitution, substitute, substitute-all, Occurs, Occurs-in, Either, occurs-in?}
 use Rattle.terms.specs.Theory.SubstitutionLaws.{occurs-check}
 use Rattle.terms.specs.Theory.Mgu.{Unifies}
-use Rattle.terms.specs.Theory.Unify.{Compared, less, same, more, compare, Difference, alike, clash, differ, of-variables, first-of, difference, differences}
+use Rattle.terms.specs.Theory.Unify.{Compared, less, same, more, compare, Difference, alike, clash, differ, of-variables, first-difference, difference, differences}
 
 -- x must become u: where Equal θ is that θ makes the two things equal, and In v that v occurs in one of them
 pub record Differs (Equal : Substitution → Type 0) (In : ℕ → Type 0) (x : ℕ) (u : Term) : Type 0 where
@@ -68,7 +69,7 @@ variable-says x f ts (yes o) Same = λ θ k. occurs-check θ x f ts o k
 variable-says x f ts (no n) Same = record {
   forced = λ θ k. k;
   fresh = n;
-  lower = λ y e. let z : _≡_ {A = ℕ} 0 1 = cc in omega arith;
+  lower = λ y e. absurd (true≢false cc);
   here = inl refl;
   inside = λ v o. inr o;
 }
@@ -83,7 +84,7 @@ symbols-say f g ts us (yes e) d h = says-whole (λ p. ap₂ app e p) (λ θ p. c
 symbols-say f g ts us (no n) d h = λ θ p. n (cc)
 
 arguments-say : (t u : Term) (ts us : Terms) (d e : Difference)
-    → Says (t ≡ u) (Unifies t u) (λ v. Either v t u) d → Arguments-say ts us e → Arguments-say (cons t ts) (cons u us) (first-of d e)
+    → Says (t ≡ u) (Unifies t u) (λ v. Either v t u) d → Arguments-say ts us e → Arguments-say (cons t ts) (cons u us) (first-difference d e)
 arguments-say t u ts us alike e a b =
     says-whole (λ p. ap₂ cons a p) (λ θ p. cc) (λ v o. elim o [ inl q ↦ inl (inr q) | inr q ↦ inr (inr q) ]) e b
 arguments-say t u ts us clash e a b = λ θ p. a θ (cc)
@@ -106,7 +107,7 @@ mutual
 
   pub differences-say : (ts us : Terms) → Arguments-say ts us (differences ts us)
   differences-say nil nil = refl
-  differences-say nil (cons u us) = λ θ p. let z : _≡_ {A = ℕ} 0 1 = cc in omega arith
-  differences-say (cons t ts) nil = λ θ p. let z : _≡_ {A = ℕ} 0 1 = cc in omega arith
+  differences-say nil (cons u us) = λ θ p. absurd (true≢false cc)
+  differences-say (cons t ts) nil = λ θ p. absurd (true≢false cc)
   differences-say (cons t ts) (cons u us) =
       arguments-say t u ts us (difference t u) (differences ts us) (difference-says t u) (differences-say ts us)

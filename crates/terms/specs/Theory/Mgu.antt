@@ -1,4 +1,4 @@
--- The most general unifier of two terms, in document 01's words: "idempotent, most general, only variables of the two terms; of variables made
+-- The most general unifier of two terms, in the words of SPECIFICATION 5: "idempotent, most general, only variables of the two terms; of variables made
 -- equal and otherwise free the lowest number stays". `MguLaws` shows that there is at most one.
 use mathlib.Core.Path.{_≡_}
 use mathlib.Core.Logic.{_⊎_}
@@ -24,7 +24,7 @@ Rises n (bind x t ∷ σ) = (n ≤ x) × Rises (suc x) σ
 abbrev pub Unifies : Term → Term → Substitution → Type 0
 Unifies s t θ = substitute θ s ≡ substitute θ t
 
--- σ is the unifier of s and t that document 01 describes
+-- σ is the unifier of s and t that SPECIFICATION 5 describes
 pub record IsMgu (s t : Term) (σ : List Binding) : Type 0 where
   -- pairs rise strictly by variable
   pub rising : Rises 0 σ

@@ -1,4 +1,4 @@
--- There is at most one most general unifier in document 01's sense.
+-- There is at most one most general unifier in the sense of SPECIFICATION 5.
 use mathlib.Core.Path.{_≡_, refl, sym, _∙_, ap}
 use mathlib.Core.Logic.{inl, inr, if-pos, if-neg}
 use mathlib.Core.List.{List, [], _∷_}

@@ -1,5 +1,5 @@
 -- The most general unifier as a function from variables to terms, in the three facts that an algorithm has to show. The other clauses of
--- document 01 follow from them: idempotence, and that only variables of the two terms occur.
+-- SPECIFICATION 5 follow from them: idempotence, and that only variables of the two terms occur.
 use mathlib.Core.Logic.{ite}
 use mathlib.Core.Path.{_≡_}
 use mathlib.Core.Option.{Option, none, some}

@@ -1,4 +1,5 @@
 -- Removing leftmost differences finds a most general unifier or shows that there is none; and what follows from being most general.
+use mathlib.Core.Bool.{true≢false}
 use mathlib.Core.Path.{_≡_, refl, sym, _∙_, ap}
 use mathlib.Core.Logic.{inl, inr, ite, if-pos, if-neg}
 use mathlib.Core.List.{List}
@@ -21,7 +22,7 @@ use Rattle.terms.specs.Theory.SubstitutionLaws.{
 use Rattle.terms.specs.Theory.Variables.{Listed, both-variables, without}
 use Rattle.terms.specs.Theory.VariablesLaws.{either-listed, without-shorter, without-keeps}
 use Rattle.terms.specs.Theory.Mgu.{Unifies}
-use Rattle.terms.specs.Theory.Unify.{Difference, alike, clash, differ, difference, single, after, remove, unifying}
+use Rattle.terms.specs.Theory.Unify.{Difference, alike, clash, differ, difference, single, followed, remove, unifying}
 use Rattle.terms.specs.Theory.DifferenceLaws.{Differs, Says, difference-says}
 use Rattle.terms.specs.Theory.MostGeneral.{MostGeneral, Found, but}
 
@@ -65,7 +66,7 @@ single-variables x u s t g v o = elim o [ inl p ↦ half s (λ w q. inl q) p | i
 
 -- what is found after a difference is removed, with that difference removed before it
 after-found : (s t : Term) (x : ℕ) (u : Term) → Differs (Unifies s t) (λ v. Either v s t) x u
-    → (r : Option Substitution) → Found (substitute (single x u) s) (substitute (single x u) t) r → Found s t (after (single x u) r)
+    → (r : Option Substitution) → Found (substitute (single x u) s) (substitute (single x u) t) r → Found s t (followed (single x u) r)
 after-found s t x u g none h = λ θ k. h θ (differs-unifies s t x u g θ k)
 after-found s t x u g (some τ) h = record {
   unifies = sym (substitute-twice τ (single x u) s) ∙ h .unifies ∙ substitute-twice τ (single x u) t;
@@ -81,7 +82,7 @@ after-found s t x u g (some τ) h = record {
         let l₁ = single-lower x u (g .lower) v y p in
         let l₂ = h .lower y w q in
         omega arith
-    lower-after v w (app f ts) p q = let z : _≡_ {A = ℕ} 0 1 = cc in absurd (omega arith)
+    lower-after v w (app f ts) p q = absurd (true≢false cc)
 
 same-found : (s t : Term) → s ≡ t → MostGeneral s t var
 same-found s t e = record { unifies = ap (substitute var) e; general = λ θ k v. refl; lower = λ v w k. let z : v ≡ w = cc in omega arith }

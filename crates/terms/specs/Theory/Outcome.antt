@@ -31,26 +31,26 @@ pub data Unified : Type 0 where
   deriving Discrete as Unified-discrete
 
 -- the outcome by the unifier that two terms have
-abbrev pub outcome : Option (List Binding) → Unified
-outcome none = clash
-outcome (some σ) = unified σ
+abbrev pub as-unified : Option (List Binding) → Unified
+as-unified none = clash
+as-unified (some σ) = unified σ
 
 -- the outcome for two values
 abbrev pub outcome-of : Option Term → Option Term → Unified
 outcome-of none u = too-large
 outcome-of (some s) none = too-large
-outcome-of (some s) (some t) = outcome (unify s t)
+outcome-of (some s) (some t) = as-unified (unify s t)
 
 -- the unifier of S(T1) and S(T2)
 unfoldable pub unified-under : List Bet → Term → Term → Unified
 unified-under bets s t = outcome-of (value-under bets s) (value-under bets t)
 
 -- both values are within the limit
-abbrev pub Within : List Bet → Term → Term → Type 0
-Within bets s t = (term-length (apply bets s) ≤ value-limit) × (term-length (apply bets t) ≤ value-limit)
+abbrev pub ValuesWithin : List Bet → Term → Term → Type 0
+ValuesWithin bets s t = (term-length (apply bets s) ≤ value-limit) × (term-length (apply bets t) ≤ value-limit)
 
 -- what each outcome means
 abbrev pub Meant : List Bet → Term → Term → Unified → Type 0
-Meant bets s t too-large = Within bets s t → ⊥
-Meant bets s t clash = Within bets s t × Correct (apply bets s) (apply bets t) none
-Meant bets s t (unified σ) = Within bets s t × Correct (apply bets s) (apply bets t) (some σ)
+Meant bets s t too-large = ValuesWithin bets s t → ⊥
+Meant bets s t clash = ValuesWithin bets s t × Correct (apply bets s) (apply bets t) none
+Meant bets s t (unified σ) = ValuesWithin bets s t × Correct (apply bets s) (apply bets t) (some σ)

@@ -18,7 +18,7 @@ use Rattle.terms.specs.Theory.MguLaws.{unique}
 use Rattle.terms.specs.Theory.Unify.{unify}
 use Rattle.terms.specs.Theory.UnifyLaws.{unify-correct, is-unify, unify-rules}
 use Rattle.terms.specs.Theory.UnifyFormed.{unify-formed, unify-length}
-use Rattle.terms.specs.Theory.Outcome.{Within, Meant, value-limit, value-under, Unified, too-large, clash, unified, outcome, outcome-of, unified-under}
+use Rattle.terms.specs.Theory.Outcome.{ValuesWithin, Meant, value-limit, value-under, Unified, too-large, clash, unified, as-unified, outcome-of, unified-under}
 
 -- a value within the limit, and one beyond it
 pub value-within : (bets : List Bet) (t : Term) → term-length (apply bets t) ≤ value-limit → value-under bets t ≡ some (apply bets t)
@@ -42,8 +42,8 @@ valued bets t = go (leb (term-length (apply bets t)) value-limit) refl
     go false e = let h = leb-false (term-length (apply bets t)) value-limit e in beyond h (value-beyond bets t h)
 
 -- both values within the limit: the outcome is that of `unify`
-pub unified-within : (bets : List Bet) (s t : Term) → Within bets s t
-    → unified-under bets s t ≡ outcome (unify (apply bets s) (apply bets t))
+pub unified-within : (bets : List Bet) (s t : Term) → ValuesWithin bets s t
+    → unified-under bets s t ≡ as-unified (unify (apply bets s) (apply bets t))
 unfolding unified-under
 unified-within bets s t h = rw (value-within bets s (h .0), value-within bets t (h .1))
 
@@ -60,8 +60,8 @@ right-too-large bets s t h = rw (value-beyond bets t h) (go (value-under bets s)
     go none = refl
     go (some u) = refl
 
-outcome-meant : (bets : List Bet) (s t : Term) → Within bets s t
-    → (r : Option (List Binding)) → Correct (apply bets s) (apply bets t) r → Meant bets s t (outcome r)
+outcome-meant : (bets : List Bet) (s t : Term) → ValuesWithin bets s t
+    → (r : Option (List Binding)) → Correct (apply bets s) (apply bets t) r → Meant bets s t (as-unified r)
 outcome-meant bets s t h none c = (h, c)
 outcome-meant bets s t h (some σ) c = (h, c)
 
@@ -93,7 +93,7 @@ is-unified bets s t o m = go (unified-under bets s t) (unified-meant bets s t) o
 
 -- A unifier found under a bet stack is a bet that the records take in: well formed, and its pairs keep the rules.
 module _ (bets : List Bet) (s t : Term) (σ : List Binding) (found : unified-under bets s t ≡ unified σ) where
-  found-within : Within bets s t × Correct (apply bets s) (apply bets t) (some σ)
+  found-within : ValuesWithin bets s t × Correct (apply bets s) (apply bets t) (some σ)
   found-within = rw found at (unified-meant bets s t)
 
   -- it is `unify`'s answer for the two values

@@ -1,4 +1,4 @@
--- Substitution: what a unifier does to a term, and S(T), what a bet stack makes of a term (document 01, "The rules").
+-- Substitution: what a unifier does to a term, and S(T), what a bet stack makes of a term (SPECIFICATION 3).
 -- Choices: a substitution is a function from variables to terms, and a list of bindings is read as one; it is applied once and to all variables
 -- at the same time; which variables occur in a term is stated as a type and can be decided.
 use mathlib.Core.Path.{_≡_}

@@ -117,11 +117,6 @@ mutual
       let k = substitute-all-length θ ts in
       omega (arith, terms-length-cons t ts, terms-length-cons (substitute θ t) (substitute-all θ ts))
 
--- what each bet does, as equations
-pub apply-unifier : (σ : List Binding) (bets : List Bet) (t : Term) → apply (unifier σ ∷ bets) t ≡ substitute (as-substitution σ) (apply bets t)
-unfolding apply
-apply-unifier σ bets t = refl
-
 -- the upper part of a stack after the lower part
 pub apply-append : (upper lower : List Bet) (t : Term) → apply (upper ++ lower) t ≡ apply upper (apply lower t)
 unfolding apply
@@ -139,7 +134,3 @@ apply-length (unifier σ ∷ bets) t =
     omega arith
 apply-length (or h ∷ bets) t = apply-length bets t
 apply-length (by g ∷ bets) t = apply-length bets t
-
--- so a value that is too long under the lower part of a stack is too long under the whole
-pub apply-part-length : (upper lower : List Bet) (t : Term) → term-length (apply lower t) ≤ term-length (apply (upper ++ lower) t)
-apply-part-length upper lower t = rw (apply-append upper lower t) (apply-length upper (apply lower t))

@@ -12,8 +12,9 @@ use Rattle.records.specs.Format.Syntax.{Term, Terms, Binding}
 use Rattle.records.specs.Format.Syntax.Term.{var, app}
 use Rattle.records.specs.Format.Syntax.Terms.{nil, cons}
 use Rattle.records.specs.Format.Syntax.Binding.{bind}
+use Rattle.records.specs.Ends.Above.{above}
 use Rattle.terms.specs.Theory.Substitution.{Substitution, substitute, as-substitution, occurs-in?}
-use Rattle.terms.specs.Theory.Variables.{above, both-variables}
+use Rattle.terms.specs.Theory.Variables.{both-variables}
 
 -- how two numbers compare
 pub data Compared (x y : ℕ) : Type 0 where
@@ -44,10 +45,10 @@ of-variables x y (same e) = alike
 of-variables x y (more h) = differ x (var y)
 
 -- the first difference of two places, the left one first
-abbrev pub first-of : Difference → Difference → Difference
-first-of alike d = d
-first-of clash d = clash
-first-of (differ x u) d = differ x u
+abbrev pub first-difference : Difference → Difference → Difference
+first-difference alike d = d
+first-difference clash d = clash
+first-difference (differ x u) d = differ x u
 
 -- a variable and a larger term: a clash if it occurs there
 abbrev mutual
@@ -61,16 +62,16 @@ abbrev mutual
   differences nil nil = alike
   differences nil (cons u us) = clash
   differences (cons t ts) nil = clash
-  differences (cons t ts) (cons u us) = first-of (difference t u) (differences ts us)
+  differences (cons t ts) (cons u us) = first-difference (difference t u) (differences ts us)
 
 -- x becomes u
 abbrev pub single : ℕ → Term → Substitution
 single x u = as-substitution (bind x u ∷ [])
 
 -- b first, then what is found
-abbrev pub after : Substitution → Option Substitution → Option Substitution
-after b none = none
-after b (some τ) = some (λ v. substitute τ (b v))
+abbrev pub followed : Substitution → Option Substitution → Option Substitution
+followed b none = none
+followed b (some τ) = some (λ v. substitute τ (b v))
 
 -- remove the leftmost difference d of s and t, and so on, n times at most
 abbrev pub remove : ℕ → Difference → Term → Term → Option Substitution
@@ -80,7 +81,7 @@ remove zero (differ x u) s t = none
 remove (suc n) alike s t = some var
 remove (suc n) clash s t = none
 remove (suc n) (differ x u) s t =
-    after (single x u)
+    followed (single x u)
     (remove n (difference (substitute (single x u) s) (substitute (single x u) t)) (substitute (single x u) s) (substitute (single x u) t))
 
 -- the binding of k to t in front of σ, unless t is k itself

@@ -1,4 +1,5 @@
 -- The unifier of well-formed terms is well formed, and that of two short terms has few bindings.
+use mathlib.Core.Bool.{true≢false}
 use mathlib.Core.Path.{_≡_, refl}
 use mathlib.Core.Logic.{inl, inr, ite}
 use mathlib.Core.List.{List, [], _∷_}
@@ -12,9 +13,10 @@ use Rattle.records.specs.Format.Syntax.Term.{var, app}
 use Rattle.records.specs.Format.Syntax.Terms.{nil, cons}
 use Rattle.records.specs.Format.Syntax.Binding.{bind}
 use Rattle.records.specs.Format.Formed.{TermFormed, TermsFormed, All, BindingFormed}
+use Rattle.records.specs.Ends.Above.{above}
 use Rattle.terms.specs.Theory.Substitution.{Substitution, substitute, occurs-in?, term-length}
 use Rattle.terms.specs.Theory.FormedLaws.{SubstitutionFormed, formed-substitute, occurs-formed}
-use Rattle.terms.specs.Theory.Variables.{Listed, above, both-variables, without}
+use Rattle.terms.specs.Theory.Variables.{Listed, both-variables, without}
 use Rattle.terms.specs.Theory.VariablesLaws.{either-listed, listed-both, above-least, without-shorter, without-keeps, both-variables-length}
 use Rattle.terms.specs.Theory.Mgu.{Binds, Rises}
 use Rattle.terms.specs.Theory.MguLaws.{rises-least}
@@ -29,11 +31,11 @@ use Rattle.terms.specs.Theory.Unify.{
   clash,
   differ,
   of-variables,
-  first-of,
+  first-difference,
   difference,
   differences,
   single,
-  after,
+  followed,
   remove,
   bindings,
   bindings-below,
@@ -58,7 +60,7 @@ choose-formed : {A : Type 0} (c : Dec A) (d e : Difference) → DifferenceFormed
 choose-formed (yes _) d e h k = h
 choose-formed (no _) d e h k = k
 
-first-formed : (d e : Difference) → DifferenceFormed d → DifferenceFormed e → DifferenceFormed (first-of d e)
+first-formed : (d e : Difference) → DifferenceFormed d → DifferenceFormed e → DifferenceFormed (first-difference d e)
 first-formed alike e h k = k
 first-formed clash e h k = tt
 first-formed (differ x u) e h k = h
@@ -89,7 +91,7 @@ single-formed x u h v l = go (ℕ-discrete v x)
     go (yes _) = h
     go (no _) = l
 
-after-formed : (b : Substitution) (r : Option Substitution) → SubstitutionFormed b → FoundFormed r → FoundFormed (after b r)
+after-formed : (b : Substitution) (r : Option Substitution) → SubstitutionFormed b → FoundFormed r → FoundFormed (followed b r)
 after-formed b none h k = tt
 after-formed b (some τ) h k = λ v l. formed-substitute τ (b v) k (h v l)
 
@@ -128,7 +130,7 @@ unify-formed s t σ e h k =
     small v o = elim (listed-both v s t o) [ inl p ↦ occurs-formed v s h p | inr p ↦ occurs-formed v t k p ]
 
     go : (r : Option Substitution) → FoundFormed r → bindings-below n r ≡ some σ → All BindingFormed σ
-    go none f p = absurd (let z : _≡_ {A = ℕ} 0 1 = cc in omega arith)
+    go none f p = absurd (true≢false cc)
     go (some θ) f p =
         let q : bindings 0 n θ ≡ σ = cc in
         let b = above-least 65536 (both-variables s t) small in

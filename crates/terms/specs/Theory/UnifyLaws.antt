@@ -8,9 +8,10 @@ use Prim.Native.Nat.{ℕ, _<_}
 use Rattle.records.specs.Format.Syntax.{Term, Binding}
 use Rattle.records.specs.Format.Syntax.Term.{var}
 use Rattle.records.specs.Gate.RecordRules.{unifier-rules}
+use Rattle.records.specs.Ends.Above.{above}
 use Rattle.terms.specs.Theory.Substitution.{Substitution, substitute, as-substitution, Occurs, Either, either?, occurs?}
 use Rattle.terms.specs.Theory.SubstitutionLaws.{substitute-agree}
-use Rattle.terms.specs.Theory.Variables.{above, both-variables}
+use Rattle.terms.specs.Theory.Variables.{both-variables}
 use Rattle.terms.specs.Theory.VariablesLaws.{either-above}
 use Rattle.terms.specs.Theory.Mgu.{IsMgu, Correct}
 use Rattle.terms.specs.Theory.MguLaws.{unique}

@@ -1,9 +1,9 @@
--- Lists of variable numbers: what stands in one, the least number above all of one, and a list without one of its numbers.
+-- Lists of variable numbers: what stands in one, and a list without one of its numbers.
 use mathlib.Core.Path.{_≡_}
 use mathlib.Core.Logic.{_⊎_, ite}
 use mathlib.Core.List.{List, [], _∷_, _++_}
 use native.Mathlib.Decide.{ℕ-discrete}
-use Prim.Native.Nat.{ℕ, zero, suc, max}
+use Prim.Native.Nat.{ℕ}
 use Rattle.records.specs.Format.Syntax.{Term}
 use Rattle.records.specs.Gate.RecordRules.{term-variables}
 
@@ -11,11 +11,6 @@ use Rattle.records.specs.Gate.RecordRules.{term-variables}
 abbrev pub Listed : ℕ → List ℕ → Type 0
 Listed v [] = ⊥
 Listed v (w ∷ l) = (v ≡ w) ⊎ Listed v l
-
--- one more than the greatest number of the list, or 0 if there is none
-abbrev pub above : List ℕ → ℕ
-above [] = zero
-above (v ∷ l) = max (suc v) (above l)
 
 -- the variables of two terms
 abbrev pub both-variables : Term → Term → List ℕ

@@ -10,9 +10,10 @@ use Rattle.records.specs.Format.Syntax.{Term, Terms}
 use Rattle.records.specs.Format.Syntax.Term.{var, app}
 use Rattle.records.specs.Format.Syntax.Terms.{nil, cons}
 use Rattle.records.specs.Gate.RecordRules.{term-variables, terms-variables}
+use Rattle.records.specs.Ends.Above.{above}
 use Rattle.terms.specs.Theory.Substitution.{Occurs, Occurs-in, Either, term-length, terms-length}
 use Rattle.terms.specs.Theory.SubstitutionLaws.{terms-length-cons}
-use Rattle.terms.specs.Theory.Variables.{Listed, above, both-variables, without}
+use Rattle.terms.specs.Theory.Variables.{Listed, both-variables, without}
 
 -- what stands in two lists, one after the other
 pub listed-left : (v : ℕ) (l m : List ℕ) → Listed v l → Listed v (l ++ m)

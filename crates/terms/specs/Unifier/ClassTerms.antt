@@ -7,8 +7,8 @@ use Rattle.records.specs.Format.Syntax.{Term, Terms}
 use Rattle.records.specs.Format.Encode.{word, term-bytes, terms-bytes}
 use Rattle.records.specs.Writing.Patched.{Put}
 use Rattle.terms.specs.Classes.Nodes.{at, Nodes, count, In, Path, Table, Graph}
-use Rattle.terms.specs.Classes.Lengths.{Expansion, Expansions, length-cap, total, Capped, Measured}
-use Rattle.terms.specs.Classes.Laid.{Small}
+use Rattle.terms.specs.Classes.Lengths.{Expansion, Expansions, length-cap, total, Capped, ClassesMeasured}
+use Rattle.terms.specs.Classes.Laid.{SmallNodes}
 
 -- a node's own bytes by its kind and number
 abbrev pub head-bytes : ℕ → ℕ → List ℕ
@@ -19,12 +19,12 @@ head-bytes (suc (suc arity)) number = 0x02 ∷ (word number ++ (arity ∷ []))
 -- a table whose classes all have a term of known length
 pub record ClassTable (n : Nodes) (rep size : List ℕ) : Type 0 where
   pub table : Table n
-  pub small : Small n
+  pub small : SmallNodes n
   pub rep-long : length rep ≡ count n
   pub size-long : length size ≡ count n
   pub inside : (i : ℕ) → In n i → In n (at rep i)
   pub known : (i : ℕ) → In n i → at size (at rep i) ≡ 0 → ⊥
-  pub measured : Measured n rep size
+  pub measured : ClassesMeasured n rep size
   pub capped : Capped size
   pub children : ℕ → List ℕ
   pub term : ℕ → Term

@@ -3,17 +3,17 @@ use mathlib.Core.Path.{_≡_, refl, sym, _∙_, ap, subst}
 use mathlib.Core.List.{List, [], _∷_, _++_}
 use native.Mathlib.Omega.{arith}
 use Prim.Native.Nat.{ℕ, zero, suc, _+_, _-_, _≤_, _<_, min}
-use lib.ListN.{length, take, drop, length-drop}
-use lib.Seq.{take-all}
+use lib.ListN.{length, take, drop}
 use Rattle.records.specs.Format.Syntax.{Term, Terms, arity}
 use Rattle.records.specs.Format.Syntax.Term.{var, app}
 use Rattle.records.specs.Format.Syntax.Terms.{nil, cons}
 use Rattle.records.specs.Format.Encode.{word, term-bytes, terms-bytes}
 use Rattle.records.specs.Format.Formed.{All}
 use Rattle.records.specs.Writing.Patched.{Put, put-none, put-then, put-tail, put-length}
+use Rattle.terms.specs.Values.Fitted.{tail-length}
 use Rattle.terms.specs.Theory.Substitution.{term-length, terms-length}
 use Rattle.terms.specs.Theory.SubstitutionLaws.{term-length-least, terms-length-cons}
-use Rattle.terms.specs.Classes.Nodes.{at, Nodes, count, In, kind, number, Path, Node, variable, symbol, Graph}
+use Rattle.terms.specs.Classes.Nodes.{at, Nodes, count, In, kind, node-number, Path, TableNode, variable, symbol, Graph}
 use Rattle.terms.specs.Classes.CompareLaws.{path-more, path-end}
 use Rattle.terms.specs.Classes.Lengths.{Expansion, Expansions, length-cap, total}
 use Rattle.terms.specs.Classes.SolveLaws.{expansion-unique}
@@ -29,10 +29,6 @@ pub head-symbol : (k v : ℕ) → 2 ≤ k → head-bytes k v ≡ 0x02 ∷ (word 
 head-symbol zero v h = absurd (omega arith)
 head-symbol (suc zero) v h = absurd (omega arith)
 head-symbol (suc (suc a)) v h = ap (λ x. 0x02 ∷ (word v ++ (x ∷ []))) (omega arith)
-
--- the length of a lent tail
-pub tail-length : (k : ℕ) (l : List ℕ) → length (take (length l - k) (drop k l)) ≡ length l - k
-tail-length k l = ap length (take-all (length l - k) (drop k l) (omega (arith, length-drop k l))) ∙ length-drop k l
 
 -- as many children as arguments
 expansions-arity : (n : Nodes) (children : ℕ → List ℕ) (rep : ℕ → ℕ) (ts : Terms) (cs : List ℕ) → Expansions n children rep cs ts → length cs ≡ arity ts
@@ -65,7 +61,7 @@ module _ (n : Nodes) (rep size : List ℕ) (classes : ClassTable n rep size) whe
     own : (t : Term) × Expansion n (classes .children) (at rep) r t × (at size r ≡ min length-cap (term-length t))
     own = classes .measured r (fits .inside) (fits .known) (classes .children) (classes .term) (classes .graph)
 
-    head-small : (k : ℕ) → kind n r ≡ k → length (head-bytes k (number n r)) ≤ at size r
+    head-small : (k : ℕ) → kind n r ≡ k → length (head-bytes k (node-number n r)) ≤ at size r
     head-small zero e = omega (arith, own .2, term-length-least (own .0))
     head-small (suc zero) e = omega (arith, own .2, term-length-least (own .0))
     head-small (suc (suc a)) e = go (own .0) (own .1) (own .2)
@@ -74,27 +70,27 @@ module _ (n : Nodes) (rep size : List ℕ) (classes : ClassTable n rep size) whe
         go (var x) p q = absurd (omega (arith, p .0))
         go (app f ts) p q = omega arith
 
-    pub head-fits : (kind n r ≤ 18) × (length (head-bytes (kind n r) (number n r)) ≤ length out)
+    pub head-fits : (kind n r ≤ 18) × (length (head-bytes (kind n r) (node-number n r)) ≤ length out)
     head-fits = (classes .small .kinds r (fits .inside), omega (arith, head-small (kind n r) refl, fits .room))
 
     -- a variable's class is written by its node's bytes
-    pub wrote-variable : (new : List ℕ) (e : ℕ) → Put out 0 (head-bytes (kind n r) (number n r)) new e → (2 ≤ kind n r → ⊥) → Wrote n rep size r out new
+    pub wrote-variable : (new : List ℕ) (e : ℕ) → Put out 0 (head-bytes (kind n r) (node-number n r)) new e → (2 ≤ kind n r → ⊥) → Wrote n rep size r out new
     wrote-variable new e h k = record { each = go }
       where
         go : (children : ℕ → List ℕ) (term : ℕ → Term) → Graph n children term → (t : Term) → Expansion n children (at rep) r t
             → Put out 0 (term-bytes t) new (at size r)
         go children term g (var x) p =
-            let q : Put out 0 (head-bytes 1 x) new e = subst (λ y. Put out 0 (head-bytes 1 y) new e) (sym (p .1)) (subst (λ y. Put out 0 (head-bytes y (number n r)) new e) (p .0) h) in
+            let q : Put out 0 (head-bytes 1 x) new e = subst (λ y. Put out 0 (head-bytes 1 y) new e) (sym (p .1)) (subst (λ y. Put out 0 (head-bytes y (node-number n r)) new e) (p .0) h) in
             let s = size-is children term g r (fits .inside) (fits .known) (var x) p in
             record { place = s; output = q .output }
         go children term g (app f ts) p = absurd (k (p .0))
 
     -- a symbol's class: its node's bytes, and then those of its children's classes
-    module _ (mid : List ℕ) (e : ℕ) (h : Put out 0 (head-bytes (kind n r) (number n r)) mid e) (k : 2 ≤ kind n r) where
+    module _ (mid : List ℕ) (e : ℕ) (h : Put out 0 (head-bytes (kind n r) (node-number n r)) mid e) (k : 2 ≤ kind n r) where
       four : (a : ℕ) → kind n r ≡ a → e ≡ 4
       four zero q = absurd (omega arith)
       four (suc zero) q = absurd (omega arith)
-      four (suc (suc a)) q = h .place ∙ ap (λ x. 0 + length (head-bytes x (number n r))) q
+      four (suc (suc a)) q = h .place ∙ ap (λ x. 0 + length (head-bytes x (node-number n r))) q
 
       pub symbol-left : (e ≤ at size r) × (e ≤ length mid) × (0 < e)
       symbol-left =
@@ -118,7 +114,7 @@ module _ (n : Nodes) (rep size : List ℕ) (classes : ClassTable n rep size) whe
         path = classes .graph .path r (fits .inside) k;
         sum = own-sum (own .0) (own .1) (own .2);
         small = omega (arith, fits .small);
-        room = omega (arith, tail-length e mid, put-length h, fits .room);
+        room = omega (arith, tail-length mid e, put-length h, fits .room);
       }
 
       pub wrote-symbol : (part : List ℕ) → Wrotes n rep (r + 1) (at (n .nexts) r) (at size r - e) (take (length mid - e) (drop e mid)) part
@@ -131,12 +127,12 @@ module _ (n : Nodes) (rep size : List ℕ) (classes : ClassTable n rep size) whe
           go children term g (app f ts) p =
               let a : kind n r ≡ suc (suc (arity ts)) = kind-arity (g .node r (fits .inside)) in
               let x : Put out 0 (head-bytes (suc (suc (arity ts))) f) mid e =
-              subst (λ y. Put out 0 (head-bytes (suc (suc (arity ts))) y) mid e) (sym (p .1)) (subst (λ y. Put out 0 (head-bytes y (number n r)) mid e) a h) in
+              subst (λ y. Put out 0 (head-bytes (suc (suc (arity ts))) y) mid e) (sym (p .1)) (subst (λ y. Put out 0 (head-bytes y (node-number n r)) mid e) a h) in
               let y = put-then x (put-tail (w .each children term g (children r) (g .path r (fits .inside) k) ts (p .2))) in
               let z : e + (at size r - e) ≡ at size r = omega (arith, symbol-left .0) in
               subst (λ l. Put out 0 (term-bytes (app f ts)) (take e mid ++ (part ++ drop (length mid - e) (drop e mid))) l) z y
             where
-              kind-arity : Node n children term r → kind n r ≡ suc (suc (arity ts))
+              kind-arity : TableNode n children term r → kind n r ≡ suc (suc (arity ts))
               kind-arity (variable b q) = absurd (omega arith)
               kind-arity (symbol b q l) = omega (arith, b, expansions-arity n children (at rep) ts (children r) (p .2))
 
@@ -185,7 +181,7 @@ module _ (n : Nodes) (rep size : List ℕ) (classes : ClassTable n rep size) whe
         path = rest-more .2;
         sum = child-left .2;
         small = omega (arith, rest .small);
-        room = omega (arith, tail-length (at size (at rep p)) mid, rest .room);
+        room = omega (arith, tail-length mid (at size (at rep p)), rest .room);
       }
 
       pub wrotes-more : (mid part : List ℕ) → Wrote n rep size (at rep p) out mid

@@ -10,7 +10,10 @@ use Rattle.records.specs.Format.Encode.{term-bytes, binding-bytes, counted}
 use Rattle.records.specs.Format.Formed.{TermFormed}
 use Rattle.records.specs.Writing.Patched.{Put}
 use Rattle.terms.specs.Theory.Unify.{unify}
-use Rattle.terms.specs.Theory.Outcome.{value-limit, Unified, too-large, clash, unified, outcome}
+use Rattle.records.specs.declared.put.Range.{Range}
+use Rattle.terms.specs.Theory.Outcome.{value-limit, Unified, too-large, clash, unified, as-unified, unified-under}
+use Rattle.terms.specs.Standing.BetRow.{Bets}
+use Rattle.terms.specs.Values.Applied.{TermAt}
 use Rattle.terms.specs.Classes.Laid.{IsValue}
 use Rattle.terms.specs.declared.equality.UnifierAnswer.{UnifierAnswer}
 use Rattle.terms.specs.declared.equality.UnifierAnswer.the-variants.{TooLarge, Clash, Unifier, TooLong}
@@ -29,7 +32,7 @@ unifier-answer room too-large = TooLarge
 unifier-answer room clash = Clash
 unifier-answer room (unified σ) = length-answer room (length (unifier-bytes σ))
 
--- the paper's number for an answer: question 8 or 10 says no, else 0
+-- the number (SPECIFICATION 7) for an answer: question 8 or 10 says no, else 0
 abbrev pub unifier-refusal : UnifierAnswer → ℕ
 unifier-refusal TooLarge = 8
 unifier-refusal Clash = 0
@@ -37,7 +40,7 @@ unifier-refusal (Unifier n) = 0
 unifier-refusal TooLong = 10
 
 -- the answer is the outcome's; a unifier that fits stands at the start of the output, with the rest as it was; else nothing changes
-pub record Answered (before after : List ℕ) (u : Unified) (r : UnifierAnswer) : Type 0 where
+pub record UnifierAnswered (before after : List ℕ) (u : Unified) (r : UnifierAnswer) : Type 0 where
   pub is : r ≡ unifier-answer (length before) u
   pub written : (σ : List Binding) → u ≡ unified σ → {n : ℕ} → r ≡ Unifier n → Put before 0 (unifier-bytes σ) after n
   pub kept : ((n : ℕ) → r ≡ Unifier n → ⊥) → after ≡ before
@@ -48,5 +51,14 @@ pub record OneValue (a : List ℕ) : Type 0 where
   pub short : length a ≤ value-limit
 
 -- the answer for whatever terms the values are
-pub record Answers (a b before after : List ℕ) (r : UnifierAnswer) : Type 0 where
-  pub each : (s t : Term) → TermFormed s → TermFormed t → a ≡ term-bytes s → b ≡ term-bytes t → Answered before after (outcome (unify s t)) r
+pub record ValuesAnswered (a b before after : List ℕ) (r : UnifierAnswer) : Type 0 where
+  pub each : (s t : Term) → TermFormed s → TermFormed t → a ≡ term-bytes s → b ≡ term-bytes t → UnifierAnswered before after (as-unified (unify s t)) r
+
+-- n bets and two terms stand in an event: an equality and the bets that it is under
+abbrev pub EqualityUnder : List ℕ → ℕ → ℕ → Range → Range → Type 0
+EqualityUnder s at n left right = Bets s at n × TermAt s (left .from) (left .to) × TermAt s (right .from) (right .to)
+
+-- the answer for the values that these bets give the two terms
+abbrev pub UnifierUnder : List ℕ → ℕ → ℕ → Range → Range → List ℕ → List ℕ → UnifierAnswer → Type 0
+UnifierUnder s at n left right before after r = (p : Bets s at n) (x : TermAt s (left .from) (left .to)) (y : TermAt s (right .from) (right .to))
+    → UnifierAnswered before after (unified-under (p .bets) (x .term) (y .term)) r

@@ -1,6 +1,6 @@
 -- Laws of the answer for an equality: from what the tables of two values hold, and from two values to the terms under a bet stack.
 use mathlib.Core.Path.{_≡_, refl, sym, ap, _∙_}
-use mathlib.Core.Bool.{true, false}
+use mathlib.Core.Bool.{true, false, true≢false}
 use mathlib.Core.List.{List}
 use mathlib.Core.Option.{some}
 use native.Mathlib.Omega.{arith}
@@ -18,11 +18,11 @@ use Rattle.terms.specs.Theory.Substitution.{apply}
 use Rattle.terms.specs.Theory.SubstitutionLaws.{term-length-least}
 use Rattle.terms.specs.Theory.FormedLaws.{apply-formed}
 use Rattle.terms.specs.Theory.Unify.{unify}
-use Rattle.terms.specs.Theory.Outcome.{value-under, Unified, unified, outcome, outcome-of, unified-under}
+use Rattle.terms.specs.Theory.Outcome.{value-under, Unified, unified, as-unified, outcome-of, unified-under}
 use Rattle.terms.specs.Unifier.UnifierAnswer.{found-length, Unification, UnifierFits, UnifierPut}
 use Rattle.terms.specs.Unifier.UnificationLaws.{not-found, found-one, exact-length, unifier-fits}
 use Rattle.terms.specs.Values.Answered as applied
-use Rattle.terms.specs.Unifier.Equality.{unifier-bytes, unifier-answer, Answered, OneValue}
+use Rattle.terms.specs.Unifier.Equality.{unifier-bytes, unifier-answer, UnifierAnswered, OneValue}
 use Rattle.terms.specs.declared.unifier.Outcome.{Outcome}
 use Rattle.terms.specs.declared.substitute.Sized.{Sized}
 use Rattle.terms.specs.declared.substitute.Sized.the-variants.{Fits, TooLarge as TooLargeValue}
@@ -30,30 +30,30 @@ use Rattle.terms.specs.declared.equality.UnifierAnswer.{UnifierAnswer}
 use Rattle.terms.specs.declared.equality.UnifierAnswer.the-variants.{TooLarge, Clash, Unifier, TooLong}
 
 -- an answer that writes nothing
-pub unwritten : {before : List ℕ} {u : Unified} {r : UnifierAnswer} → r ≡ unifier-answer (length before) u → ((n : ℕ) → r ≡ Unifier n → ⊥) → Answered before before u r
+pub unwritten : {before : List ℕ} {u : Unified} {r : UnifierAnswer} → r ≡ unifier-answer (length before) u → ((n : ℕ) → r ≡ Unifier n → ⊥) → UnifierAnswered before before u r
 unwritten e h = record { is = e; written = λ σ k q. absurd (h _ q); kept = λ k. refl }
 
 not-clash : (n : ℕ) → Clash ≡ Unifier n → ⊥
-not-clash n q = let z : _≡_ {A = ℕ} 0 1 = cc in omega arith
+not-clash n q = absurd (true≢false cc)
 
 not-long : (n : ℕ) → TooLong ≡ Unifier n → ⊥
-not-long n q = let z : _≡_ {A = ℕ} 0 1 = cc in omega arith
+not-long n q = absurd (true≢false cc)
 
 not-large : (n : ℕ) → TooLarge ≡ Unifier n → ⊥
-not-large n q = let z : _≡_ {A = ℕ} 0 1 = cc in omega arith
+not-large n q = absurd (true≢false cc)
 
 module _ {kinds numbers nexts rep size : List ℕ} {o : Outcome} {s t : Term} (w : Unification kinds numbers nexts rep size o s t) {before : List ℕ} where
-  pub clashed : o .found ≡ false → Answered before before (outcome (unify s t)) Clash
+  pub clashed : o .found ≡ false → UnifierAnswered before before (as-unified (unify s t)) Clash
   clashed h = rw (not-found w h) (unwritten refl not-clash)
 
   -- too long for a record, and for the output
-  pub beyond-record : o .found ≡ true → 32768 < o .length → Answered before before (outcome (unify s t)) TooLong
+  pub beyond-record : o .found ≡ true → 32768 < o .length → UnifierAnswered before before (as-unified (unify s t)) TooLong
   beyond-record h k =
       let f = found-one w h in
       let l : 32768 < length (unifier-bytes (f .0)) = omega (arith, w .length-is ∙ ap found-length (f .1)) in
       rw (f .1) (unwritten (rw (lt-leb (length (unifier-bytes (f .0))) 32768 l) refl) not-long)
 
-  pub beyond-output : o .found ≡ true → o .length ≤ 32768 → length before < o .length → Answered before before (outcome (unify s t)) TooLong
+  pub beyond-output : o .found ≡ true → o .length ≤ 32768 → length before < o .length → UnifierAnswered before before (as-unified (unify s t)) TooLong
   beyond-output h j k =
       let f = found-one w h in
       let l = exact-length w (f .0) (f .1) (omega arith) in
@@ -65,7 +65,7 @@ module _ {kinds numbers nexts rep size : List ℕ} {o : Outcome} {s t : Term} (w
   has-room h j k = let f = found-one w h in unifier-fits w (f .0) (f .1) before 0 j (omega arith)
 
   pub written : {after : List ℕ} {end : ℕ} → o .found ≡ true → o .length ≤ 32768 → o .length ≤ length before
-      → UnifierPut kinds numbers nexts rep size (o .nodes) before 0 after end → Answered before after (outcome (unify s t)) (Unifier (o .length))
+      → UnifierPut kinds numbers nexts rep size (o .nodes) before 0 after end → UnifierAnswered before after (as-unified (unify s t)) (Unifier (o .length))
   written {after} {end} h j k p =
       let f = found-one w h in
       let l = exact-length w (f .0) (f .1) (omega arith) in
@@ -98,19 +98,19 @@ module _ {bets : List Bet} (s : Term) {a : List ℕ} {r : Sized} {k : ℕ} (h : 
 
 -- the answer for the value of the one term and then of the other
 module _ {bets : List Bet} {before : List ℕ} where
-  pub left-large : (s t : Term) {a : List ℕ} {r : Sized} → applied.Answered bets s a r → r ≡ TooLargeValue → Answered before before (unified-under bets s t) TooLarge
+  pub left-large : (s t : Term) {a : List ℕ} {r : Sized} → applied.Answered bets s a r → r ≡ TooLargeValue → UnifierAnswered before before (unified-under bets s t) TooLarge
   unfolding unified-under
   left-large s t h e = unwritten (rw (applied.answered-large h e) refl) not-large
 
   pub right-large : (s t : Term) {b : List ℕ} {r : Sized} → applied.Answered bets t b r → r ≡ TooLargeValue
-      → Answered before before (outcome-of (some s) (value-under bets t)) TooLarge
+      → UnifierAnswered before before (outcome-of (some s) (value-under bets t)) TooLarge
   right-large s t h e = unwritten (rw (applied.answered-large h e) refl) not-large
 
   pub right-within : (s t : Term) {after b : List ℕ} {r : Sized} {m : ℕ} {x : UnifierAnswer} → applied.Answered bets t b r → r ≡ Fits m
-      → Answered before after (outcome (unify s (apply bets t))) x → Answered before after (outcome-of (some s) (value-under bets t)) x
+      → UnifierAnswered before after (as-unified (unify s (apply bets t))) x → UnifierAnswered before after (outcome-of (some s) (value-under bets t)) x
   right-within s t h e w = rw (applied.answered-fits h e .0) w
 
   pub left-within : (s t : Term) {after a : List ℕ} {r : Sized} {k : ℕ} {x : UnifierAnswer} → applied.Answered bets s a r → r ≡ Fits k
-      → Answered before after (outcome-of (some (apply bets s)) (value-under bets t)) x → Answered before after (unified-under bets s t) x
+      → UnifierAnswered before after (outcome-of (some (apply bets s)) (value-under bets t)) x → UnifierAnswered before after (unified-under bets s t) x
   unfolding unified-under
   left-within s t h e w = rw (applied.answered-fits h e .0) w

@@ -14,12 +14,12 @@ use Rattle.records.specs.Writing.Patched.{Put, put-none, put-then}
 use Rattle.terms.specs.Theory.Substitution.{Substitution, term-length}
 use Rattle.terms.specs.Theory.Unify.{put-binding, bindings}
 use Rattle.terms.specs.Theory.BindingsLaws.{Putting, itself, put, putting, bindings-none, bindings-append}
-use Rattle.terms.specs.Classes.Nodes.{at, Nodes, count, In, kind, number, IsVariable}
+use Rattle.terms.specs.Classes.Nodes.{at, Nodes, count, In, kind, node-number, IsVariable}
 use Rattle.terms.specs.Classes.Lengths.{Expansion, length-cap}
 use Rattle.terms.specs.Classes.SolveLaws.{Unmet, met?}
 use Rattle.terms.specs.Unifier.ClassTerms.{ClassTable}
 use Rattle.terms.specs.Unifier.ClassTermsLaws.{size-is}
-use Rattle.terms.specs.Unifier.UnifierAnswer.{Bound, Least, Gives, PairsLength, PairFits, PairPut, PairsFit, PairsPut}
+use Rattle.terms.specs.Unifier.UnifierAnswer.{Bound, Least, ClassesGive, PairsLength, PairFits, PairPut, PairsFit, PairsPut}
 
 each-append : {A : Type 0} (f : A → List ℕ) (a b : List A) → each f (a ++ b) ≡ each f a ++ each f b
 each-append f [] b = refl
@@ -62,35 +62,35 @@ module _ (θ : Substitution) where
       go (itself e p) h = omega (arith, ap length p)
       go (put x p) h = omega (arith, ap length p)
 
-module _ (n : Nodes) (rep : List ℕ) (σ : List Binding) (g : Gives n rep σ) where
+module _ (n : Nodes) (rep : List ℕ) (σ : List Binding) (g : ClassesGive n rep σ) where
   -- a bound variable changes, any other stays
-  bound-changes : (i : ℕ) → In n i → Bound n rep i → g .θ (number n i) ≡ var (number n i) → ⊥
+  bound-changes : (i : ℕ) → In n i → Bound n rep i → g .θ (node-number n i) ≡ var (node-number n i) → ⊥
   bound-changes i l b e =
-      let x : Expansion n (g .children) (at rep) (at rep i) (var (number n i)) = subst (Expansion n (g .children) (at rep) (at rep i)) e (g .met i l (b .0)) in
+      let x : Expansion n (g .children) (at rep) (at rep i) (var (node-number n i)) = subst (Expansion n (g .children) (at rep) (at rep i)) e (g .met i l (b .0)) in
       b .1 (x .0) (sym (x .1))
 
-  class-stays : (i : ℕ) → In n i → IsVariable n i → (Bound n rep i → ⊥) → g .θ (number n i) ≡ var (number n i)
-  class-stays i l v h = go (ℕ-discrete (kind n (at rep i)) 1) (ℕ-discrete (number n (at rep i)) (number n i)) (g .θ (number n i)) refl (g .met i l v)
+  class-stays : (i : ℕ) → In n i → IsVariable n i → (Bound n rep i → ⊥) → g .θ (node-number n i) ≡ var (node-number n i)
+  class-stays i l v h = go (ℕ-discrete (kind n (at rep i)) 1) (ℕ-discrete (node-number n (at rep i)) (node-number n i)) (g .θ (node-number n i)) refl (g .met i l v)
     where
-      go : Dec (IsVariable n (at rep i)) → Dec (number n (at rep i) ≡ number n i) → (t : Term) → g .θ (number n i) ≡ t
-          → Expansion n (g .children) (at rep) (at rep i) t → g .θ (number n i) ≡ var (number n i)
+      go : Dec (IsVariable n (at rep i)) → Dec (node-number n (at rep i) ≡ node-number n i) → (t : Term) → g .θ (node-number n i) ≡ t
+          → Expansion n (g .children) (at rep) (at rep i) t → g .θ (node-number n i) ≡ var (node-number n i)
       go (no a) d t e x = absurd (h (v, (λ w. absurd (a w))))
       go (yes a) (no b) t e x = absurd (h (v, (λ _ q. b q)))
       go (yes a) (yes b) (var y) e x = e ∙ ap var (x .1 ∙ b)
       go (yes a) (yes b) (app f ts) e x = absurd (omega (arith, x .0))
 
-  free-stays : (x : ℕ) → ((i : ℕ) → In n i → number n i ≡ x → Bound n rep i → ⊥) → g .θ x ≡ var x
+  free-stays : (x : ℕ) → ((i : ℕ) → In n i → node-number n i ≡ x → Bound n rep i → ⊥) → g .θ x ≡ var x
   free-stays x h = go (met? n x (count n))
     where
-      go : ((i : ℕ) × (i < count n) × IsVariable n i × (number n i ≡ x)) ⊎ Unmet n x (count n) → g .θ x ≡ var x
+      go : ((i : ℕ) × (i < count n) × IsVariable n i × (node-number n i ≡ x)) ⊎ Unmet n x (count n) → g .θ x ≡ var x
       go (inr u) = g .unmet x u
       go (inl p) = subst (λ y. g .θ y ≡ var y) (p .3) (class-stays (p .0) (p .1) (p .2) (h (p .0) (p .1) (p .3)))
 
   module _ (lo i : ℕ) (l : Least n rep lo (count n) i) where
-    pub least-next : In n i → bindings 0 (number n i + 1) (g .θ) ≡ bindings 0 lo (g .θ) ++ (bind (number n i) (g .θ (number n i)) ∷ [])
+    pub least-next : In n i → bindings 0 (node-number n i + 1) (g .θ) ≡ bindings 0 lo (g .θ) ++ (bind (node-number n i) (g .θ (node-number n i)) ∷ [])
     least-next k =
         let b = l .found k in
-        bindings-next (g .θ) lo (number n i) (b .1)
+        bindings-next (g .θ) lo (node-number n i) (b .1)
         (λ x a c. free-stays x (λ j w e d. let z = l .least j w w d (omega (arith, e)) .1 in omega (arith, e)))
         (bound-changes i k (b .0))
 
@@ -105,9 +105,9 @@ module _ (n : Nodes) (rep : List ℕ) (σ : List Binding) (g : Gives n rep σ) w
         go (no a) = sym (bindings-settled (g .θ) (g .top) lo (omega arith) (λ x b c. g .high x b))
 
     -- the bindings up to that variable are the first of all
-    pub least-first : In n i → length (each binding-bytes (bindings 0 lo (g .θ))) + (2 + term-length (g .θ (number n i))) ≤ length (each binding-bytes σ)
+    pub least-first : In n i → length (each binding-bytes (bindings 0 lo (g .θ))) + (2 + term-length (g .θ (node-number n i))) ≤ length (each binding-bytes σ)
     least-first k =
-        let v = number n i in
+        let v = node-number n i in
         let below : v < g .top = go (decLt v (g .top)) in
         let e : g .top ≡ v + 1 + (g .top - (v + 1)) = omega arith in
         let rest = bindings (0 + (v + 1)) (g .top - (v + 1)) (g .θ) in
@@ -119,34 +119,34 @@ module _ (n : Nodes) (rep : List ℕ) (σ : List Binding) (g : Gives n rep σ) w
         ap (λ x. length (each binding-bytes x)) (least-next k) ∙ snoc-length (bindings 0 lo (g .θ)) v (g .θ v) in
         omega arith
       where
-        go : Dec (number n i < g .top) → number n i < g .top
+        go : Dec (node-number n i < g .top) → node-number n i < g .top
         go (yes a) = a
-        go (no a) = absurd (bound-changes i k (l .found k .0) (g .high (number n i) (omega arith)))
+        go (no a) = absurd (bound-changes i k (l .found k .0) (g .high (node-number n i) (omega arith)))
 
 -- the length of the pairs so far
 pub record Sizing (n : Nodes) (rep : List ℕ) (w lo : ℕ) : Type 0 where
   pub low : lo ≤ 65536
   pub capped : w ≤ length-cap
-  pub bytes : (σ : List Binding) (g : Gives n rep σ) → w ≡ min length-cap (2 + length (each binding-bytes (bindings 0 lo (g .θ))))
+  pub bytes : (σ : List Binding) (g : ClassesGive n rep σ) → w ≡ min length-cap (2 + length (each binding-bytes (bindings 0 lo (g .θ))))
 
 pub sizing-start : (n : Nodes) (rep : List ℕ) → Sizing n rep 2 0
 sizing-start n rep = record { low = omega arith; capped = omega arith; bytes = λ σ g. omega arith }
 
 module _ (n : Nodes) (rep size : List ℕ) (classes : ClassTable n rep size) where
-  class-length : (σ : List Binding) (g : Gives n rep σ) (i : ℕ) → In n i → IsVariable n i → at size (at rep i) ≡ min length-cap (term-length (g .θ (number n i)))
+  class-length : (σ : List Binding) (g : ClassesGive n rep σ) (i : ℕ) → In n i → IsVariable n i → at size (at rep i) ≡ min length-cap (term-length (g .θ (node-number n i)))
   class-length σ g i k v =
-      size-is n rep size classes (g .children) (g .term) (g .graph) (at rep i) (classes .inside i k) (classes .known i k) (g .θ (number n i)) (g .met i k v)
+      size-is n rep size classes (g .children) (g .term) (g .graph) (at rep i) (classes .inside i k) (classes .known i k) (g .θ (node-number n i)) (g .met i k v)
 
   module _ (w lo : ℕ) (h : Sizing n rep w lo) (i : ℕ) (l : Least n rep lo (count n) i) where
-    pub sizing-step : In n i → (w₁ w₂ : ℕ) → w₁ ≡ min length-cap (w + 2) → w₂ ≡ min length-cap (w₁ + at size (at rep i)) → Sizing n rep w₂ (number n i + 1)
+    pub sizing-step : In n i → (w₁ w₂ : ℕ) → w₁ ≡ min length-cap (w + 2) → w₂ ≡ min length-cap (w₁ + at size (at rep i)) → Sizing n rep w₂ (node-number n i + 1)
     sizing-step k w₁ w₂ e₁ e₂ = record {
       low = let z = classes .small .numbers i k in omega arith;
       capped = omega arith;
       bytes = λ σ g.
           let a = h .bytes σ g in
           let b = class-length σ g i k (l .found k .0 .0) in
-          let c : length (each binding-bytes (bindings 0 (number n i + 1) (g .θ))) ≡ length (each binding-bytes (bindings 0 lo (g .θ))) + (2 + term-length (g .θ (number n i))) =
-          ap (λ x. length (each binding-bytes x)) (least-next n rep σ g lo i l k) ∙ snoc-length (bindings 0 lo (g .θ)) (number n i) (g .θ (number n i)) in
+          let c : length (each binding-bytes (bindings 0 (node-number n i + 1) (g .θ))) ≡ length (each binding-bytes (bindings 0 lo (g .θ))) + (2 + term-length (g .θ (node-number n i))) =
+          ap (λ x. length (each binding-bytes x)) (least-next n rep σ g lo i l k) ∙ snoc-length (bindings 0 lo (g .θ)) (node-number n i) (g .θ (node-number n i)) in
           omega arith;
     }
 
@@ -158,17 +158,17 @@ module _ (n : Nodes) (rep size : List ℕ) (classes : ClassTable n rep size) whe
     }
 
 -- the pairs so far
-pub record Writing (n : Nodes) (rep : List ℕ) (old : List ℕ) (start : ℕ) (new : List ℕ) (end many lo : ℕ) : Type 0 where
+pub record PairsWriting (n : Nodes) (rep : List ℕ) (old : List ℕ) (start : ℕ) (new : List ℕ) (end many lo : ℕ) : Type 0 where
   pub low : lo ≤ 65536
   pub long : length new ≡ length old
-  pub bytes : (σ : List Binding) (g : Gives n rep σ) → Put old start (each binding-bytes (bindings 0 lo (g .θ))) new end
-  pub counted : (σ : List Binding) (g : Gives n rep σ) → many ≡ length (bindings 0 lo (g .θ))
+  pub bytes : (σ : List Binding) (g : ClassesGive n rep σ) → Put old start (each binding-bytes (bindings 0 lo (g .θ))) new end
+  pub counted : (σ : List Binding) (g : ClassesGive n rep σ) → many ≡ length (bindings 0 lo (g .θ))
 
-pub writing-start : (n : Nodes) (rep old : List ℕ) (start : ℕ) → Writing n rep old start old start 0 0
-writing-start n rep old start = record { low = omega arith; long = refl; bytes = λ σ g. put-none; counted = λ σ g. refl }
+pub pairs-writing-start : (n : Nodes) (rep old : List ℕ) (start : ℕ) → PairsWriting n rep old start old start 0 0
+pairs-writing-start n rep old start = record { low = omega arith; long = refl; bytes = λ σ g. put-none; counted = λ σ g. refl }
 
 module _ (n : Nodes) (rep size : List ℕ) (classes : ClassTable n rep size) (old : List ℕ) (start : ℕ) (fit : PairsFit n rep old start)
-    (new : List ℕ) (end many lo : ℕ) (h : Writing n rep old start new end many lo) (i : ℕ) (l : Least n rep lo (count n) i) where
+    (new : List ℕ) (end many lo : ℕ) (h : PairsWriting n rep old start new end many lo) (i : ℕ) (l : Least n rep lo (count n) i) where
   pub writing-few : many ≤ 65536
   writing-few = omega (arith, h .counted (fit .σ) (fit .gives), bindings-length (fit .gives .θ) 0 lo, h .low)
 
@@ -180,15 +180,15 @@ module _ (n : Nodes) (rep size : List ℕ) (classes : ClassTable n rep size) (ol
       record { inside = k; small = omega (arith, fit .small); room = omega (arith, fit .room, h .long) }
 
   pub writing-step : In n i → (new′ : List ℕ) (end′ : ℕ) → PairPut n rep new end i new′ end′ → length new′ ≡ length new
-      → Writing n rep old start new′ end′ (many + 1) (number n i + 1)
+      → PairsWriting n rep old start new′ end′ (many + 1) (node-number n i + 1)
   writing-step k new′ end′ p e = record {
     low = let z = classes .small .numbers i k in omega arith;
     long = e ∙ h .long;
     bytes = λ σ g.
         rw (least-next n rep σ g lo i l k, snoc-bytes)
-        (put-then (h .bytes σ g) (p .each (g .children) (g .term) (g .graph) (g .θ (number n i)) (g .met i k (l .found k .0 .0))));
+        (put-then (h .bytes σ g) (p .each (g .children) (g .term) (g .graph) (g .θ (node-number n i)) (g .met i k (l .found k .0 .0))));
     counted = λ σ g.
-        ap (λ x. x + 1) (h .counted σ g) ∙ sym (ap length (least-next n rep σ g lo i l k) ∙ length-append (bindings 0 lo (g .θ)) (bind (number n i) (g .θ (number n i)) ∷ []));
+        ap (λ x. x + 1) (h .counted σ g) ∙ sym (ap length (least-next n rep σ g lo i l k) ∙ length-append (bindings 0 lo (g .θ)) (bind (node-number n i) (g .θ (node-number n i)) ∷ []));
   }
 
   pub writing-end : (In n i → ⊥) → PairsPut n rep old start new (record { end = end; count = many })

@@ -11,9 +11,9 @@ use lib.Seq.{getD-set-same, getD-set-other}
 use borrow.Author.Tests.{eqb-true, eqb-false}
 use Rattle.records.specs.Format.Encode.{word}
 use Rattle.records.specs.Writing.Patched.{Put, put-then, put-tail, put-length}
-use Rattle.terms.specs.Classes.Nodes.{at, Nodes, count, In, number, IsVariable}
+use Rattle.terms.specs.Classes.Nodes.{at, Nodes, count, In, node-number, IsVariable}
 use Rattle.terms.specs.Unifier.ClassTerms.{ClassTable, Fits, Wrote}
-use Rattle.terms.specs.Unifier.ClassTermsLaws.{tail-length}
+use Rattle.terms.specs.Values.Fitted.{tail-length}
 use Rattle.terms.specs.Unifier.UnifierAnswer.{Classed, Bound, Tested, Least, Chosen, PairFits, PairPut}
 
 pub table-classed : {n : Nodes} {rep size : List ℕ} → ClassTable n rep size → Classed n rep
@@ -29,13 +29,13 @@ module _ (n : Nodes) (rep : List ℕ) (i : ℕ) where
   unfolding Tested
   tested-term v h = (v, (λ w. absurd (h w)))
 
-  pub tested-variable : IsVariable n i → IsVariable n (at rep i) → Tested n rep i (not (eqb (number n (at rep i)) (number n i)))
+  pub tested-variable : IsVariable n i → IsVariable n (at rep i) → Tested n rep i (not (eqb (node-number n (at rep i)) (node-number n i)))
   unfolding Tested
-  tested-variable v w = go (eqb (number n (at rep i)) (number n i)) refl
+  tested-variable v w = go (eqb (node-number n (at rep i)) (node-number n i)) refl
     where
-      go : (b : Bool) → eqb (number n (at rep i)) (number n i) ≡ b → Tested n rep i (not b)
-      go true e = λ k. k .1 w (eqb-true (number n (at rep i)) (number n i) e)
-      go false e = (v, (λ _ q. eqb-false (number n (at rep i)) (number n i) e q))
+      go : (b : Bool) → eqb (node-number n (at rep i)) (node-number n i) ≡ b → Tested n rep i (not b)
+      go true e = λ k. k .1 w (eqb-true (node-number n (at rep i)) (node-number n i) e)
+      go false e = (v, (λ _ q. eqb-false (node-number n (at rep i)) (node-number n i) e q))
 
   pub tested-bound : {b : Bool} → Tested n rep i b → b ≡ true → Bound n rep i
   unfolding Tested
@@ -47,34 +47,34 @@ module _ (n : Nodes) (rep : List ℕ) (i : ℕ) where
 
 -- one more node
 module _ (n : Nodes) (rep : List ℕ) (lo best i : ℕ) where
-  pub chosen-skip : (Bound n rep i → lo ≤ number n i → ⊥) → Chosen n rep lo best i best
+  pub chosen-skip : (Bound n rep i → lo ≤ node-number n i → ⊥) → Chosen n rep lo best i best
   chosen-skip h = record {
     each = λ l. record {
       found = l .found;
       least = λ j a k b c. elim (ℕ-discrete j i) [
-        | yes e ↦ absurd (h (subst (Bound n rep) e b) (subst (λ x. lo ≤ number n x) e c))
+        | yes e ↦ absurd (h (subst (Bound n rep) e b) (subst (λ x. lo ≤ node-number n x) e c))
         | no e ↦ l .least j (omega arith) k b c
       ];
     };
   }
 
-  pub chosen-old : In n best → number n best ≤ number n i → Chosen n rep lo best i best
+  pub chosen-old : In n best → node-number n best ≤ node-number n i → Chosen n rep lo best i best
   chosen-old k h = record {
     each = λ l. record {
       found = l .found;
       least = λ j a x b c. elim (ℕ-discrete j i) [
-        | yes e ↦ (k, subst (λ y. number n best ≤ number n y) (sym e) h)
+        | yes e ↦ (k, subst (λ y. node-number n best ≤ node-number n y) (sym e) h)
         | no e ↦ l .least j (omega arith) x b c
       ];
     };
   }
 
-  pub chosen-new : In n i → Bound n rep i → lo ≤ number n i → (In n best → number n i ≤ number n best) → Chosen n rep lo best i i
+  pub chosen-new : In n i → Bound n rep i → lo ≤ node-number n i → (In n best → node-number n i ≤ node-number n best) → Chosen n rep lo best i i
   chosen-new k b h f = record {
     each = λ l. record {
       found = λ _. (b, h);
       least = λ j a x d c. elim (ℕ-discrete j i) [
-        | yes e ↦ (k, omega (arith, ap (number n) e))
+        | yes e ↦ (k, omega (arith, ap (node-number n) e))
         | no e ↦ (let z = l .least j (omega arith) x d c in let y = f (z .0) in (k, omega (arith, z .1)))
       ];
     };
@@ -85,7 +85,7 @@ least-start n rep lo = record { found = λ h. absurd (omega arith); least = λ j
 
 -- one pair
 module _ (n : Nodes) (rep size : List ℕ) (classes : ClassTable n rep size) (out : List ℕ) (k i : ℕ) (fits : PairFits n rep size out k i)
-    (mid : List ℕ) (e : ℕ) (p : Put out k (word (number n i)) mid e) where
+    (mid : List ℕ) (e : ℕ) (p : Put out k (word (node-number n i)) mid e) where
   pub pair-place : (e ≤ length mid) × (e + at size (at rep i) ≤ length mid)
   pair-place = (omega (arith, p .place, put-length p, fits .room), omega (arith, p .place, put-length p, fits .room))
 
@@ -94,7 +94,7 @@ module _ (n : Nodes) (rep size : List ℕ) (classes : ClassTable n rep size) (ou
     inside = classes .inside i (fits .inside);
     known = classes .known i (fits .inside);
     small = fits .small;
-    room = omega (arith, pair-place .1, tail-length e mid);
+    room = omega (arith, pair-place .1, tail-length mid e);
   }
 
   pub pair-put : (part : List ℕ) → Wrote n rep size (at rep i) (take (length mid - e) (drop e mid)) part

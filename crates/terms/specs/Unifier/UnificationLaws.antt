@@ -1,6 +1,6 @@
 -- What a caller learns of the unifier of two values: whether there is one, its exact length where it is below the cap, and that its bytes fit.
 use mathlib.Core.Path.{_≡_, refl, sym, _∙_, ap}
-use mathlib.Core.Bool.{true, false}
+use mathlib.Core.Bool.{true, false, true≢false}
 use mathlib.Core.List.{List}
 use mathlib.Core.Option.{Option, none, some}
 use native.Mathlib.Omega.{arith}
@@ -19,22 +19,19 @@ module _ {kinds numbers nexts rep size : List ℕ} {r : Outcome} {s t : Term} (u
     where
       go : (o : Option (List Binding)) → is-found o ≡ false → o ≡ none
       go none q = refl
-      go (some σ) q = absurd (let z : _≡_ {A = ℕ} 0 1 = cc in omega arith)
+      go (some σ) q = absurd (true≢false cc)
 
   pub found-one : r .found ≡ true → (σ : List Binding) × (unify s t ≡ some σ)
   found-one e = go (unify s t) (sym (u .found) ∙ e)
     where
       go : (o : Option (List Binding)) → is-found o ≡ true → (σ : List Binding) × (o ≡ some σ)
-      go none q = absurd (let z : _≡_ {A = ℕ} 0 1 = cc in omega arith)
+      go none q = absurd (true≢false cc)
       go (some σ) q = (σ, refl)
 
   module _ (σ : List Binding) (e : unify s t ≡ some σ) where
-    -- below the cap the length is exact, so any limit below it can be tested
+    -- below the cap the length is exact
     pub exact-length : r .length < length-cap → length (counted binding-bytes σ) ≡ r .length
     exact-length h = omega (arith, u .length-is ∙ ap found-length e)
-
-    pub limit-test : (m : ℕ) → m < length-cap → (r .length ≤ m → length (counted binding-bytes σ) ≤ m) × (length (counted binding-bytes σ) ≤ m → r .length ≤ m)
-    limit-test m h = ((λ k. omega (arith, u .length-is ∙ ap found-length e)), (λ k. omega (arith, u .length-is ∙ ap found-length e)))
 
     -- the bytes fit where their length does
     pub unifier-fits : (out : List ℕ) (k : ℕ) → r .length ≤ 32768 → k + r .length ≤ length out → UnifierFits kinds numbers nexts rep size (r .nodes) out k

@@ -13,10 +13,10 @@ use Rattle.records.specs.Format.Formed.{TermFormed}
 use Rattle.records.specs.Writing.Patched.{Put}
 use Rattle.terms.specs.Theory.Substitution.{Substitution}
 use Rattle.terms.specs.Theory.Unify.{bindings, unify}
-use Rattle.terms.specs.Classes.Nodes.{at, Nodes, nodes, count, In, number, IsVariable, Table, Graph}
+use Rattle.terms.specs.Classes.Nodes.{at, Nodes, nodes, count, In, node-number, IsVariable, Table, Graph}
 use Rattle.terms.specs.Classes.Lengths.{Expansion, length-cap}
 use Rattle.terms.specs.Classes.SolveLaws.{Unmet}
-use Rattle.terms.specs.Classes.Laid.{Layable, Laid}
+use Rattle.terms.specs.Classes.Laid.{Layable, TermsLaid}
 use Rattle.terms.specs.Unifier.ClassTerms.{ClassTable}
 use Rattle.terms.specs.declared.unifier.Pairs.{Pairs}
 use Rattle.terms.specs.declared.unifier.Outcome.{Outcome}
@@ -29,7 +29,7 @@ pub record Classed (n : Nodes) (rep : List ℕ) : Type 0 where
 
 -- node i is a variable whose class has another term
 abbrev pub Bound : Nodes → List ℕ → ℕ → Type 0
-Bound n rep i = IsVariable n i × (IsVariable n (at rep i) → number n (at rep i) ≡ number n i → ⊥)
+Bound n rep i = IsVariable n i × (IsVariable n (at rep i) → node-number n (at rep i) ≡ node-number n i → ⊥)
 
 -- what the test of a node says
 unfoldable pub Tested : Nodes → List ℕ → ℕ → Bool → Type 0
@@ -38,20 +38,20 @@ Tested n rep i false = Bound n rep i → ⊥
 
 -- of the nodes below m, `best` has the least bound variable from lo on; it is no node where there is none
 pub record Least (n : Nodes) (rep : List ℕ) (lo m best : ℕ) : Type 0 where
-  pub found : In n best → Bound n rep best × (lo ≤ number n best)
-  pub least : (j : ℕ) → j < m → In n j → Bound n rep j → lo ≤ number n j → In n best × (number n best ≤ number n j)
+  pub found : In n best → Bound n rep best × (lo ≤ node-number n best)
+  pub least : (j : ℕ) → j < m → In n j → Bound n rep j → lo ≤ node-number n j → In n best × (node-number n best ≤ node-number n j)
 
 -- `best` among the nodes below i gives `chosen` among those up to i
 pub record Chosen (n : Nodes) (rep : List ℕ) (lo best i chosen : ℕ) : Type 0 where
   pub each : Least n rep lo i best → Least n rep lo (i + 1) chosen
 
 -- the classes give these bindings, by a substitution that gives each variable of the table the term of its class
-pub record Gives (n : Nodes) (rep : List ℕ) (σ : List Binding) : Type 0 where
+pub record ClassesGive (n : Nodes) (rep : List ℕ) (σ : List Binding) : Type 0 where
   pub children : ℕ → List ℕ
   pub term : ℕ → Term
   pub graph : Graph n children term
   pub θ : Substitution
-  pub met : (i : ℕ) → In n i → IsVariable n i → Expansion n children (at rep) (at rep i) (θ (number n i))
+  pub met : (i : ℕ) → In n i → IsVariable n i → Expansion n children (at rep) (at rep i) (θ (node-number n i))
   pub unmet : (x : ℕ) → Unmet n x (count n) → θ x ≡ var x
   pub top : ℕ
   pub high : (x : ℕ) → top ≤ x → θ x ≡ var x
@@ -63,7 +63,7 @@ written-length σ = min length-cap (length (counted binding-bytes σ))
 
 -- w is the length of whatever bindings the classes give
 pub record PairsLength (n : Nodes) (rep : List ℕ) (w : ℕ) : Type 0 where
-  pub each : (σ : List Binding) → Gives n rep σ → w ≡ written-length σ
+  pub each : (σ : List Binding) → ClassesGive n rep σ → w ≡ written-length σ
 
 -- the pair of node i's variable and its class's term fits at k
 pub record PairFits (n : Nodes) (rep size out : List ℕ) (k i : ℕ) : Type 0 where
@@ -74,19 +74,19 @@ pub record PairFits (n : Nodes) (rep size out : List ℕ) (k i : ℕ) : Type 0 w
 -- that pair is written at k
 pub record PairPut (n : Nodes) (rep : List ℕ) (old : List ℕ) (k i : ℕ) (new : List ℕ) (end : ℕ) : Type 0 where
   pub each : (children : ℕ → List ℕ) (term : ℕ → Term) → Graph n children term → (t : Term) → Expansion n children (at rep) (at rep i) t
-      → Put old k (binding-bytes (bind (number n i) t)) new end
+      → Put old k (binding-bytes (bind (node-number n i) t)) new end
 
 -- the bindings that the classes give fit at k
 pub record PairsFit (n : Nodes) (rep out : List ℕ) (k : ℕ) : Type 0 where
   pub σ : List Binding
-  pub gives : Gives n rep σ
+  pub gives : ClassesGive n rep σ
   pub small : length (each binding-bytes σ) < length-cap
   pub room : k + length (each binding-bytes σ) ≤ length out
 
 -- whatever bindings the classes give are written at k
 pub record PairsPut (n : Nodes) (rep : List ℕ) (old : List ℕ) (k : ℕ) (new : List ℕ) (p : Pairs) : Type 0 where
-  pub bytes : (σ : List Binding) → Gives n rep σ → Put old k (each binding-bytes σ) new (p .end)
-  pub many : (σ : List Binding) → Gives n rep σ → p .count ≡ length σ
+  pub bytes : (σ : List Binding) → ClassesGive n rep σ → Put old k (each binding-bytes σ) new (p .end)
+  pub many : (σ : List Binding) → ClassesGive n rep σ → p .count ≡ length σ
 
 -- the first nodes of the tables have classes that give the bindings σ
 pub record HoldsUnifier (kinds numbers nexts rep size : List ℕ) (m : ℕ) (σ : List Binding) : Type 0 where
@@ -96,7 +96,7 @@ pub record HoldsUnifier (kinds numbers nexts rep size : List ℕ) (m : ℕ) (σ 
   pub rep-long : m ≤ length rep
   pub size-long : m ≤ length size
   pub classes : ClassTable (nodes (take m kinds) (take m numbers) (take m nexts)) (take m rep) (take m size)
-  pub gives : Gives (nodes (take m kinds) (take m numbers) (take m nexts)) (take m rep) σ
+  pub gives : ClassesGive (nodes (take m kinds) (take m numbers) (take m nexts)) (take m rep) σ
 
 -- they do, and the written bindings fit at k
 pub record UnifierFits (kinds numbers nexts rep size : List ℕ) (m : ℕ) (out : List ℕ) (k : ℕ) : Type 0 where
@@ -127,23 +127,23 @@ pub record Cleared (size : List ℕ) : Type 0 where
 pub record Decidable (n : Nodes) (rep size : List ℕ) (m : ℕ) : Type 0 where
   pub s : Term
   pub t : Term
-  pub laid : Laid n s t m
+  pub laid : TermsLaid n s t m
   pub s-formed : TermFormed s
   pub t-formed : TermFormed t
   pub rep-long : length rep ≡ count n
   pub size-long : length size ≡ count n
 
 -- the answer for s and t
-pub record Answer (n : Nodes) (rep size : List ℕ) (s t : Term) (r : Outcome) : Type 0 where
+pub record UnificationAnswer (n : Nodes) (rep size : List ℕ) (s t : Term) (r : Outcome) : Type 0 where
   pub found : r .found ≡ is-found (unify s t)
   pub length-is : r .length ≡ found-length (unify s t)
   pub all : r .nodes ≡ count n
   pub classes : r .found ≡ true → ClassTable n rep size
-  pub gives : (σ : List Binding) → unify s t ≡ some σ → Gives n rep σ
+  pub gives : (σ : List Binding) → unify s t ≡ some σ → ClassesGive n rep σ
 
 -- whatever terms are laid in the table
 pub record Decides (n : Nodes) (m : ℕ) (rep size : List ℕ) (r : Outcome) : Type 0 where
-  pub each : (s t : Term) → TermFormed s → TermFormed t → Laid n s t m → Answer n rep size s t r
+  pub each : (s t : Term) → TermFormed s → TermFormed t → TermsLaid n s t m → UnificationAnswer n rep size s t r
 
 -- two values, and tables with room for them
 pub record Unifiable (a b kinds numbers nexts rep size : List ℕ) : Type 0 where

@@ -1,6 +1,6 @@
 -- What is decided is the answer of `unify`: the laws of the last functions.
 use mathlib.Core.Path.{_≡_, refl, sym, _∙_, ap, subst}
-use mathlib.Core.Bool.{Bool, true, false}
+use mathlib.Core.Bool.{Bool, true, false, true≢false}
 use mathlib.Core.List.{List, _++_}
 use mathlib.Core.Option.{none, some}
 use native.Mathlib.Omega.{arith}
@@ -11,8 +11,9 @@ use Rattle.records.specs.Format.Syntax.{Term, Binding}
 use Rattle.records.specs.Format.Encode.{word, binding-bytes, each, counted}
 use Rattle.records.specs.Format.Formed.{TermFormed}
 use Rattle.records.specs.Writing.Patched.{Put, put-ahead}
+use Rattle.records.specs.Ends.Above.{above}
 use Rattle.terms.specs.Theory.Substitution.{Substitution}
-use Rattle.terms.specs.Theory.Variables.{above, both-variables}
+use Rattle.terms.specs.Theory.Variables.{both-variables}
 use Rattle.terms.specs.Theory.VariablesLaws.{either-above}
 use Rattle.terms.specs.Theory.Unify.{bindings, unify}
 use Rattle.terms.specs.Theory.MostGeneralLaws.{outside-stays}
@@ -20,10 +21,10 @@ use Rattle.terms.specs.Classes.Nodes.{at, Nodes, nodes, count, Table}
 use Rattle.terms.specs.Classes.Lengths.{Blank, Solution, Solved}
 use Rattle.terms.specs.Classes.SolveLaws.{found, found-most-general, found-expansion, found-unmet, solution-unify, apart-unify}
 use Rattle.terms.specs.Classes.LayLaws.{part-length}
-use Rattle.terms.specs.Classes.Laid.{Laid, Lay, Lays}
+use Rattle.terms.specs.Classes.Laid.{TermsLaid, Lay, Lays}
 use Rattle.terms.specs.Classes.LaidLaws.{term-of, children-of, laid-graph, laid-table, laid-second, laid-inside, laid-small}
 use Rattle.terms.specs.Unifier.ClassTerms.{ClassTable}
-use Rattle.terms.specs.Unifier.UnifierAnswer.{Gives, PairsLength, PairsFit, PairsPut, HoldsUnifier, UnifierFits, UnifierPut, is-found, found-length, Cleared, Decidable, Decides, Unifiable, Unifications}
+use Rattle.terms.specs.Unifier.UnifierAnswer.{ClassesGive, PairsLength, PairsFit, PairsPut, HoldsUnifier, UnifierFits, UnifierPut, is-found, found-length, Cleared, Decidable, Decides, Unifiable, Unifications}
 use Rattle.terms.specs.declared.load.Places.{Places}
 use Rattle.terms.specs.declared.unifier.Pairs.{Pairs}
 use Rattle.terms.specs.declared.unifier.Outcome.{Outcome}
@@ -32,7 +33,7 @@ use Rattle.terms.specs.declared.unifier.Outcome.{Outcome}
 pub cleared-blank : (n : Nodes) (size : List ℕ) → length size ≡ count n → Cleared size → Blank n size
 cleared-blank n size l c = record { long = l; zero = c .each }
 
-module _ (n : Nodes) (s t : Term) (m : ℕ) (laid : Laid n s t m) (f : TermFormed s) (h : TermFormed t) where
+module _ (n : Nodes) (s t : Term) (m : ℕ) (laid : TermsLaid n s t m) (f : TermFormed s) (h : TermFormed t) where
   both : unify s t ≡ unify (term-of n s t m laid 0) (term-of n s t m laid m)
   both = ap (unify s) (sym (laid-second n s t m laid))
 
@@ -67,7 +68,7 @@ module _ (n : Nodes) (s t : Term) (m : ℕ) (laid : Laid n s t m) (f : TermForme
     unfolding θ top
     one-found = both ∙ solution-unify n 0 m rep size solution (children-of n s t m laid) (term-of n s t m laid) (laid-graph n s t m laid)
 
-    pub solution-gives : (σ : List Binding) → unify s t ≡ some σ → Gives n rep σ
+    pub solution-gives : (σ : List Binding) → unify s t ≡ some σ → ClassesGive n rep σ
     unfolding θ top
     solution-gives σ e = record {
       children = children-of n s t m laid;
@@ -102,8 +103,8 @@ module _ (n : Nodes) (m : ℕ) (rep size : List ℕ) (b : Bool) (solved : Solved
           found = sym (ap is-found q);
           length-is = sym (ap found-length q);
           all = refl;
-          classes = λ z. absurd (let y : _≡_ {A = ℕ} 0 1 = cc in omega arith);
-          gives = λ σ z. absurd (let y : none ≡ some σ = sym q ∙ z in let x : _≡_ {A = ℕ} 0 1 = cc in omega arith);
+          classes = λ z. absurd (true≢false cc);
+          gives = λ σ z. absurd (let y : none ≡ some σ = sym q ∙ z in absurd (true≢false cc));
         };
   }
 

@@ -8,9 +8,9 @@ use Rattle.records.specs.Format.Syntax.{Term}
 use Rattle.records.specs.Format.Encode.{term-bytes}
 use Rattle.records.specs.Format.Formed.{TermFormed}
 use Rattle.records.specs.Writing.Patched.{Put, patched, part-patched}
-use Rattle.records.specs.Ends.Walk.{walk}
+use Rattle.records.specs.Ends.Traversal.{traverse}
 use Rattle.records.specs.Ends.Steps.{On}
-use Rattle.records.specs.Ends.Stands.{Stands, walk-term}
+use Rattle.records.specs.Ends.Stands.{Stands, traverse-term}
 
 -- a term stands from `at` to e
 pub record TermAt (s : List ℕ) (at e : ℕ) : Type 0 where
@@ -27,5 +27,5 @@ put-stands {before} {at} {x} {after} {next} p h = record {
       ∙ ap (λ (y : List ℕ). x ++ y) (drop-drop (length x) at (patched before at x)));
 }
 
-pub term-on : {s : List ℕ} {at e : ℕ} → TermAt s at e → On (walk s at 1 0)
-term-on q = rw (walk-term (q .term) (q .formed) (q .stands)) tt
+pub term-on : {s : List ℕ} {at e : ℕ} → TermAt s at e → On (traverse s at 1 0)
+term-on q = rw (traverse-term (q .term) (q .formed) (q .stands)) tt

@@ -7,15 +7,15 @@ use Rattle.records.specs.Format.Syntax.Term.{var}
 use Rattle.records.specs.Format.Encode.{term-bytes}
 use Rattle.records.specs.Format.HeadLaws.{Known}
 use Rattle.records.specs.Ends.HeadRoom.{word-room}
-use Rattle.records.specs.Ends.Walk.{walk}
+use Rattle.records.specs.Ends.Traversal.{traverse}
 use Rattle.records.specs.Ends.Steps.{On}
-use Rattle.records.specs.Ends.Stands.{walk-term}
+use Rattle.records.specs.Ends.Stands.{traverse-term}
 use Rattle.records.specs.declared.ends.Found.{Found}
 use Rattle.records.specs.declared.ends.Found.the-variants.{At, Nothing}
 use Rattle.records.specs.declared.heads.Word.the-variants.{Number}
 use Rattle.terms.specs.Theory.Substitution.{apply}
-use Rattle.terms.specs.Values.NodeBytes.{walk-bytes, substituted-bytes}
-use Rattle.terms.specs.Values.Entries.{Entry, Means, Entered, PairTable, FoundPair, under}
+use Rattle.terms.specs.Values.NodeBytes.{traversal-bytes, substituted-bytes}
+use Rattle.terms.specs.Values.Entries.{PairEntry, Means, Entered, PairTable, FoundPair, under}
 use Rattle.terms.specs.Values.EntryLaws.{apply-variables, table-means, entry-entered, above-fewer, above-table}
 
 module _ {s places firsts : List ℕ} {i : ℕ} (p : PairTable s places firsts i) (v : ℕ) {r : Found} (f : FoundPair (p .bets) i v r) where
@@ -28,7 +28,7 @@ module _ {s places firsts : List ℕ} {i : ℕ} (p : PairTable s places firsts i
     pub found-within : k < i
     found-within = f .found e .0
 
-    abbrev pub found-entry : Entry
+    abbrev pub found-entry : PairEntry
     found-entry = f .found e .1 .0
 
     pub found-entered : Entered s (getD places k 0) (getD firsts k 0) found-entry
@@ -43,12 +43,12 @@ module _ {s places firsts : List ℕ} {i : ℕ} (p : PairTable s places firsts i
     pub found-room : Known s → getD places k 0 + 2 ≤ length s
     found-room known = word-room s (getD places k 0) known refl (Number (found-entry .variable)) (found-entered .number) .0
 
-    pub found-on : On (walk s (getD places k 0 + 2) 1 0)
-    found-on = rw (walk-term (found-entry .term) (found-entered .formed) (found-entered .stands)) tt
+    pub found-on : On (traverse s (getD places k 0 + 2) 1 0)
+    found-on = rw (traverse-term (found-entry .term) (found-entered .formed) (found-entered .stands)) tt
 
     -- its bytes under the bets above are those of v's value
-    pub found-bytes : walk-bytes (under (found-table .bets)) (walk s (getD places k 0 + 2) 1 0) ≡ term-bytes (apply (p .bets) (var v))
+    pub found-bytes : traversal-bytes (under (found-table .bets)) (traverse s (getD places k 0 + 2) 1 0) ≡ term-bytes (apply (p .bets) (var v))
     found-bytes =
-        ap (walk-bytes (under (found-entry .above))) (walk-term (found-entry .term) (found-entered .formed) (found-entered .stands))
+        ap (traversal-bytes (under (found-entry .above))) (traverse-term (found-entry .term) (found-entered .formed) (found-entered .stands))
         ∙ substituted-bytes (under (found-entry .above)) (found-entry .term)
         ∙ ap term-bytes (apply-variables (found-entry .above) (found-entry .term) ∙ sym (subst (Means (p .bets) v) (f .found e .1 .2) (table-means p v)))

@@ -4,8 +4,8 @@ use Prim.Native.Nat.{_-_}
 use Rattle.records.specs.Format.Encode.{goal-bytes}
 use Rattle.records.specs.Writing.Patched.{put-length}
 use Rattle.canonical.specs.Form.Canonical.{branch}
-use Rattle.canonical.specs.Sorting.Clauses.{clause-at}
-use Rattle.canonical.specs.Sorting.ClausesLaws.{clause-within, head-read, head-unread}
+use Rattle.canonical.specs.Sorting.Entries.{clause-at}
+use Rattle.canonical.specs.Sorting.EntryLaws.{clause-within, head-read, head-unread}
 use Rattle.canonical.specs.Writing.BranchLaws.{Equating, equating-start, equating-on, equating-room, equating-next, goal-on, goal-room, equating-end}
 use borrow.Author.Needs.{needs}
 use Rattle.canonical.proofs.branch.put_branch.Statement.{statement}
@@ -16,12 +16,6 @@ Inv-loop out₀ first s place base k at₀ pos₀ x₀ out at pos x = Equating s
 
 abbrev μ-loop : tie.MeasureT-loop
 μ-loop out₀ first s place base k at₀ pos₀ x₀ out at pos x = k - x
-
-clause-head-requires : tie.Need-clause-head-requires Inv-loop μ-loop
-clause-head-requires c κs = search needs
-
-enum-known-k : tie.Need-enum-known-k Inv-loop μ-loop
-enum-known-k c = search needs
 
 enum-told : tie.Need-enum-told Inv-loop μ-loop
 enum-told c = search needs
@@ -47,14 +41,14 @@ loop-less c = omega arith
 loop-again : tie.Need-loop-again Inv-loop μ-loop
 loop-again c = equating-next (c .before .before .before .before .before .loop .inv) (omega arith) (c .before .before .put-equation .ensures)
 
-put-renamed-requires : tie.Need-put-renamed-requires Inv-loop μ-loop
-put-renamed-requires c κs = (goal-on (c .before .before .loop .inv) (omega arith), (c .before .before .before .before .before .before .before .before .before .pre .1 .0, goal-room (c .before .before .loop .inv) (omega arith) (c .before .before .before .before .before .before .before .before .before .pre .1 .1)))
+write-renamed-requires : tie.Need-write-renamed-requires Inv-loop μ-loop
+write-renamed-requires c κs = (goal-on (c .before .before .loop .inv) (omega arith), (c .before .before .before .before .before .before .before .before .before .pre .1 .0, goal-room (c .before .before .loop .inv) (omega arith) (c .before .before .before .before .before .before .before .before .before .pre .1 .1)))
 
 same-length : tie.Need-same-length Inv-loop μ-loop
-same-length c = put-length (equating-end (c .before .before .before .before .before .loop .inv) (omega arith) (c .before .before .put-renamed .ensures))
+same-length c = put-length (equating-end (c .before .before .before .before .before .loop .inv) (omega arith) (c .before .before .write-renamed .ensures))
 
 returns-2 : tie.Need-returns-2 Inv-loop μ-loop
-returns-2 c = equating-end (c .before .before .before .before .before .loop .inv) (omega arith) (c .before .before .put-renamed .ensures)
+returns-2 c = equating-end (c .before .before .before .before .before .loop .inv) (omega arith) (c .before .before .write-renamed .ensures)
 
 pub put-branch-spec : {M : Type 1} → statement M
 put-branch-spec =
@@ -62,8 +56,8 @@ put-branch-spec =
     (tie.spec
     Inv-loop
     μ-loop
-    clause-head-requires
-    enum-known-k
+    (λ c κs. search needs)
+    (λ c. search needs)
     enum-told
     returns
     add-pos
@@ -72,6 +66,6 @@ put-branch-spec =
     add-x
     loop-less
     loop-again
-    put-renamed-requires
+    write-renamed-requires
     same-length
     returns-2)

@@ -1,27 +1,15 @@
 -- `clause_size`: the clause's head and its end say how long its branch is.
 use native.Mathlib.Omega.{arith}
-use Rattle.canonical.specs.Sorting.ClausesLaws.{clause-small, clause-within, head-read, head-unread, end-read, end-unread}
+use Rattle.canonical.specs.Sorting.EntryLaws.{clause-small, clause-within, head-read, head-unread, end-read, end-unread}
 use borrow.Author.Needs.{needs}
 use Rattle.canonical.proofs.definition.clause_size.Statement.{statement}
 use Rattle.canonical.proofs.definition.clause_size.Tie as tie
-
-clause-head-requires : tie.Need-clause-head-requires
-clause-head-requires c κs = search needs
-
-enum-known-k : tie.Need-enum-known-k
-enum-known-k c = search needs
 
 enum-told : tie.Need-enum-told
 enum-told c = search needs
 
 returns : tie.Need-returns
 returns c = head-unread (c .before .before .before .before .pre) (c .before .before .clause-head .ensures) (c .enum-told .given .1)
-
-clause-end-requires : tie.Need-clause-end-requires
-clause-end-requires c κs = search needs
-
-enum-known-e : tie.Need-enum-known-e
-enum-known-e c = search needs
 
 mul-result : tie.Need-mul-result
 mul-result c = omega (arith, head-read (c .before .before .before .before .before .before .before .before .before .pre) (c .before .before .before .before .before .before .before .clause-head .ensures) (c .before .before .before .before .before .k .given .1) .1, clause-small (c .before .before .before .before .before .before .before .before .before .pre) .1)
@@ -35,9 +23,6 @@ sub-result-2 c = omega (arith, end-read (c .before .before .before .before .befo
 add-result : tie.Need-add-result
 add-result c = omega (arith, head-read (c .before .before .before .before .before .before .before .before .before .pre) (c .before .before .before .before .before .before .before .clause-head .ensures) (c .before .before .before .before .before .k .given .1) .1, clause-small (c .before .before .before .before .before .before .before .before .before .pre) .1, end-read (c .before .before .before .before .before .before .before .before .before .pre) (c .before .before .before .clause-end .ensures) (c .before .e .given .1), clause-within (c .before .before .before .before .before .before .before .before .before .pre) .1)
 
-enum-told-2 : tie.Need-enum-told-2
-enum-told-2 c = search needs
-
 returns-2 : tie.Need-returns-2
 returns-2 c = omega (arith, head-read (c .before .before .before .before .before .before .before .before .before .pre) (c .before .before .before .before .before .before .before .clause-head .ensures) (c .before .before .before .before .before .k .given .1) .1, end-read (c .before .before .before .before .before .before .before .before .before .pre) (c .before .before .before .clause-end .ensures) (c .before .e .given .1), clause-within (c .before .before .before .before .before .before .before .before .before .pre) .2)
 
@@ -48,16 +33,16 @@ pub clause-size-spec : {M : Type 1} → statement M
 clause-size-spec =
     tie.close
     (tie.spec
-    clause-head-requires
-    enum-known-k
+    (λ c κs. search needs)
+    (λ c. search needs)
     enum-told
     returns
-    clause-end-requires
-    enum-known-e
+    (λ c κs. search needs)
+    (λ c. search needs)
     mul-result
     sub-result
     sub-result-2
     add-result
-    enum-told-2
+    (λ c. search needs)
     returns-2
     returns-3)

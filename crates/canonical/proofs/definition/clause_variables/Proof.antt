@@ -1,14 +1,8 @@
 -- `clause_variables`: the clause's head says it.
-use Rattle.canonical.specs.Sorting.ClausesLaws.{head-read, head-unread}
+use Rattle.canonical.specs.Sorting.EntryLaws.{head-read, head-unread}
 use borrow.Author.Needs.{needs}
 use Rattle.canonical.proofs.definition.clause_variables.Statement.{statement}
 use Rattle.canonical.proofs.definition.clause_variables.Tie as tie
-
-clause-head-requires : tie.Need-clause-head-requires
-clause-head-requires c κs = search needs
-
-enum-known-v : tie.Need-enum-known-v
-enum-known-v c = search needs
 
 enum-told : tie.Need-enum-told
 enum-told c = search needs
@@ -21,4 +15,4 @@ returns-2 c = head-unread (c .before .before .before .before .pre) (c .before .b
 
 pub clause-variables-spec : {M : Type 1} → statement M
 clause-variables-spec =
-    tie.close (tie.spec clause-head-requires enum-known-v enum-told returns returns-2)
+    tie.close (tie.spec (λ c κs. search needs) (λ c. search needs) enum-told returns returns-2)

@@ -1,5 +1,5 @@
 use native.Mathlib.Omega.{arith}
-use Rattle.canonical.specs.Sorting.EntryLaws.{better-low, better-lower, better-higher}
+use Rattle.canonical.specs.Sorting.PickingLaws.{better-low, better-lower, better-higher}
 use Rattle.canonical.proofs.order.better.Statement.{statement}
 use Rattle.canonical.proofs.order.better.Tie as tie
 

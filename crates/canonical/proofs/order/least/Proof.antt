@@ -2,22 +2,19 @@ use Prim.Native.Nat.{_-_}
 use native.Mathlib.Omega.{arith}
 use lib.ListN.{length}
 use borrow.Author.Needs.{needs}
-use Rattle.canonical.specs.Sorting.Entries.{top, least}
-use Rattle.canonical.specs.Sorting.EntryLaws.{Scanning, scanning-start, scanning-next, scanning-end}
+use Rattle.canonical.specs.Sorting.Picking.{entry-limit, least}
+use Rattle.canonical.specs.Sorting.PickingLaws.{Scanning, scanning-start, scanning-next, scanning-end}
 use Rattle.canonical.proofs.order.least.Statement.{statement}
 use Rattle.canonical.proofs.order.least.Tie as tie
 
 abbrev Inv-loop : tie.InvT-loop
-Inv-loop table low best₀ i₀ best i = Scanning table low (least low top table) best i
+Inv-loop table low best₀ i₀ best i = Scanning table low (least low entry-limit table) best i
 
 abbrev μ-loop : tie.MeasureT-loop
 μ-loop table low best₀ i₀ best i = length table - i
 
 loop-holds : tie.Need-loop-holds Inv-loop μ-loop
 loop-holds c = scanning-start _ _
-
-mul-better : tie.Need-mul-better Inv-loop μ-loop
-mul-better c = search needs
 
 shared-slice-read-better : tie.Need-shared-slice-read-better Inv-loop μ-loop
 shared-slice-read-better c = omega arith
@@ -44,7 +41,7 @@ least-spec =
     Inv-loop
     μ-loop
     loop-holds
-    mul-better
+    (λ c. search needs)
     shared-slice-read-better
     better-requires
     add-i

@@ -3,8 +3,8 @@ use Prim.Native.Nat.{_-_}
 use native.Mathlib.Omega.{arith}
 use lib.ListN.{length}
 use borrow.Author.Needs.{needs}
-use Rattle.canonical.specs.Sorting.Entries.{picked}
-use Rattle.canonical.specs.Sorting.EntryLaws.{Picking, picking-start, picking-next, picking-end, pick-bound}
+use Rattle.canonical.specs.Sorting.Picking.{picked}
+use Rattle.canonical.specs.Sorting.PickingLaws.{Picking, picking-start, picking-next, picking-end, pick-bound}
 use Rattle.canonical.proofs.order.sort.Statement.{statement}
 use Rattle.canonical.proofs.order.sort.Tie as tie
 
@@ -19,12 +19,6 @@ loop-holds c = picking-start _ _ (c .before .before .pre)
 
 least-requires : tie.Need-least-requires Inv-loop μ-loop
 least-requires c κs = tt
-
-mul-sorted : tie.Need-mul-sorted Inv-loop μ-loop
-mul-sorted c = search needs
-
-slice-write-sorted : tie.Need-slice-write-sorted Inv-loop μ-loop
-slice-write-sorted c = search needs
 
 add-low : tie.Need-add-low Inv-loop μ-loop
 add-low c = omega (arith, pick-bound _ _ (c .least .ensures))
@@ -52,8 +46,8 @@ sort-spec =
     μ-loop
     loop-holds
     least-requires
-    mul-sorted
-    slice-write-sorted
+    (λ c. search needs)
+    (λ c. search needs)
     add-low
     add-i
     loop-less

@@ -1,11 +1,12 @@
--- `put_definitions`: the definitions of the runs before i are written; `defining-run` is the next one.
+-- `put_definitions`: the definitions of the groups before i are written; `remaining-next` is the next group.
 use native.Mathlib.Omega.{arith}
 use Prim.Native.Nat.{_-_}
 use lib.ListN.{length}
 use Rattle.records.specs.Format.Encode.{each, definition-bytes}
-use Rattle.canonical.specs.Writing.Filling.{filling-length}
+use Rattle.canonical.specs.Writing.PartlyPut.{partly-length}
 use Rattle.canonical.specs.Sorting.Remaining.{program-of}
-use Rattle.canonical.specs.Writing.DefiningLaws.{Defining, defining-start, defining-run, defining-locals, defining-room, defining-next, defining-end}
+use Rattle.canonical.specs.Sorting.RemainingLaws.{remaining-next}
+use Rattle.canonical.specs.Writing.ProgramLaws.{Defining, defining-start, defining-locals, defining-room, defining-next, defining-end}
 use borrow.Author.Needs.{needs}
 use Rattle.canonical.proofs.program.put_definitions.Statement.{statement}
 use Rattle.canonical.proofs.program.put_definitions.Tie as tie
@@ -19,32 +20,29 @@ abbrev μ-loop : tie.MeasureT-loop
 loop-holds : tie.Need-loop-holds Inv-loop μ-loop
 loop-holds c = defining-start (c .before .before .before .pre .0) (c .before .before .before .pre .1 .0) _ _
 
-run-end-requires : tie.Need-run-end-requires Inv-loop μ-loop
-run-end-requires c κs = omega arith
-
-mul-put-definition : tie.Need-mul-put-definition Inv-loop μ-loop
-mul-put-definition c = search needs
+group-end-requires : tie.Need-group-end-requires Inv-loop μ-loop
+group-end-requires c κs = omega arith
 
 sub-put-definition : tie.Need-sub-put-definition Inv-loop μ-loop
-sub-put-definition c = let r = defining-run (c .before .before .before .loop .inv) (omega arith) (c .before .run-end .ensures) in omega (arith, r .forth, r .within)
+sub-put-definition c = let r = remaining-next (c .before .before .before .loop .inv .remaining) (omega arith) (c .before .group-end .ensures) in omega (arith, r .forth, r .within)
 
 part-put-definition-start : tie.Need-part-put-definition-start Inv-loop μ-loop
-part-put-definition-start c = let r = defining-run (c .before .before .before .loop .inv) (omega arith) (c .before .run-end .ensures) in omega (arith, r .forth, r .within)
+part-put-definition-start c = let r = remaining-next (c .before .before .before .loop .inv .remaining) (omega arith) (c .before .group-end .ensures) in omega (arith, r .forth, r .within)
 
 part-put-definition-end : tie.Need-part-put-definition-end Inv-loop μ-loop
-part-put-definition-end c = let r = defining-run (c .before .before .before .loop .inv) (omega arith) (c .before .run-end .ensures) in omega (arith, r .forth, r .within)
+part-put-definition-end c = let r = remaining-next (c .before .before .before .loop .inv .remaining) (omega arith) (c .before .group-end .ensures) in omega (arith, r .forth, r .within)
 
 put-definition-requires : tie.Need-put-definition-requires Inv-loop μ-loop
-put-definition-requires c κs = let r = defining-run (c .before .before .before .before .loop .inv) (omega arith) (c .before .before .run-end .ensures) in (r .run, (omega (arith, r .long, r .forth), (defining-locals (c .before .before .before .before .loop .inv) (omega arith) (c .before .before .run-end .ensures), defining-room (c .before .before .before .before .loop .inv) (omega arith) (c .before .before .run-end .ensures) (c .before .before .before .before .before .before .before .before .pre .1 .1))))
+put-definition-requires c κs = let r = remaining-next (c .before .before .before .before .loop .inv .remaining) (omega arith) (c .before .before .group-end .ensures) in (r .group, (omega (arith, r .long, r .forth), (defining-locals (c .before .before .before .before .loop .inv) (omega arith) (c .before .before .group-end .ensures), defining-room (c .before .before .before .before .loop .inv) (omega arith) (c .before .before .group-end .ensures) (c .before .before .before .before .before .before .before .before .pre .1 .1))))
 
 loop-less : tie.Need-loop-less Inv-loop μ-loop
-loop-less c = let r = defining-run (c .before .before .before .before .before .before .before .loop .inv) (omega arith) (c .before .before .before .before .before .run-end .ensures) in omega (arith, r .forth, r .within)
+loop-less c = let r = remaining-next (c .before .before .before .before .before .before .before .loop .inv .remaining) (omega arith) (c .before .before .before .before .before .group-end .ensures) in omega (arith, r .forth, r .within)
 
 loop-again : tie.Need-loop-again Inv-loop μ-loop
-loop-again c = defining-next (c .before .before .before .before .before .before .before .loop .inv) (omega arith) (c .before .before .before .before .before .run-end .ensures) (c .before .before .put-definition .ensures)
+loop-again c = defining-next (c .before .before .before .before .before .before .before .loop .inv) (omega arith) (c .before .before .before .before .before .group-end .ensures) (c .before .before .put-definition .ensures)
 
 same-length : tie.Need-same-length Inv-loop μ-loop
-same-length c = filling-length (c .before .loop .inv .filling)
+same-length c = partly-length (c .before .loop .inv .partly)
 
 returns : tie.Need-returns Inv-loop μ-loop
 returns c = defining-end (c .before .loop .inv) (omega arith)
@@ -56,8 +54,8 @@ put-definitions-spec =
     Inv-loop
     μ-loop
     loop-holds
-    run-end-requires
-    mul-put-definition
+    group-end-requires
+    (λ c. search needs)
     sub-put-definition
     part-put-definition-start
     part-put-definition-end

@@ -2,20 +2,11 @@
 use mathlib.Core.Path.{sym, ap, _∙_}
 use native.Mathlib.Omega.{arith}
 use Rattle.records.specs.Writing.Patched.{put-length}
-use Rattle.canonical.specs.Writing.Survey.{survey-refusal}
-use Rattle.canonical.specs.Writing.ReplyLaws.{measured, reply-refused, survey-fits, reply-whole}
+use Rattle.canonical.specs.Writing.Program.{survey-refusal}
+use Rattle.canonical.specs.Writing.ReplyLaws.{program-measured, reply-refused, survey-fits, reply-whole}
 use borrow.Author.Needs.{needs}
 use Rattle.canonical.proofs.program.put_program.Statement.{statement}
 use Rattle.canonical.proofs.program.put_program.Tie as tie
-
-measure-program-requires : tie.Need-measure-program-requires
-measure-program-requires c κs = search needs
-
-survey-refusal-requires : tie.Need-survey-refusal-requires
-survey-refusal-requires c κs = search needs
-
-enum-known-survey : tie.Need-enum-known-survey
-enum-known-survey c = search needs
 
 enum-told : tie.Need-enum-told
 enum-told c = search needs
@@ -40,15 +31,15 @@ same-length c = put-length (c .before .before .put-record .ensures)
 returns-3 : tie.Need-returns-3
 returns-3 c =
     let e = c .before .before .before .before .before .before .survey .given .1 in
-    reply-whole _ _ (c .before .before .before .before .before .before .before .before .before .before .before .before .before .pre .1) (measured _ (sym e ∙ c .before .before .before .before .before .before .before .before .before .measure-program .ensures)) (survey-fits e (c .before .before .before .before .before .before .before .before .survey-refusal .ensures) (omega arith)) (c .before .before .put-record .ensures)
+    reply-whole _ _ (c .before .before .before .before .before .before .before .before .before .before .before .before .before .pre .1) (program-measured _ (sym e ∙ c .before .before .before .before .before .before .before .before .before .measure-program .ensures)) (survey-fits e (c .before .before .before .before .before .before .before .before .survey-refusal .ensures) (omega arith)) (c .before .before .put-record .ensures)
 
 pub put-program-spec : {M : Type 1} → statement M
 put-program-spec =
     tie.close
     (tie.spec
-    measure-program-requires
-    survey-refusal-requires
-    enum-known-survey
+    (λ c κs. search needs)
+    (λ c κs. search needs)
+    (λ c. search needs)
     enum-told
     returns
     returns-2

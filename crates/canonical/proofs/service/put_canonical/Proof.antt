@@ -1,16 +1,13 @@
 -- `put_canonical`: the record's count is the number of its clauses, and the tables have room for them.
 use native.Mathlib.Omega.{arith}
 use mathlib.Core.Path.{sym, _∙_}
-use Rattle.canonical.specs.Sorting.AcceptedLaws.{clauses-few, count-read, count-unread, front-length}
+use Rattle.canonical.specs.Sorting.RemainingLaws.{clauses-few, count-read, count-unread, front-length}
 use borrow.Author.Needs.{needs}
 use Rattle.canonical.proofs.service.put_canonical.Statement.{statement}
 use Rattle.canonical.proofs.service.put_canonical.Tie as tie
 
 word-at-requires : tie.Need-word-at-requires
 word-at-requires c κs = tt
-
-enum-known-n : tie.Need-enum-known-n
-enum-known-n c = search needs
 
 enum-told : tie.Need-enum-told
 enum-told c = search needs
@@ -44,15 +41,6 @@ put-sorted-requires c κs =
     let u = front-length (c .before .before .before .before .n .given .0 .0) (c .before .before .before .before .before .before .before .before .before .before .before .args .sorted .now) (omega (arith, n, few, c .before .before .before .before .before .before .before .before .before .before .before .pre .1 .1 .0)) in
     (c .before .before .before .before .before .before .before .before .before .before .before .pre .0, (t ∙ n, (u ∙ sym t, c .before .before .before .before .before .before .before .before .before .before .before .pre .1 .1 .1)))
 
-same-length : tie.Need-same-length
-same-length c = search needs
-
-same-length-2 : tie.Need-same-length-2
-same-length-2 c = search needs
-
-same-length-3 : tie.Need-same-length-3
-same-length-3 c = search needs
-
 returns-2 : tie.Need-returns-2
 returns-2 c = c .before .before .before .before .before .before .put-sorted .ensures
 
@@ -61,7 +49,7 @@ put-canonical-spec =
     tie.close
     (tie.spec
     word-at-requires
-    enum-known-n
+    (λ c. search needs)
     enum-told
     returns
     sub-put-sorted
@@ -71,7 +59,7 @@ put-canonical-spec =
     part-put-sorted-start-2
     part-put-sorted-end-2
     put-sorted-requires
-    same-length
-    same-length-2
-    same-length-3
+    (λ c. search needs)
+    (λ c. search needs)
+    (λ c. search needs)
     returns-2)

@@ -4,9 +4,6 @@ use Rattle.fourport.specs.AnswerLaws.{range-in-order, part-of-range}
 use Rattle.fourport.proofs.look.fourport_lookup.Statement.{statement}
 use Rattle.fourport.proofs.look.fourport_lookup.Tie as tie
 
-lookup-range-requires : tie.Need-lookup-range-requires
-lookup-range-requires c κs = search needs
-
 sub-result : tie.Need-sub-result
 sub-result c = range-in-order _ (c .before .lookup-range .ensures)
 
@@ -14,4 +11,4 @@ returns : tie.Need-returns
 returns c = part-of-range _ (c .before .lookup-range .ensures)
 
 pub fourport-lookup-spec : {M : Type 1} → statement M
-fourport-lookup-spec = tie.close (tie.spec lookup-range-requires sub-result returns)
+fourport-lookup-spec = tie.close (tie.spec (λ c κs. search needs) sub-result returns)

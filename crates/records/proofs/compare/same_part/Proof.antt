@@ -19,14 +19,8 @@ loop-holds c = (omega arith, same-start _ _ _ _ _)
 add-if1 : tie.Need-add-if1 Inv-loop μ-loop
 add-if1 c = omega arith
 
-shared-slice-read-if1 : tie.Need-shared-slice-read-if1 Inv-loop μ-loop
-shared-slice-read-if1 c = search needs
-
 add-if1-2 : tie.Need-add-if1-2 Inv-loop μ-loop
 add-if1-2 c = omega arith
-
-shared-slice-read-if1-2 : tie.Need-shared-slice-read-if1-2 Inv-loop μ-loop
-shared-slice-read-if1-2 c = search needs
 
 returns : tie.Need-returns Inv-loop μ-loop
 returns c = differ-here _ _ _ _ _ (c .before .before .before .before .before .pre .0) (c .before .before .before .before .before .pre .1) _ (c .before .before .before .loop-test .taken) (c .if1 .taken) ∙ sym (c .before .before .before .before .loop .inv .1)
@@ -51,9 +45,9 @@ same-part-spec =
     μ-loop
     loop-holds
     add-if1
-    shared-slice-read-if1
+    (λ c. search needs)
     add-if1-2
-    shared-slice-read-if1-2
+    (λ c. search needs)
     returns
     add-i
     loop-less

@@ -5,14 +5,8 @@ use borrow.Author.Needs.{needs}
 use Rattle.records.proofs.door.clauses_door.Statement.{statement}
 use Rattle.records.proofs.door.clauses_door.Tie as tie
 
-clauses-verdict-requires : tie.Need-clauses-verdict-requires
-clauses-verdict-requires c κs = search needs
-
-program-number-requires : tie.Need-program-number-requires
-program-number-requires c κs = search needs
-
 returns : tie.Need-returns
 returns c = c .program-number .ensures ∙ ap program-number (c .before .clauses-verdict .ensures) ∙ program-door-number _
 
 pub clauses-door-spec : {M : Type 1} → statement M
-clauses-door-spec = tie.close (tie.spec clauses-verdict-requires program-number-requires returns)
+clauses-door-spec = tie.close (tie.spec (λ c κs. search needs) (λ c κs. search needs) returns)

@@ -5,14 +5,8 @@ use borrow.Author.Needs.{needs}
 use Rattle.records.proofs.door.event_door.Statement.{statement}
 use Rattle.records.proofs.door.event_door.Tie as tie
 
-event-verdict-requires : tie.Need-event-verdict-requires
-event-verdict-requires c κs = search needs
-
-event-number-requires : tie.Need-event-number-requires
-event-number-requires c κs = search needs
-
 returns : tie.Need-returns
 returns c = c .event-number .ensures ∙ ap event-number (c .before .event-verdict .ensures) ∙ event-door-number _
 
 pub event-door-spec : {M : Type 1} → statement M
-event-door-spec = tie.close (tie.spec event-verdict-requires event-number-requires returns)
+event-door-spec = tie.close (tie.spec (λ c κs. search needs) (λ c κs. search needs) returns)

@@ -4,9 +4,6 @@ use borrow.Author.Needs.{needs}
 use Rattle.records.proofs.door.gate.Statement.{statement}
 use Rattle.records.proofs.door.gate.Tie as tie
 
-door-requires : tie.Need-door-requires
-door-requires c κs = search needs
-
 returns : tie.Need-returns
 returns c = number-door _ _ _ (c .before .door .ensures) (λ z. omega arith)
 
@@ -17,4 +14,4 @@ returns-3 : tie.Need-returns-3
 returns-3 c = number-open _ _ (c .before .before .door .ensures) (omega arith) (omega arith)
 
 pub gate-spec : {M : Type 1} → statement M
-gate-spec = tie.close (tie.spec door-requires returns returns-2 returns-3)
+gate-spec = tie.close (tie.spec (λ c κs. search needs) returns returns-2 returns-3)

@@ -5,14 +5,8 @@ use borrow.Author.Needs.{needs}
 use Rattle.records.proofs.door.program_door.Statement.{statement}
 use Rattle.records.proofs.door.program_door.Tie as tie
 
-program-verdict-requires : tie.Need-program-verdict-requires
-program-verdict-requires c κs = search needs
-
-program-number-requires : tie.Need-program-number-requires
-program-number-requires c κs = search needs
-
 returns : tie.Need-returns
 returns c = c .program-number .ensures ∙ ap program-number (c .before .program-verdict .ensures) ∙ program-door-number _
 
 pub program-door-spec : {M : Type 1} → statement M
-program-door-spec = tie.close (tie.spec program-verdict-requires program-number-requires returns)
+program-door-spec = tie.close (tie.spec (λ c κs. search needs) (λ c κs. search needs) returns)

@@ -5,14 +5,8 @@ use borrow.Author.Needs.{needs}
 use Rattle.records.proofs.door.query_door.Statement.{statement}
 use Rattle.records.proofs.door.query_door.Tie as tie
 
-query-verdict-requires : tie.Need-query-verdict-requires
-query-verdict-requires c κs = search needs
-
-event-number-requires : tie.Need-event-number-requires
-event-number-requires c κs = search needs
-
 returns : tie.Need-returns
 returns c = c .event-number .ensures ∙ ap event-number (c .before .query-verdict .ensures) ∙ event-door-number _
 
 pub query-door-spec : {M : Type 1} → statement M
-query-door-spec = tie.close (tie.spec query-verdict-requires event-number-requires returns)
+query-door-spec = tie.close (tie.spec (λ c κs. search needs) (λ c κs. search needs) returns)

@@ -1,11 +1,10 @@
 use native.Mathlib.Omega.{arith}
-use Prim.Native.Nat.{ℕ, _+_, _*_, _-_}
+use Prim.Native.Nat.{ℕ, _+_, _*_, _-_, _<_}
 use lib.ListN.{length}
 use Rattle.records.specs.Ends.HeadRoom.{term-room}
 use Rattle.records.specs.declared.heads.TermHead.the-variants.{Variable, Symbol}
 use Rattle.records.proofs.EndSteps.{variable-end, symbol-end, no-end, no-args, args-more, args-stop, args-bound}
 use borrow.Author.Needs.{needs}
-use Prim.Native.Nat.{ℕ, _<_}
 use borrow.Fn.Kinds.{In}
 use borrow.Fn.PlainCycle.{Measures, is, falls, and}
 use Rattle.records.proofs.ends.args_end.Reads as args-end

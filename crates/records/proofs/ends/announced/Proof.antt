@@ -4,9 +4,6 @@ use borrow.Author.Needs.{needs}
 use Rattle.records.proofs.ends.announced.Statement.{statement}
 use Rattle.records.proofs.ends.announced.Tie as tie
 
-enum-known-f : tie.Need-enum-known-f
-enum-known-f c = search needs
-
 enum-told : tie.Need-enum-told
 enum-told c = search needs
 
@@ -17,4 +14,4 @@ returns-2 : tie.Need-returns-2
 returns-2 c = sym (ap announced (c .enum-told .given .1))
 
 pub announced-spec : {M : Type 1} → statement M
-announced-spec = tie.close (tie.spec enum-known-f enum-told returns returns-2)
+announced-spec = tie.close (tie.spec (λ c. search needs) enum-told returns returns-2)

@@ -7,20 +7,11 @@ use borrow.Author.Needs.{needs}
 use Rattle.records.proofs.ends.binding_end.Statement.{statement}
 use Rattle.records.proofs.ends.binding_end.Tie as tie
 
-word-at-requires : tie.Need-word-at-requires
-word-at-requires c κs = search needs
-
 enum-told : tie.Need-enum-told
 enum-told c = search needs
 
 add-term-end : tie.Need-add-term-end
 add-term-end c = omega (arith, word-room _ _ (c .before .before .before .shared-slice-known .given) (c .before .before .word-at .ensures) (Number _) (c .enum-told .given .1))
-
-term-end-requires : tie.Need-term-end-requires
-term-end-requires c κs = search needs
-
-enum-told-2 : tie.Need-enum-told-2
-enum-told-2 c = search needs
 
 returns : tie.Need-returns
 returns c = c .term-end .ensures ∙ binding-ends _ _ (c .before .before .before .word-at .ensures) (Number _) (c .before .enum-told .given .1)
@@ -32,10 +23,10 @@ pub binding-end-spec : {M : Type 1} → statement M
 binding-end-spec =
     tie.close
     (tie.spec
-    word-at-requires
+    (λ c κs. search needs)
     enum-told
     add-term-end
-    term-end-requires
-    enum-told-2
+    (λ c κs. search needs)
+    (λ c. search needs)
     returns
     returns-2)

@@ -1,5 +1,5 @@
 use Rattle.records.specs.Ends.ItemEnds.{none-ends, more-ends, never-ends}
-use Rattle.records.specs.Ends.Walk.{end-of}
+use Rattle.records.specs.Ends.Traversal.{end-of}
 use Rattle.records.specs.Format.Items.{many, read-binding}
 use mathlib.Core.Path.{_≡_, refl, sym, _∙_}
 use native.Mathlib.Omega.{arith}
@@ -15,15 +15,6 @@ abbrev μ-loop : tie.MeasureT-loop
 
 loop-holds : tie.Need-loop-holds Inv-loop μ-loop
 loop-holds c = refl
-
-binding-end-requires : tie.Need-binding-end-requires Inv-loop μ-loop
-binding-end-requires c κs = search needs
-
-enum-known-e : tie.Need-enum-known-e Inv-loop μ-loop
-enum-known-e c = search needs
-
-sub-left : tie.Need-sub-left Inv-loop μ-loop
-sub-left c = search needs
 
 loop-less : tie.Need-loop-less Inv-loop μ-loop
 loop-less c = omega arith
@@ -47,9 +38,9 @@ bindings-end-spec =
     Inv-loop
     μ-loop
     loop-holds
-    binding-end-requires
-    enum-known-e
-    sub-left
+    (λ c κs. search needs)
+    (λ c. search needs)
+    (λ c. search needs)
     loop-less
     loop-again
     enum-told

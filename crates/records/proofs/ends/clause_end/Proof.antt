@@ -7,17 +7,8 @@ use borrow.Author.Needs.{needs}
 use Rattle.records.proofs.ends.clause_end.Statement.{statement}
 use Rattle.records.proofs.ends.clause_end.Tie as tie
 
-clause-head-requires : tie.Need-clause-head-requires
-clause-head-requires c κs = search needs
-
-enum-known-k : tie.Need-enum-known-k
-enum-known-k c = search needs
-
 add-parts-end : tie.Need-add-parts-end
 add-parts-end c = omega (arith, clause-room _ _ (c .before .before .before .before .shared-slice-known .given) (c .before .before .before .clause-head .ensures) (Predicate _ _ _) (c .before .k .given .1))
-
-parts-end-requires : tie.Need-parts-end-requires
-parts-end-requires c κs = search needs
 
 enum-told : tie.Need-enum-told
 enum-told c = search needs
@@ -32,10 +23,10 @@ pub clause-end-spec : {M : Type 1} → statement M
 clause-end-spec =
     tie.close
     (tie.spec
-    clause-head-requires
-    enum-known-k
+    (λ c κs. search needs)
+    (λ c. search needs)
     add-parts-end
-    parts-end-requires
+    (λ c κs. search needs)
     enum-told
     returns
     returns-2)

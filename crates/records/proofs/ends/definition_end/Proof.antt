@@ -7,20 +7,11 @@ use borrow.Author.Needs.{needs}
 use Rattle.records.proofs.ends.definition_end.Statement.{statement}
 use Rattle.records.proofs.ends.definition_end.Tie as tie
 
-definition-head-requires : tie.Need-definition-head-requires
-definition-head-requires c κs = search needs
-
 enum-told : tie.Need-enum-told
 enum-told c = search needs
 
 add-goals-end : tie.Need-add-goals-end
 add-goals-end c = omega (arith, definition-room _ _ (c .before .before .before .shared-slice-known .given) (c .before .before .definition-head .ensures) (Predicate _ _ _) (c .enum-told .given .1))
-
-goals-end-requires : tie.Need-goals-end-requires
-goals-end-requires c κs = search needs
-
-enum-told-2 : tie.Need-enum-told-2
-enum-told-2 c = search needs
 
 returns : tie.Need-returns
 returns c = c .goals-end .ensures ∙ definition-ends _ _ (c .before .before .before .definition-head .ensures) (Predicate _ _ _) (c .before .enum-told .given .1)
@@ -32,10 +23,10 @@ pub definition-end-spec : {M : Type 1} → statement M
 definition-end-spec =
     tie.close
     (tie.spec
-    definition-head-requires
+    (λ c κs. search needs)
     enum-told
     add-goals-end
-    goals-end-requires
-    enum-told-2
+    (λ c κs. search needs)
+    (λ c. search needs)
     returns
     returns-2)

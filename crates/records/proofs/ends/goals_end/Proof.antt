@@ -1,6 +1,6 @@
 use Rattle.records.proofs.EndSteps.{no-goals}
 use Rattle.records.specs.Ends.EndLaws.{next-bound, next-on, next-off}
-use Rattle.records.specs.Ends.Walk.{end-at}
+use Rattle.records.specs.Ends.Traversal.{end-at}
 use lib.ListN.{length}
 use mathlib.Core.Path.{_≡_, refl, sym, _∙_}
 use native.Mathlib.Omega.{arith}
@@ -17,15 +17,6 @@ abbrev μ-loop : tie.MeasureT-loop
 
 loop-holds : tie.Need-loop-holds Inv-loop μ-loop
 loop-holds c = (refl, omega arith, omega arith)
-
-next-goal-requires : tie.Need-next-goal-requires Inv-loop μ-loop
-next-goal-requires c κs = search needs
-
-enum-known-e : tie.Need-enum-known-e Inv-loop μ-loop
-enum-known-e c = search needs
-
-sub-left : tie.Need-sub-left Inv-loop μ-loop
-sub-left c = search needs
 
 add-left : tie.Need-add-left Inv-loop μ-loop
 add-left c = omega (arith, next-bound _ _ (c .before .before .before .before .before .before .shared-slice-known .given) (c .before .before .before .next-goal .ensures) (c .before .e .given .1))
@@ -53,9 +44,9 @@ goals-end-spec =
     Inv-loop
     μ-loop
     loop-holds
-    next-goal-requires
-    enum-known-e
-    sub-left
+    (λ c κs. search needs)
+    (λ c. search needs)
+    (λ c. search needs)
     add-left
     loop-less
     loop-again

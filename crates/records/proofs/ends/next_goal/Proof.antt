@@ -7,59 +7,26 @@ use borrow.Author.Needs.{needs}
 use Rattle.records.proofs.ends.next_goal.Statement.{statement}
 use Rattle.records.proofs.ends.next_goal.Tie as tie
 
-goal-head-requires : tie.Need-goal-head-requires
-goal-head-requires c κs = search needs
-
 enum-told : tie.Need-enum-told
 enum-told c = search needs
 
 add-t6 : tie.Need-add-t6
 add-t6 c = omega (arith, goal-room _ _ (c .before .before .before .shared-slice-known .given) (c .before .before .goal-head .ensures) Truth (c .enum-told .given .1))
 
-enum-told-2 : tie.Need-enum-told-2
-enum-told-2 c = search needs
-
 add-t7 : tie.Need-add-t7
 add-t7 c = omega (arith, goal-room _ _ (c .before .before .before .shared-slice-known .given) (c .before .before .goal-head .ensures) Failure (c .enum-told2 .given .1))
-
-enum-told-3 : tie.Need-enum-told-3
-enum-told-3 c = search needs
 
 add-args-end : tie.Need-add-args-end
 add-args-end c = omega (arith, goal-room _ _ (c .before .before .before .shared-slice-known .given) (c .before .before .goal-head .ensures) Equal (c .enum-told3 .given .1))
 
-args-end-requires : tie.Need-args-end-requires
-args-end-requires c κs = search needs
-
-announced-requires : tie.Need-announced-requires
-announced-requires c κs = search needs
-
-enum-told-4 : tie.Need-enum-told-4
-enum-told-4 c = search needs
-
 add-t10 : tie.Need-add-t10
 add-t10 c = omega (arith, goal-room _ _ (c .before .before .before .shared-slice-known .given) (c .before .before .goal-head .ensures) Conj (c .enum-told4 .given .1))
-
-enum-told-5 : tie.Need-enum-told-5
-enum-told-5 c = search needs
 
 add-t11 : tie.Need-add-t11
 add-t11 c = omega (arith, goal-room _ _ (c .before .before .before .shared-slice-known .given) (c .before .before .goal-head .ensures) Disj (c .enum-told5 .given .1))
 
-enum-known-k : tie.Need-enum-known-k
-enum-known-k c = search needs
-
 add-args-end-2 : tie.Need-add-args-end-2
 add-args-end-2 c = omega (arith, goal-room _ _ (c .before .before .before .before .shared-slice-known .given) (c .before .before .before .goal-head .ensures) (Atom _ _) (c .before .k .given .1))
-
-args-end-requires-2 : tie.Need-args-end-requires-2
-args-end-requires-2 c κs = search needs
-
-announced-requires-2 : tie.Need-announced-requires-2
-announced-requires-2 c κs = search needs
-
-enum-told-6 : tie.Need-enum-told-6
-enum-told-6 c = search needs
 
 returns : tie.Need-returns
 returns c = next-arm _ _ (c .before .before .before .shared-slice-known .given) (c .before .before .goal-head .ensures) Truth (c .enum-told .given .1)
@@ -86,24 +53,24 @@ pub next-goal-spec : {M : Type 1} → statement M
 next-goal-spec =
     tie.close
     (tie.spec
-    goal-head-requires
+    (λ c κs. search needs)
     enum-told
     add-t6
-    enum-told-2
+    (λ c. search needs)
     add-t7
-    enum-told-3
+    (λ c. search needs)
     add-args-end
-    args-end-requires
-    announced-requires
-    enum-told-4
+    (λ c κs. search needs)
+    (λ c κs. search needs)
+    (λ c. search needs)
     add-t10
-    enum-told-5
+    (λ c. search needs)
     add-t11
-    enum-known-k
+    (λ c. search needs)
     add-args-end-2
-    args-end-requires-2
-    announced-requires-2
-    enum-told-6
+    (λ c κs. search needs)
+    (λ c κs. search needs)
+    (λ c. search needs)
     returns
     returns-2
     returns-3

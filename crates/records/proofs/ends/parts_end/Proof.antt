@@ -3,15 +3,6 @@ use borrow.Author.Needs.{needs}
 use Rattle.records.proofs.ends.parts_end.Statement.{statement}
 use Rattle.records.proofs.ends.parts_end.Tie as tie
 
-args-end-requires : tie.Need-args-end-requires
-args-end-requires c κs = search needs
-
-enum-known-e : tie.Need-enum-known-e
-enum-known-e c = search needs
-
-goals-end-requires : tie.Need-goals-end-requires
-goals-end-requires c κs = search needs
-
 enum-told : tie.Need-enum-told
 enum-told c = search needs
 
@@ -24,4 +15,4 @@ returns-2 c = parts-stop _ _ (c .before .before .before .shared-slice-known .giv
 pub parts-end-spec : {M : Type 1} → statement M
 parts-end-spec =
     tie.close
-    (tie.spec args-end-requires enum-known-e goals-end-requires enum-told returns returns-2)
+    (tie.spec (λ c κs. search needs) (λ c. search needs) (λ c κs. search needs) enum-told returns returns-2)

@@ -7,23 +7,14 @@ use Rattle.records.proofs.gate.bets_place.Tie as tie
 port-end-requires : tie.Need-port-end-requires
 port-end-requires c κs = tt
 
-enum-known-goal : tie.Need-enum-known-goal
-enum-known-goal c = search needs
-
 goals-end-requires : tie.Need-goals-end-requires
 goals-end-requires c κs = omega arith
-
-enum-known-e : tie.Need-enum-known-e
-enum-known-e c = search needs
 
 counted-end-requires : tie.Need-counted-end-requires
 counted-end-requires c κs = tt
 
 enum-told : tie.Need-enum-told
 enum-told c = search needs
-
-enum-told-2 : tie.Need-enum-told-2
-enum-told-2 c = search needs
 
 returns : tie.Need-returns
 returns c = event-bets _ (c .before .before .before .before .before .before .before .before .port-end .ensures) (c .before .before .before .before .before .before .goal .given .1) (c .before .before .before .before .goals-end .ensures) (c .before .before .e .given .1) (c .counted-end .ensures)
@@ -39,12 +30,12 @@ bets-place-spec =
     tie.close
     (tie.spec
     port-end-requires
-    enum-known-goal
+    (λ c. search needs)
     goals-end-requires
-    enum-known-e
+    (λ c. search needs)
     counted-end-requires
     enum-told
-    enum-told-2
+    (λ c. search needs)
     returns
     returns-2
     returns-3)

@@ -8,9 +8,6 @@ use Rattle.records.proofs.gate.bets_verdict.Tie as tie
 counted-end-requires : tie.Need-counted-end-requires
 counted-end-requires c κs = tt
 
-enum-known-e : tie.Need-enum-known-e
-enum-known-e c = search needs
-
 counted-kept-requires : tie.Need-counted-kept-requires
 counted-kept-requires c κs = ends-at (sym (c .before .before .before .counted-end .ensures) ∙ c .before .e .given .1)
 
@@ -31,7 +28,7 @@ bets-verdict-spec =
     tie.close
     (tie.spec
     counted-end-requires
-    enum-known-e
+    (λ c. search needs)
     counted-kept-requires
     judged-requires
     enum-told

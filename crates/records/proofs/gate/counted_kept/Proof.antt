@@ -10,9 +10,6 @@ use Rattle.records.proofs.gate.counted_kept.Tie as tie
 word-at-requires : tie.Need-word-at-requires
 word-at-requires c κs = tt
 
-enum-known-n : tie.Need-enum-known-n
-enum-known-n c = search needs
-
 add-items-kept : tie.Need-add-items-kept
 add-items-kept c = omega (arith, word-room _ _ (c .before .before .before .before .shared-slice-known .given) (c .before .before .before .word-at .ensures) (Number _) (c .before .n .given .1))
 
@@ -33,7 +30,7 @@ counted-kept-spec =
     tie.close
     (tie.spec
     word-at-requires
-    enum-known-n
+    (λ c. search needs)
     add-items-kept
     items-kept-requires
     enum-told

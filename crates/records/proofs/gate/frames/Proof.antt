@@ -13,12 +13,6 @@ returns-2 c = long-frame _ (omega arith)
 word-at-requires : tie.Need-word-at-requires
 word-at-requires c κs = tt
 
-enum-known-m : tie.Need-enum-known-m
-enum-known-m c = search needs
-
-sub-result : tie.Need-sub-result
-sub-result c = search needs
-
 enum-told : tie.Need-enum-told
 enum-told c = search needs
 
@@ -35,8 +29,8 @@ frames-spec =
     returns
     returns-2
     word-at-requires
-    enum-known-m
-    sub-result
+    (λ c. search needs)
+    (λ c. search needs)
     enum-told
     returns-3
     returns-4)

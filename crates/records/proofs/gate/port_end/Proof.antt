@@ -7,9 +7,6 @@ use Rattle.records.proofs.gate.port_end.Tie as tie
 returns : tie.Need-returns
 returns c = past-port _ _ (omega arith)
 
-shared-slice-read-b : tie.Need-shared-slice-read-b
-shared-slice-read-b c = search needs
-
 returns-2 : tie.Need-returns-2
 returns-2 c = no-port _ _ (omega arith) (omega arith)
 
@@ -24,4 +21,4 @@ returns-4 c = port-at _ _ (omega arith) (omega arith) (omega arith)
 
 pub port-end-spec : {M : Type 1} → statement M
 port-end-spec =
-    tie.close (tie.spec returns shared-slice-read-b returns-2 returns-3 add-t4 returns-4)
+    tie.close (tie.spec returns (λ c. search needs) returns-2 returns-3 add-t4 returns-4)

@@ -7,17 +7,14 @@ use Rattle.records.proofs.gate.program_rises.Tie as tie
 word-at-requires : tie.Need-word-at-requires
 word-at-requires c κs = tt
 
-enum-known-n : tie.Need-enum-known-n
-enum-known-n c = search needs
-
-keys-rise-requires : tie.Need-keys-rise-requires
-keys-rise-requires c κs = definitions-found _ (c .before .before .before .word-at .ensures) (c .before .before .before .before .before .pre) (c .before .n .given .1)
+ranks-rise-requires : tie.Need-ranks-rise-requires
+ranks-rise-requires c κs = definitions-found _ (c .before .before .before .word-at .ensures) (c .before .before .before .before .before .pre) (c .before .n .given .1)
 
 enum-told : tie.Need-enum-told
 enum-told c = search needs
 
 returns : tie.Need-returns
-returns c = c .keys-rise .ensures ∙ program-row _ (c .before .before .before .before .word-at .ensures) (c .before .before .n .given .1)
+returns c = c .ranks-rise .ensures ∙ program-row _ (c .before .before .before .before .word-at .ensures) (c .before .before .n .given .1)
 
 returns-2 : tie.Need-returns-2
 returns-2 c = definitions-lost _ (c .before .before .word-at .ensures) (c .before .before .before .before .pre) (c .enum-told .given .1)
@@ -25,4 +22,4 @@ returns-2 c = definitions-lost _ (c .before .before .word-at .ensures) (c .befor
 pub program-rises-spec : {M : Type 1} → statement M
 program-rises-spec =
     tie.close
-    (tie.spec word-at-requires enum-known-n keys-rise-requires enum-told returns returns-2)
+    (tie.spec word-at-requires (λ c. search needs) ranks-rise-requires enum-told returns returns-2)

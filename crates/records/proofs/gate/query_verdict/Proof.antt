@@ -1,53 +1,39 @@
 use native.Mathlib.Omega.{arith}
-use Rattle.records.specs.Gate.GateEnds.{unframed, other-version, framed-length}
+use Rattle.records.specs.Gate.GateEnds.{refuses}
 use Rattle.records.specs.Gate.CountedEnds.{query-unread, query-judged}
-use borrow.Author.Tests.{not-true, not-false}
-use mathlib.Core.Path.{sym, _∙_}
 use borrow.Author.Needs.{needs}
 use Rattle.records.proofs.gate.query_verdict.Statement.{statement}
 use Rattle.records.proofs.gate.query_verdict.Tie as tie
 
-frames-requires : tie.Need-frames-requires
-frames-requires c κs = tt
-
-returns : tie.Need-returns
-returns c = unframed _ _ _ (c .before .frames .ensures) (not-true _ (c .if1 .taken))
-
-is-version-1-requires : tie.Need-is-version-1-requires
-is-version-1-requires c κs = framed-length _ (sym (c .before .frames .ensures) ∙ not-false _ (c .if1 .left)) .0
-
-returns-2 : tie.Need-returns-2
-returns-2 c = other-version _ _ _ (sym (c .before .before .before .frames .ensures) ∙ not-false _ (c .before .before .if1 .left)) (c .before .is-version-1 .ensures) (not-true _ (c .if2 .taken))
+opening-of-requires : tie.Need-opening-of-requires
+opening-of-requires c κs = tt
 
 goals-end-requires : tie.Need-goals-end-requires
 goals-end-requires c κs = omega arith
 
-enum-known-e : tie.Need-enum-known-e
-enum-known-e c = search needs
-
 judged-requires : tie.Need-judged-requires
 judged-requires c κs = tt
 
-enum-told : tie.Need-enum-told
-enum-told c = search needs
+returns : tie.Need-returns
+returns c = query-judged _ (c .before .before .before .before .before .before .before .opening-of .ensures) (c .before .before .before .before .before .enum-told .given .1) (c .before .before .before .before .goals-end .ensures) (c .before .before .e .given .1) (c .judged .ensures)
+
+returns-2 : tie.Need-returns-2
+returns-2 c = query-unread _ (c .before .before .before .before .before .opening-of .ensures) (c .before .before .before .enum-told .given .1) (c .before .before .goals-end .ensures) (c .enum-told2 .given .1)
 
 returns-3 : tie.Need-returns-3
-returns-3 c = query-judged _ (sym (c .before .before .before .before .before .before .before .before .frames .ensures) ∙ not-false _ (c .before .before .before .before .before .before .before .if1 .left)) (sym (c .before .before .before .before .before .before .is-version-1 .ensures) ∙ not-false _ (c .before .before .before .before .before .if2 .left)) (c .before .before .before .before .goals-end .ensures) (c .before .before .e .given .1) (c .judged .ensures)
-
-returns-4 : tie.Need-returns-4
-returns-4 c = query-unread _ (sym (c .before .before .before .before .before .before .frames .ensures) ∙ not-false _ (c .before .before .before .before .before .if1 .left)) (sym (c .before .before .before .before .is-version-1 .ensures) ∙ not-false _ (c .before .before .before .if2 .left)) (c .before .before .goals-end .ensures) (c .enum-told .given .1)
+returns-3 c = refuses _ _ _ (c .before .before .before .opening-of .ensures) (c .before .v .given .1)
 
 pub query-verdict-spec : {M : Type 1} → statement M
 query-verdict-spec =
     tie.close
     (tie.spec
-    frames-requires
-    returns
-    is-version-1-requires
-    returns-2
+    opening-of-requires
+    (λ c. search needs)
     goals-end-requires
-    enum-known-e
+    (λ c. search needs)
     judged-requires
-    enum-told
-    returns-3
-    returns-4)
+    (λ c. search needs)
+    (λ c. search needs)
+    returns
+    returns-2
+    returns-3)

@@ -5,47 +5,8 @@ use borrow.Author.Needs.{needs}
 use Rattle.records.proofs.heads.ancestor_head.Statement.{statement}
 use Rattle.records.proofs.heads.ancestor_head.Tie as tie
 
-goal-head-requires : tie.Need-goal-head-requires
-goal-head-requires c κs = search needs
-
-enum-known-p : tie.Need-enum-known-p
-enum-known-p c = search needs
-
 enum-told : tie.Need-enum-told
 enum-told c = search needs
-
-half-head-requires : tie.Need-half-head-requires
-half-head-requires c κs = search needs
-
-enum-told-2 : tie.Need-enum-told-2
-enum-told-2 c = search needs
-
-half-head-requires-2 : tie.Need-half-head-requires-2
-half-head-requires-2 c κs = search needs
-
-enum-told-3 : tie.Need-enum-told-3
-enum-told-3 c = search needs
-
-half-head-requires-3 : tie.Need-half-head-requires-3
-half-head-requires-3 c κs = search needs
-
-enum-told-4 : tie.Need-enum-told-4
-enum-told-4 c = search needs
-
-half-head-requires-4 : tie.Need-half-head-requires-4
-half-head-requires-4 c κs = search needs
-
-enum-told-5 : tie.Need-enum-told-5
-enum-told-5 c = search needs
-
-half-head-requires-5 : tie.Need-half-head-requires-5
-half-head-requires-5 c κs = search needs
-
-enum-told-6 : tie.Need-enum-told-6
-enum-told-6 c = search needs
-
-half-head-requires-6 : tie.Need-half-head-requires-6
-half-head-requires-6 c κs = search needs
 
 returns : tie.Need-returns
 returns c = ancestor-arm _ _ (c .before .before .before .goal-head .ensures) refl (Atom _ _) (c .before .p .given .1)
@@ -72,20 +33,20 @@ pub ancestor-head-spec : {M : Type 1} → statement M
 ancestor-head-spec =
     tie.close
     (tie.spec
-    goal-head-requires
-    enum-known-p
+    (λ c κs. search needs)
+    (λ c. search needs)
     enum-told
-    half-head-requires
-    enum-told-2
-    half-head-requires-2
-    enum-told-3
-    half-head-requires-3
-    enum-told-4
-    half-head-requires-4
-    enum-told-5
-    half-head-requires-5
-    enum-told-6
-    half-head-requires-6
+    (λ c κs. search needs)
+    (λ c. search needs)
+    (λ c κs. search needs)
+    (λ c. search needs)
+    (λ c κs. search needs)
+    (λ c. search needs)
+    (λ c κs. search needs)
+    (λ c. search needs)
+    (λ c κs. search needs)
+    (λ c. search needs)
+    (λ c κs. search needs)
     returns
     returns-2
     returns-3

@@ -8,24 +8,6 @@ use Rattle.records.proofs.heads.bet_head.Tie as tie
 returns : tie.Need-returns
 returns c = past-bet _ _ (omega arith)
 
-shared-slice-read-b : tie.Need-shared-slice-read-b
-shared-slice-read-b c = search needs
-
-add-word-at : tie.Need-add-word-at
-add-word-at c = search needs
-
-word-at-requires : tie.Need-word-at-requires
-word-at-requires c κs = search needs
-
-unifier-head-requires : tie.Need-unifier-head-requires
-unifier-head-requires c κs = search needs
-
-add-or-head : tie.Need-add-or-head
-add-or-head c = search needs
-
-or-head-requires : tie.Need-or-head-requires
-or-head-requires c κs = search needs
-
 returns-2 : tie.Need-returns-2
 returns-2 c = c .unifier-head .ensures ∙ unifier-kind _ _ (omega arith) (omega arith) (c .before .word-at .ensures)
 
@@ -43,12 +25,12 @@ bet-head-spec =
     tie.close
     (tie.spec
     returns
-    shared-slice-read-b
-    add-word-at
-    word-at-requires
-    unifier-head-requires
-    add-or-head
-    or-head-requires
+    (λ c. search needs)
+    (λ c. search needs)
+    (λ c κs. search needs)
+    (λ c κs. search needs)
+    (λ c. search needs)
+    (λ c κs. search needs)
     returns-2
     returns-3
     returns-4

@@ -5,12 +5,6 @@ use borrow.Author.Needs.{needs}
 use Rattle.records.proofs.heads.clause_head.Statement.{statement}
 use Rattle.records.proofs.heads.clause_head.Tie as tie
 
-definition-head-requires : tie.Need-definition-head-requires
-definition-head-requires c κs = search needs
-
-enum-known-p : tie.Need-enum-known-p
-enum-known-p c = search needs
-
 enum-told : tie.Need-enum-told
 enum-told c = search needs
 
@@ -26,4 +20,4 @@ returns-3 c = clause-at _ _ (c .before .before .definition-head .ensures) NoPred
 pub clause-head-spec : {M : Type 1} → statement M
 clause-head-spec =
     tie.close
-    (tie.spec definition-head-requires enum-known-p enum-told returns returns-2 returns-3)
+    (tie.spec (λ c κs. search needs) (λ c. search needs) enum-told returns returns-2 returns-3)

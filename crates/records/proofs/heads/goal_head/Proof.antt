@@ -8,15 +8,6 @@ use Rattle.records.proofs.heads.goal_head.Tie as tie
 returns : tie.Need-returns
 returns c = past-goal _ _ (omega arith)
 
-shared-slice-read-b : tie.Need-shared-slice-read-b
-shared-slice-read-b c = search needs
-
-add-atom-head : tie.Need-add-atom-head
-add-atom-head c = search needs
-
-atom-head-requires : tie.Need-atom-head-requires
-atom-head-requires c κs = search needs
-
 returns-2 : tie.Need-returns-2
 returns-2 c = goal-kind _ _ _ 0x10 (λ l. refl) (omega arith) (omega arith)
 
@@ -43,9 +34,9 @@ goal-head-spec =
     tie.close
     (tie.spec
     returns
-    shared-slice-read-b
-    add-atom-head
-    atom-head-requires
+    (λ c. search needs)
+    (λ c. search needs)
+    (λ c κs. search needs)
     returns-2
     returns-3
     returns-4

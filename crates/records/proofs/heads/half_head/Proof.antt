@@ -6,26 +6,8 @@ use borrow.Author.Needs.{needs}
 use Rattle.records.proofs.heads.half_head.Statement.{statement}
 use Rattle.records.proofs.heads.half_head.Tie as tie
 
-room-requires : tie.Need-room-requires
-room-requires c κs = search needs
-
 returns : tie.Need-returns
 returns c = short-half _ _ (omega arith)
-
-shared-slice-read-b : tie.Need-shared-slice-read-b
-shared-slice-read-b c = search needs
-
-add-wide : tie.Need-add-wide
-add-wide c = search needs
-
-shared-slice-read-wide : tie.Need-shared-slice-read-wide
-shared-slice-read-wide c = search needs
-
-wide-requires : tie.Need-wide-requires
-wide-requires c κs = search needs
-
-is-tag-requires : tie.Need-is-tag-requires
-is-tag-requires c κs = search needs
 
 returns-2 : tie.Need-returns-2
 returns-2 c = no-tag _ _ (c .before .before .wide .result) (omega arith) (omega arith) (sym (c .before .is-tag .ensures) ∙ not-true _ (c .if2 .taken))
@@ -43,13 +25,13 @@ pub half-head-spec : {M : Type 1} → statement M
 half-head-spec =
     tie.close
     (tie.spec
-    room-requires
+    (λ c κs. search needs)
     returns
-    shared-slice-read-b
-    add-wide
-    shared-slice-read-wide
-    wide-requires
-    is-tag-requires
+    (λ c. search needs)
+    (λ c. search needs)
+    (λ c. search needs)
+    (λ c κs. search needs)
+    (λ c κs. search needs)
     returns-2
     returns-3
     returns-4

@@ -8,15 +8,6 @@ use Rattle.records.proofs.heads.or_head.Tie as tie
 returns : tie.Need-returns
 returns c = past-or _ _ (omega arith)
 
-shared-slice-read-wide : tie.Need-shared-slice-read-wide
-shared-slice-read-wide c = search needs
-
-wide-requires : tie.Need-wide-requires
-wide-requires c κs = search needs
-
-is-tag-requires : tie.Need-is-tag-requires
-is-tag-requires c κs = search needs
-
 returns-2 : tie.Need-returns-2
 returns-2 c = or-at _ _ _ (omega arith) (omega arith) (sym (c .before .is-tag .ensures) ∙ c .if2 .taken)
 
@@ -26,4 +17,4 @@ returns-3 c = not-or _ _ (c .before .before .wide .result) (omega arith) (omega 
 pub or-head-spec : {M : Type 1} → statement M
 or-head-spec =
     tie.close
-    (tie.spec returns shared-slice-read-wide wide-requires is-tag-requires returns-2 returns-3)
+    (tie.spec returns (λ c. search needs) (λ c κs. search needs) (λ c κs. search needs) returns-2 returns-3)

@@ -4,20 +4,8 @@ use borrow.Author.Needs.{needs}
 use Rattle.records.proofs.heads.term_head.Statement.{statement}
 use Rattle.records.proofs.heads.term_head.Tie as tie
 
-room-requires : tie.Need-room-requires
-room-requires c κs = search needs
-
 returns : tie.Need-returns
 returns c = short-term _ _ (omega arith)
-
-shared-slice-read-b : tie.Need-shared-slice-read-b
-shared-slice-read-b c = search needs
-
-add-two-bytes : tie.Need-add-two-bytes
-add-two-bytes c = search needs
-
-two-bytes-requires : tie.Need-two-bytes-requires
-two-bytes-requires c κs = search needs
 
 returns-2 : tie.Need-returns-2
 returns-2 c = variable-at _ _ _ (omega arith) (omega arith) (omega arith)
@@ -27,15 +15,6 @@ returns-3 c = other-kind _ _ (omega arith) (omega arith) (omega arith)
 
 returns-4 : tie.Need-returns-4
 returns-4 c = short-symbol _ _ (omega arith) (omega arith) (omega arith)
-
-add-wide : tie.Need-add-wide
-add-wide c = search needs
-
-shared-slice-read-wide : tie.Need-shared-slice-read-wide
-shared-slice-read-wide c = search needs
-
-wide-requires : tie.Need-wide-requires
-wide-requires c κs = search needs
 
 returns-5 : tie.Need-returns-5
 returns-5 c = symbol-at _ _ _ _ (omega arith) (omega arith) (omega arith) (omega arith) (omega arith)
@@ -47,16 +26,16 @@ pub term-head-spec : {M : Type 1} → statement M
 term-head-spec =
     tie.close
     (tie.spec
-    room-requires
+    (λ c κs. search needs)
     returns
-    shared-slice-read-b
-    add-two-bytes
-    two-bytes-requires
+    (λ c. search needs)
+    (λ c. search needs)
+    (λ c κs. search needs)
     returns-2
     returns-3
     returns-4
-    add-wide
-    shared-slice-read-wide
-    wide-requires
+    (λ c. search needs)
+    (λ c. search needs)
+    (λ c κs. search needs)
     returns-5
     returns-6)

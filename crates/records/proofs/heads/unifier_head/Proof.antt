@@ -4,9 +4,6 @@ use borrow.Author.Needs.{needs}
 use Rattle.records.proofs.heads.unifier_head.Statement.{statement}
 use Rattle.records.proofs.heads.unifier_head.Tie as tie
 
-enum-known-w : tie.Need-enum-known-w
-enum-known-w c = search needs
-
 enum-told : tie.Need-enum-told
 enum-told c = search needs
 
@@ -17,4 +14,4 @@ returns-2 : tie.Need-returns-2
 returns-2 c = sym (ap unifier-head (c .enum-told .given .1))
 
 pub unifier-head-spec : {M : Type 1} → statement M
-unifier-head-spec = tie.close (tie.spec enum-known-w enum-told returns returns-2)
+unifier-head-spec = tie.close (tie.spec (λ c. search needs) enum-told returns returns-2)

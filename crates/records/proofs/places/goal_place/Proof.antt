@@ -7,9 +7,6 @@ use Rattle.records.proofs.places.goal_place.Tie as tie
 goals-end-requires : tie.Need-goals-end-requires
 goals-end-requires c κs = omega arith
 
-enum-known-e : tie.Need-enum-known-e
-enum-known-e c = search needs
-
 enum-told : tie.Need-enum-told
 enum-told c = search needs
 
@@ -20,4 +17,4 @@ returns-2 : tie.Need-returns-2
 returns-2 c = goal-off _ _ (c .before .before .goals-end .ensures) (c .enum-told .given .1)
 
 pub goal-place-spec : {M : Type 1} → statement M
-goal-place-spec = tie.close (tie.spec goals-end-requires enum-known-e enum-told returns returns-2)
+goal-place-spec = tie.close (tie.spec goals-end-requires (λ c. search needs) enum-told returns returns-2)

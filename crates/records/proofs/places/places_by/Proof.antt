@@ -7,15 +7,9 @@ use Rattle.records.proofs.places.places_by.Tie as tie
 shared-slice-read-port : tie.Need-shared-slice-read-port
 shared-slice-read-port c = omega (arith, accepted-long _ (c .shared-slice-known2 .given) (c .before .before .pre .0))
 
-row-to-requires : tie.Need-row-to-requires
-row-to-requires c κs = search needs
-
-row-to-requires-2 : tie.Need-row-to-requires-2
-row-to-requires-2 c κs = search needs
-
 returns : tie.Need-returns
 returns c = places-are _ (c .before .before .shared-slice-known2 .given) (c .before .before .before .before .pre .1) (c .before .row-to .ensures) (c .row-to2 .ensures)
 
 pub places-by-spec : {M : Type 1} → statement M
 places-by-spec =
-    tie.close (tie.spec shared-slice-read-port row-to-requires row-to-requires-2 returns)
+    tie.close (tie.spec shared-slice-read-port (λ c κs. search needs) (λ c κs. search needs) returns)

@@ -9,26 +9,17 @@ use Rattle.records.proofs.places.row_place.Tie as tie
 word-at-requires : tie.Need-word-at-requires
 word-at-requires c κs = tt
 
-enum-known-n : tie.Need-enum-known-n
-enum-known-n c = search needs
-
 add-items-end : tie.Need-add-items-end
 add-items-end c = omega (arith, word-room _ _ (c .before .before .before .before .shared-slice-known .given) (c .before .before .before .word-at .ensures) (Number _) (c .before .n .given .1))
 
 items-end-requires : tie.Need-items-end-requires
 items-end-requires c κs = tt
 
-enum-known-e : tie.Need-enum-known-e
-enum-known-e c = search needs
-
 add-t11 : tie.Need-add-t11
 add-t11 c = omega (arith, word-room _ _ (c .before .before .before .before .before .before .before .before .shared-slice-known .given) (c .before .before .before .before .before .before .before .word-at .ensures) (Number _) (c .before .before .before .before .before .n .given .1))
 
 enum-told : tie.Need-enum-told
 enum-told c = search needs
-
-enum-told-2 : tie.Need-enum-told-2
-enum-told-2 c = search needs
 
 returns : tie.Need-returns
 returns c = row-is _ _ _ (c .before .before .before .before .before .before .before .word-at .ensures) (c .before .before .before .before .before .n .given .1) (c .before .before .before .items-end .ensures) (c .before .e .given .1)
@@ -44,13 +35,13 @@ row-place-spec =
     tie.close
     (tie.spec
     word-at-requires
-    enum-known-n
+    (λ c. search needs)
     add-items-end
     items-end-requires
-    enum-known-e
+    (λ c. search needs)
     add-t11
     enum-told
-    enum-told-2
+    (λ c. search needs)
     returns
     returns-2
     returns-3)

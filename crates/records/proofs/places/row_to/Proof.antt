@@ -6,12 +6,6 @@ use borrow.Author.Needs.{needs}
 use Rattle.records.proofs.places.row_to.Statement.{statement}
 use Rattle.records.proofs.places.row_to.Tie as tie
 
-word-at-requires : tie.Need-word-at-requires
-word-at-requires c κs = search needs
-
-enum-known-n : tie.Need-enum-known-n
-enum-known-n c = search needs
-
 add-t7 : tie.Need-add-t7
 add-t7 c = omega (arith, word-room _ _ (c .before .before .before .before .shared-slice-known .given) (c .before .before .before .word-at .ensures) (Number _) (c .before .n .given .1))
 
@@ -28,8 +22,8 @@ pub row-to-spec : {M : Type 1} → statement M
 row-to-spec =
     tie.close
     (tie.spec
-    word-at-requires
-    enum-known-n
+    (λ c κs. search needs)
+    (λ c. search needs)
     add-t7
     enum-told
     returns

@@ -8,22 +8,10 @@ use Rattle.records.proofs.plan.emit_plan.Tie as tie
 returns : tie.Need-returns
 returns c = emitted-short (c .if1 .taken)
 
-measure-plan-requires : tie.Need-measure-plan-requires
-measure-plan-requires c κs = search needs
-
 returns-2 : tie.Need-returns-2
 returns-2 c =
     let start = c .before .before .before .before .before in
     emitted-long (c .before .before .if1 .left) (limited-long (start .pre) (c .before .measure-plan .ensures) (c .if2 .taken))
-
-put-record-head-requires : tie.Need-put-record-head-requires
-put-record-head-requires c κs = search needs
-
-put-body-requires : tie.Need-put-body-requires
-put-body-requires c κs = search needs
-
-same-length : tie.Need-same-length
-same-length c = search needs
 
 returns-3 : tie.Need-returns-3
 unfolding planned
@@ -41,9 +29,9 @@ emit-plan-spec =
     tie.close
     (tie.spec
     returns
-    measure-plan-requires
+    (λ c κs. search needs)
     returns-2
-    put-record-head-requires
-    put-body-requires
-    same-length
+    (λ c κs. search needs)
+    (λ c κs. search needs)
+    (λ c. search needs)
     returns-3)

@@ -4,9 +4,6 @@ use borrow.Author.Needs.{needs}
 use Rattle.records.proofs.plan.measure_range.Statement.{statement}
 use Rattle.records.proofs.plan.measure_range.Tie as tie
 
-limit-requires : tie.Need-limit-requires
-limit-requires c κs = search needs
-
 returns : tie.Need-returns
 unfolding size
 returns c = omega arith
@@ -16,4 +13,4 @@ unfolding size
 returns-2 c = omega arith
 
 pub measure-range-spec : {M : Type 1} → statement M
-measure-range-spec = tie.close (tie.spec limit-requires returns returns-2)
+measure-range-spec = tie.close (tie.spec (λ c κs. search needs) returns returns-2)

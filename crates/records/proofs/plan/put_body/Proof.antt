@@ -7,12 +7,6 @@ use borrow.Author.Needs.{needs}
 use Rattle.records.proofs.plan.put_body.Statement.{statement}
 use Rattle.records.proofs.plan.put_body.Tie as tie
 
-put-byte-requires : tie.Need-put-byte-requires
-put-byte-requires c κs = search needs
-
-put-piece-requires : tie.Need-put-piece-requires
-put-piece-requires c κs = search needs
-
 put-stack-requires : tie.Need-put-stack-requires
 put-stack-requires c κs =
     let start = c .before .before .before .before .before .before .before .before .before .before .before in
@@ -31,9 +25,6 @@ put-stack-requires-2 c κs =
     let q = put-then (port .put-byte .ensures) (put-then (goal .put-piece .ensures) (ancestors .put-stack .ensures)) in
     (w .bet-inside, (w .bets-inside, put-room (stack-length (start .args .p .bets)) q (simp (length-append, g, u) (omega (arith, start .pre .1)))))
 
-same-length : tie.Need-same-length
-same-length c = search needs
-
 returns : tie.Need-returns
 unfolding planned-body
 returns c =
@@ -49,9 +40,9 @@ pub put-body-spec : {M : Type 1} → statement M
 put-body-spec =
     tie.close
     (tie.spec
-    put-byte-requires
-    put-piece-requires
+    (λ c κs. search needs)
+    (λ c κs. search needs)
     put-stack-requires
     put-stack-requires-2
-    same-length
+    (λ c. search needs)
     returns)

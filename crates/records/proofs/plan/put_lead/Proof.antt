@@ -7,14 +7,8 @@ use Rattle.records.proofs.plan.put_lead.Tie as tie
 enum-told : tie.Need-enum-told
 enum-told c = search needs
 
-enum-known-lead : tie.Need-enum-known-lead
-enum-known-lead c = search needs
-
 put-byte-requires : tie.Need-put-byte-requires
 put-byte-requires c κs = let h = rw (c .before .before .lead .given .1) at (c .before .before .before .before .before .pre) in omega arith
-
-enum-known-lead-2 : tie.Need-enum-known-lead-2
-enum-known-lead-2 c = search needs
 
 put-byte-requires-2 : tie.Need-put-byte-requires-2
 put-byte-requires-2 c κs = let h = rw (c .before .before .lead2 .given .1) at (c .before .before .before .before .before .pre) in omega arith
@@ -27,14 +21,8 @@ put-byte-requires-3 c κs =
 returns : tie.Need-returns
 returns c = rw (c .enum-told .given .1) put-none
 
-same-length : tie.Need-same-length
-same-length c = search needs
-
 returns-2 : tie.Need-returns-2
 returns-2 c = rw (c .before .before .before .before .before .lead .given .1) (c .before .before .put-byte .ensures)
-
-same-length-2 : tie.Need-same-length-2
-same-length-2 c = search needs
 
 returns-3 : tie.Need-returns-3
 returns-3 c =
@@ -47,13 +35,13 @@ put-lead-spec =
     tie.close
     (tie.spec
     enum-told
-    enum-known-lead
+    (λ c. search needs)
     put-byte-requires
-    enum-known-lead-2
+    (λ c. search needs)
     put-byte-requires-2
     put-byte-requires-3
     returns
-    same-length
+    (λ c. search needs)
     returns-2
-    same-length-2
+    (λ c. search needs)
     returns-3)

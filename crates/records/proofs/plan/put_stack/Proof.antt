@@ -7,20 +7,11 @@ use borrow.Author.Needs.{needs}
 use Rattle.records.proofs.plan.put_stack.Statement.{statement}
 use Rattle.records.proofs.plan.put_stack.Tie as tie
 
-put-word-requires : tie.Need-put-word-requires
-put-word-requires c κs = search needs
-
-put-piece-requires : tie.Need-put-piece-requires
-put-piece-requires c κs = search needs
-
 put-range-requires : tie.Need-put-range-requires
 unfolding size
 put-range-requires c κs =
     let start = c .before .before .before .before .before .before .before .before .before .before .before in
     (start .pre .1 .0, omega (arith, length-piece (start .args .stack .top) (start .pre .0)))
-
-same-length : tie.Need-same-length
-same-length c = search needs
 
 returns : tie.Need-returns
 unfolding stack-bytes
@@ -33,4 +24,4 @@ returns c =
 pub put-stack-spec : {M : Type 1} → statement M
 put-stack-spec =
     tie.close
-    (tie.spec put-word-requires put-piece-requires put-range-requires same-length returns)
+    (tie.spec (λ c κs. search needs) (λ c κs. search needs) put-range-requires (λ c. search needs) returns)

@@ -11,9 +11,6 @@ use Rattle.records.proofs.rules.bet_kept.Tie as tie
 bet-head-requires : tie.Need-bet-head-requires
 bet-head-requires c κs = tt
 
-enum-known-n : tie.Need-enum-known-n
-enum-known-n c = search needs
-
 add-unifier-kept : tie.Need-add-unifier-kept
 add-unifier-kept c = omega (arith, bet-room _ _ (c .before .before .before .before .shared-slice-known .given) (c .before .before .before .bet-head .ensures) (Unifier _) (c .before .n .given .1))
 
@@ -22,12 +19,6 @@ unifier-kept-requires c κs = unifier-through _ _ (c .before .before .before .be
 
 enum-told : tie.Need-enum-told
 enum-told c = search needs
-
-enum-told-2 : tie.Need-enum-told-2
-enum-told-2 c = search needs
-
-enum-told-3 : tie.Need-enum-told-3
-enum-told-3 c = search needs
 
 returns : tie.Need-returns
 returns c = c .unifier-kept .ensures ∙ sym (unifier-kept _ _ (c .before .before .before .before .bet-head .ensures) (c .before .before .n .given .1))
@@ -46,12 +37,12 @@ bet-kept-spec =
     tie.close
     (tie.spec
     bet-head-requires
-    enum-known-n
+    (λ c. search needs)
     add-unifier-kept
     unifier-kept-requires
     enum-told
-    enum-told-2
-    enum-told-3
+    (λ c. search needs)
+    (λ c. search needs)
     returns
     returns-2
     returns-3

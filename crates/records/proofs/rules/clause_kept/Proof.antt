@@ -11,9 +11,6 @@ use Rattle.records.proofs.rules.clause_kept.Tie as tie
 clause-head-requires : tie.Need-clause-head-requires
 clause-head-requires c κs = tt
 
-enum-known-k : tie.Need-enum-known-k
-enum-known-k c = search needs
-
 add-t7 : tie.Need-add-t7
 add-t7 c = omega (arith, clause-room _ _ (c .before .before .before .before .shared-slice-known .given) (c .before .before .before .clause-head .ensures) (Predicate _ _ _) (c .before .k .given .1))
 
@@ -34,7 +31,7 @@ clause-kept-spec =
     tie.close
     (tie.spec
     clause-head-requires
-    enum-known-k
+    (λ c. search needs)
     add-t7
     meets-exactly-requires
     enum-told

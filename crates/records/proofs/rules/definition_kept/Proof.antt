@@ -8,12 +8,6 @@ use borrow.Author.Needs.{needs}
 use Rattle.records.proofs.rules.definition_kept.Statement.{statement}
 use Rattle.records.proofs.rules.definition_kept.Tie as tie
 
-definition-head-requires : tie.Need-definition-head-requires
-definition-head-requires c κs = search needs
-
-enum-known-k : tie.Need-enum-known-k
-enum-known-k c = search needs
-
 add-result : tie.Need-add-result
 add-result c = omega (arith, definition-room _ _ (c .before .before .before .before .shared-slice-known .given) (c .before .before .before .definition-head .ensures) (Predicate _ _ _) (c .before .k .given .1))
 
@@ -36,8 +30,8 @@ pub definition-kept-spec : {M : Type 1} → statement M
 definition-kept-spec =
     tie.close
     (tie.spec
-    definition-head-requires
-    enum-known-k
+    (λ c κs. search needs)
+    (λ c. search needs)
     add-result
     variables-top-requires
     add-result-2

@@ -1,6 +1,6 @@
 use Rattle.records.proofs.RuleArms.{unmarked, no-break, no-pair, pairs-next, avoided, met-some, none-met}
 use Rattle.records.specs.Gate.Rows.{Ends, row-at, row-none}
-use Rattle.records.specs.Ends.Walk.{end-of}
+use Rattle.records.specs.Ends.Traversal.{end-of}
 use Rattle.records.specs.Format.Items.{many, read-binding}
 use Rattle.records.specs.declared.heads.Word.the-variants.{Number}
 use Rattle.records.specs.Ends.HeadRoom.{word-room}
@@ -27,20 +27,11 @@ word-at-requires c κs = tt
 enum-told : tie.Need-enum-told Inv-loop μ-loop
 enum-told c = search needs
 
-enum-told-2 : tie.Need-enum-told-2 Inv-loop μ-loop
-enum-told-2 c = search needs
-
 returns : tie.Need-returns Inv-loop μ-loop
 returns c = no-pair _ _ _ (c .before .before .before .loop-test .taken) (c .before .before .before .before .loop .inv .1) (c .before .before .word-at .ensures) (c .enum-told2 .given .1)
 
 binding-end-requires : tie.Need-binding-end-requires Inv-loop μ-loop
 binding-end-requires c κs = tt
-
-enum-known-e : tie.Need-enum-known-e Inv-loop μ-loop
-enum-known-e c = search needs
-
-enum-told-3 : tie.Need-enum-told-3 Inv-loop μ-loop
-enum-told-3 c = search needs
 
 returns-2 : tie.Need-returns-2 Inv-loop μ-loop
 returns-2 c = no-break read-binding _ _ _ (c .before .before .before .before .before .before .loop-test .taken) (c .before .before .before .before .before .before .before .loop .inv .1) (c .before .before .binding-end .ensures) (c .enum-told3 .given .1)
@@ -53,9 +44,6 @@ avoids-requires c κs = (c .before .before .before .before .before .before .befo
 
 returns-3 : tie.Need-returns-3 Inv-loop μ-loop
 returns-3 c = met-some (pairs-next _ _ _ (c .before .before .before .before .before .before .before .before .before .loop-test .taken) (c .before .before .before .before .before .before .before .before .before .before .loop .inv .1) (c .before .before .before .before .before .before .before .before .word-at .ensures) (c .before .before .before .before .before .before .enum-told .given .1) (c .before .before .before .before .before .binding-end .ensures) (c .before .before .before .e .given .1)) _ (c .before .avoids .ensures) (not-true _ (c .if1 .taken)) ∙ sym (c .before .before .before .before .before .before .before .before .before .before .loop .inv .0)
-
-sub-left : tie.Need-sub-left Inv-loop μ-loop
-sub-left c = search needs
 
 loop-less : tie.Need-loop-less Inv-loop μ-loop
 loop-less c = omega arith
@@ -75,16 +63,16 @@ free-avoid-spec =
     loop-holds
     word-at-requires
     enum-told
-    enum-told-2
+    (λ c. search needs)
     returns
     binding-end-requires
-    enum-known-e
-    enum-told-3
+    (λ c. search needs)
+    (λ c. search needs)
     returns-2
     add-avoids
     avoids-requires
     returns-3
-    sub-left
+    (λ c. search needs)
     loop-less
     loop-again
     returns-4)

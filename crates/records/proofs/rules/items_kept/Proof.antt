@@ -1,7 +1,6 @@
 use Rattle.records.proofs.ItemArms.{items-first, items-break, items-rest, items-more, items-broken, items-none}
-use Rattle.records.specs.Gate.ItemsKept.{items-kept}
+use Rattle.records.specs.Gate.Rows.{items-kept, Ends}
 use Rattle.records.specs.Ends.ItemEnds.{items-end}
-use Rattle.records.specs.Gate.Rows.{Ends}
 use borrow.Author.Tests.{not-true, not-false}
 use mathlib.Core.Path.{_≡_, refl, sym, _∙_}
 use native.Mathlib.Omega.{arith}
@@ -27,17 +26,11 @@ returns c = items-broken _ _ _ _ (c .before .before .loop-test .taken) (c .befor
 item-end-requires : tie.Need-item-end-requires Inv-loop μ-loop
 item-end-requires c κs = tt
 
-enum-known-e : tie.Need-enum-known-e Inv-loop μ-loop
-enum-known-e c = search needs
-
 enum-told : tie.Need-enum-told Inv-loop μ-loop
 enum-told c = search needs
 
 returns-2 : tie.Need-returns-2 Inv-loop μ-loop
 returns-2 c = items-break _ _ _ _ (c .before .before .before .before .before .loop-test .taken) (c .before .before .before .before .before .before .loop .inv .1) (c .before .before .item-end .ensures) (c .enum-told .given .1)
-
-sub-left : tie.Need-sub-left Inv-loop μ-loop
-sub-left c = search needs
 
 loop-less : tie.Need-loop-less Inv-loop μ-loop
 loop-less c = omega arith
@@ -61,10 +54,10 @@ items-kept-spec =
     item-kept-requires
     returns
     item-end-requires
-    enum-known-e
+    (λ c. search needs)
     enum-told
     returns-2
-    sub-left
+    (λ c. search needs)
     loop-less
     loop-again
     returns-3)

@@ -1,6 +1,6 @@
 use Rattle.records.proofs.RuleArms.{no-break, no-pair, pairs-next, marks-next, marks-done}
 use Rattle.records.specs.Gate.Rows.{Ends, row-at, row-none}
-use Rattle.records.specs.Ends.Walk.{end-of}
+use Rattle.records.specs.Ends.Traversal.{end-of}
 use Rattle.records.specs.Gate.MarkLaws.{length-marked}
 use Rattle.records.specs.Gate.Sets.{all-marked}
 use Rattle.records.specs.Format.Items.{many, read-binding}
@@ -26,9 +26,6 @@ loop-holds c = (c .before .before .pre .1, c .before .before .pre .0, refl)
 word-at-requires : tie.Need-word-at-requires Inv-loop μ-loop
 word-at-requires c κs = tt
 
-enum-known-v : tie.Need-enum-known-v Inv-loop μ-loop
-enum-known-v c = search needs
-
 enum-told : tie.Need-enum-told Inv-loop μ-loop
 enum-told c = search needs
 
@@ -41,12 +38,6 @@ returns c = no-pair _ _ _ (c .before .before .before .loop-test .taken) (c .befo
 binding-end-requires : tie.Need-binding-end-requires Inv-loop μ-loop
 binding-end-requires c κs = tt
 
-enum-known-e : tie.Need-enum-known-e Inv-loop μ-loop
-enum-known-e c = search needs
-
-enum-told-2 : tie.Need-enum-told-2 Inv-loop μ-loop
-enum-told-2 c = search needs
-
 same-length-2 : tie.Need-same-length-2 Inv-loop μ-loop
 same-length-2 c = no-break read-binding _ _ _ (c .before .before .before .before .before .before .before .loop-test .taken) (c .before .before .before .before .before .before .before .before .loop .inv .0) (c .before .before .binding-end .ensures) (c .enum-told2 .given .1)
 
@@ -55,9 +46,6 @@ returns-2 c = no-break read-binding _ _ _ (c .before .before .before .before .be
 
 mark-requires : tie.Need-mark-requires Inv-loop μ-loop
 mark-requires c κs = (word-room _ _ (c .before .before .before .before .before .before .before .before .before .before .before .before .shared-slice-known .given) (c .before .before .before .before .before .before .before .before .word-at .ensures) (Number _) (c .before .before .before .before .before .before .v .given .1) .1, c .before .before .before .before .before .before .before .before .before .before .loop .inv .1)
-
-sub-left : tie.Need-sub-left Inv-loop μ-loop
-sub-left c = search needs
 
 loop-less : tie.Need-loop-less Inv-loop μ-loop
 loop-less c = omega arith
@@ -79,17 +67,17 @@ mark-bound-spec =
     μ-loop
     loop-holds
     word-at-requires
-    enum-known-v
+    (λ c. search needs)
     enum-told
     same-length
     returns
     binding-end-requires
-    enum-known-e
-    enum-told-2
+    (λ c. search needs)
+    (λ c. search needs)
     same-length-2
     returns-2
     mark-requires
-    sub-left
+    (λ c. search needs)
     loop-less
     loop-again
     same-length-3

@@ -1,38 +1,26 @@
-use Rattle.records.proofs.RuleArms.{falling-unifier, rising-unifier}
+use Rattle.records.proofs.RuleArms.{falling-unifier, rising-unifier, pairs-row}
 use borrow.Author.Tests.{not-true, not-false}
 use borrow.Author.Needs.{needs}
 use Rattle.records.proofs.rules.unifier_kept.Statement.{statement}
 use Rattle.records.proofs.rules.unifier_kept.Tie as tie
 
-bound-rise-requires : tie.Need-bound-rise-requires
-bound-rise-requires c κs = search needs
+ranks-rise-requires : tie.Need-ranks-rise-requires
+ranks-rise-requires c κs = pairs-row _ _ _ (c .before .pre)
 
 returns : tie.Need-returns
-returns c = falling-unifier _ _ _ (c .before .before .shared-slice-known .given) (c .before .before .before .pre) (c .before .bound-rise .ensures) (not-true _ (c .if1 .taken))
-
-slice-aggregate-mark-bound : tie.Need-slice-aggregate-mark-bound
-slice-aggregate-mark-bound c = search needs
-
-mark-bound-requires : tie.Need-mark-bound-requires
-mark-bound-requires c κs = search needs
-
-slice-aggregate-free-avoid : tie.Need-slice-aggregate-free-avoid
-slice-aggregate-free-avoid c = search needs
-
-free-avoid-requires : tie.Need-free-avoid-requires
-free-avoid-requires c κs = search needs
+returns c = falling-unifier _ _ _ (c .before .before .shared-slice-known .given) (c .before .before .before .pre) (c .before .ranks-rise .ensures) (not-true _ (c .if1 .taken))
 
 returns-2 : tie.Need-returns-2
-returns-2 c = rising-unifier _ _ _ (c .before .before .before .before .before .before .before .shared-slice-known .given) (c .before .before .before .before .before .before .before .before .pre) (c .before .before .before .before .before .before .bound-rise .ensures) (not-false _ (c .before .before .before .before .before .if1 .left)) (c .before .before .before .mark-bound .ensures) (c .free-avoid .ensures)
+returns-2 c = rising-unifier _ _ _ (c .before .before .before .before .before .before .before .shared-slice-known .given) (c .before .before .before .before .before .before .before .before .pre) (c .before .before .before .before .before .before .ranks-rise .ensures) (not-false _ (c .before .before .before .before .before .if1 .left)) (c .before .before .before .mark-bound .ensures) (c .free-avoid .ensures)
 
 pub unifier-kept-spec : {M : Type 1} → statement M
 unifier-kept-spec =
     tie.close
     (tie.spec
-    bound-rise-requires
+    ranks-rise-requires
     returns
-    slice-aggregate-mark-bound
-    mark-bound-requires
-    slice-aggregate-free-avoid
-    free-avoid-requires
+    (λ c. search needs)
+    (λ c κs. search needs)
+    (λ c. search needs)
+    (λ c κs. search needs)
     returns-2)

@@ -6,12 +6,9 @@ use Rattle.records.specs.Gate.SetLaws.{one-shl}
 use Rattle.records.proofs.sets.with_variable.Statement.{statement}
 use Rattle.records.proofs.sets.with_variable.Tie as tie
 
-shl-result : tie.Need-shl-result
-shl-result c = search needs
-
 returns : tie.Need-returns
 unfolding with-variable
 returns c = ap (bitOr (c .args .set)) (one-shl (c .args .x) (c .pre))
 
 pub with-variable-spec : {M : Type 1} → statement M
-with-variable-spec = tie.close (tie.spec shl-result returns)
+with-variable-spec = tie.close (tie.spec (λ c. search needs) returns)

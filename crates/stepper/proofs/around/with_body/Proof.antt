@@ -8,21 +8,6 @@ use borrow.Author.Needs.{needs}
 use Rattle.stepper.proofs.around.with_body.Statement.{statement}
 use Rattle.stepper.proofs.around.with_body.Tie as tie
 
-add-put-event-head : tie.Need-add-put-event-head
-add-put-event-head c = search needs
-
-put-event-head-requires : tie.Need-put-event-head-requires
-put-event-head-requires c κs = search needs
-
-add-put-word : tie.Need-add-put-word
-add-put-word c = search needs
-
-put-word-requires : tie.Need-put-word-requires
-put-word-requires c κs = search needs
-
-put-range-requires : tie.Need-put-range-requires
-put-range-requires c κs = search needs
-
 put-range-requires-2 : tie.Need-put-range-requires-2
 unfolding size
 put-range-requires-2 c κs =
@@ -33,32 +18,33 @@ put-range-requires-2 c κs =
     let atom = c .before .before .before .put-range .ensures in
     (stacks-inside o, omega (arith, start .pre .1 .0, start .pre .1 .1, put-length head, put-length count, put-length atom, length-cut (atom-inside o)))
 
-add-t15 : tie.Need-add-t15
-add-t15 c = let start = c .before .before .before .before .before .before .before .before .before .before .before .before .before .before .before .before .before .before .before in let o = start .pre .0 in omega (arith, start .pre .1 .0)
+add-t16 : tie.Need-add-t16
+add-t16 c = let start = c .before .before .before .before .before .before .before .before .before .before .before .before .before .before .before .before .before .before .before in let o = start .pre .0 in omega (arith, start .pre .1 .0)
 
-add-t14 : tie.Need-add-t14
-add-t14 c = let start = c .before .before .before .before .before .before .before .before .before .before .before .before .before .before .before .before .before .before .before .before in let o = start .pre .0 in omega (arith, start .pre .1 .0)
+add-t15 : tie.Need-add-t15
+add-t15 c = let start = c .before .before .before .before .before .before .before .before .before .before .before .before .before .before .before .before .before .before .before .before in let o = start .pre .0 in omega (arith, start .pre .1 .0)
 
 same-length : tie.Need-same-length
 same-length c =
-    put-length (c .before .before .before .before .put-range2 .ensures) ∙ put-length (c .before .before .before .before .before .before .before .before .put-range .ensures) ∙ put-length (c .before .before .before .before .before .before .before .before .before .before .before .before .put-word .ensures) ∙ put-length (c .before .before .before .before .before .before .before .before .before .before .before .before .before .before .before .before .put-event-head .ensures)
+    put-length (c .before .before .before .before .before .put-range2 .ensures) ∙ put-length (c .before .before .before .before .before .before .before .before .before .put-range .ensures) ∙ put-length (c .before .before .before .before .before .before .before .before .before .before .before .before .before .put-word .ensures) ∙ put-length (c .before .before .before .before .before .before .before .before .before .before .before .before .before .before .before .before .before .put-event-head .ensures)
 
 returns : tie.Need-returns
 unfolding body-front body-back
 returns c =
-    completed (c .before .before .before .before .before .before .before .before .before .before .before .before .before .before .before .before .put-event-head .ensures) (put-then (c .before .before .before .before .before .before .before .before .before .before .before .before .put-word .ensures) (put-then (c .before .before .before .before .before .before .before .before .put-range .ensures) (c .before .before .before .before .put-range2 .ensures)))
+    completed (c .accepted .ensures) (c .before .before .before .before .before .before .before .before .before .before .before .before .before .before .before .before .before .put-event-head .ensures) (put-then (c .before .before .before .before .before .before .before .before .before .before .before .before .before .put-word .ensures) (put-then (c .before .before .before .before .before .before .before .before .before .put-range .ensures) (c .before .before .before .before .before .put-range2 .ensures)))
 
 pub with-body-spec : {M : Type 1} → statement M
 with-body-spec =
     tie.close
     (tie.spec
-    add-put-event-head
-    put-event-head-requires
-    add-put-word
-    put-word-requires
-    put-range-requires
+    (λ c. search needs)
+    (λ c κs. search needs)
+    (λ c. search needs)
+    (λ c κs. search needs)
+    (λ c κs. search needs)
     put-range-requires-2
+    add-t16
     add-t15
-    add-t14
+    (λ c κs. tt)
     same-length
     returns)

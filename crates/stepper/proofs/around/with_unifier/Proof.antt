@@ -1,3 +1,4 @@
+use mathlib.Core.Path.{_∙_}
 use native.Mathlib.Omega.{arith}
 use Rattle.records.specs.Writing.Patched.{put-then, put-length}
 use Rattle.records.specs.Ends.Range.{size, length-cut}
@@ -6,18 +7,6 @@ use Rattle.stepper.specs.Step.CompletedLaws.{completed, ahead-inside, be
 use borrow.Author.Needs.{needs}
 use Rattle.stepper.proofs.around.with_unifier.Statement.{statement}
 use Rattle.stepper.proofs.around.with_unifier.Tie as tie
-
-add-put-event-head : tie.Need-add-put-event-head
-add-put-event-head c = search needs
-
-add-put-event-head-2 : tie.Need-add-put-event-head-2
-add-put-event-head-2 c = search needs
-
-put-event-head-requires : tie.Need-put-event-head-requires
-put-event-head-requires c κs = search needs
-
-put-range-requires : tie.Need-put-range-requires
-put-range-requires c κs = search needs
 
 put-unifier-top-requires : tie.Need-put-unifier-top-requires
 unfolding size
@@ -49,23 +38,25 @@ put-range-requires-2 c κs =
     (behind-inside o, omega (arith, start .pre .1 .0, start .pre .1 .1, put-length head, put-length ahead, put-length top, length-cut (ahead-inside o)))
 
 same-length : tie.Need-same-length
-same-length c = search needs
+same-length c =
+    put-length (c .before .before .before .put-range2 .ensures) ∙ put-length (c .before .before .before .before .before .before .before .put-unifier-top .ensures) ∙ put-length (c .before .before .before .before .before .before .before .before .before .before .before .put-range .ensures) ∙ put-length (c .before .before .before .before .before .before .before .before .before .before .before .before .before .before .before .put-event-head .ensures)
 
 returns : tie.Need-returns
 unfolding unifier-front unifier-back
 returns c =
-    completed (put-then (c .before .before .before .before .before .before .before .before .before .before .before .before .before .before .put-event-head .ensures) (put-then (c .before .before .before .before .before .before .before .before .before .before .put-range .ensures) (c .before .before .before .before .before .before .put-unifier-top .ensures))) (c .before .before .put-range2 .ensures)
+    completed (c .accepted .ensures) (put-then (c .before .before .before .before .before .before .before .before .before .before .before .before .before .before .before .put-event-head .ensures) (put-then (c .before .before .before .before .before .before .before .before .before .before .before .put-range .ensures) (c .before .before .before .before .before .before .before .put-unifier-top .ensures))) (c .before .before .before .put-range2 .ensures)
 
 pub with-unifier-spec : {M : Type 1} → statement M
 with-unifier-spec =
     tie.close
     (tie.spec
-    add-put-event-head
-    add-put-event-head-2
-    put-event-head-requires
-    put-range-requires
+    (λ c. search needs)
+    (λ c. search needs)
+    (λ c κs. search needs)
+    (λ c κs. search needs)
     put-unifier-top-requires
     add-put-range
     put-range-requires-2
+    (λ c κs. tt)
     same-length
     returns)

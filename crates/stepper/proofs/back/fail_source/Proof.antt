@@ -4,42 +4,15 @@ use Rattle.stepper.specs.Plans.Numbers.{fail-source}
 use Rattle.stepper.proofs.back.fail_source.Statement.{statement}
 use Rattle.stepper.proofs.back.fail_source.Tie as tie
 
-returns : tie.Need-returns
-unfolding fail-source
-returns c = rw (c .match .keys1) refl
-
-returns-2 : tie.Need-returns-2
-unfolding fail-source
-returns-2 c = rw (c .match .keys2) refl
-
-returns-3 : tie.Need-returns-3
-unfolding fail-source
-returns-3 c = rw (c .match .keys3) refl
-
-returns-4 : tie.Need-returns-4
-unfolding fail-source
-returns-4 c = rw (c .match .keys4) refl
-
-returns-5 : tie.Need-returns-5
-unfolding fail-source
-returns-5 c = rw (c .match .keys5) refl
-
-returns-6 : tie.Need-returns-6
-unfolding fail-source
-returns-6 c = rw (c .match .keys6) refl
-
-returns-7 : tie.Need-returns-7
-unfolding fail-source
-returns-7 c = rw (ne-eqb _ 0x10 (c .match .rest .0 .0 .0 .0 .0 .1), ne-eqb _ 0x11 (c .match .rest .0 .0 .0 .0 .1), ne-eqb _ 0x12 (c .match .rest .0 .0 .0 .1), ne-eqb _ 0x13 (c .match .rest .0 .0 .1), ne-eqb _ 0x14 (c .match .rest .0 .1), ne-eqb _ 0x15 (c .match .rest .1)) refl
-
 pub fail-source-spec : {M : Type 1} → statement M
+unfolding fail-source
 fail-source-spec =
     tie.close
     (tie.spec
-    returns
-    returns-2
-    returns-3
-    returns-4
-    returns-5
-    returns-6
-    returns-7)
+    (λ c. rw (c .match .keys1) refl)
+    (λ c. rw (c .match .keys2) refl)
+    (λ c. rw (c .match .keys3) refl)
+    (λ c. rw (c .match .keys4) refl)
+    (λ c. rw (c .match .keys5) refl)
+    (λ c. rw (c .match .keys6) refl)
+    (λ c. rw (ne-eqb _ 0x10 (c .match .rest .0 .0 .0 .0 .0 .1), ne-eqb _ 0x11 (c .match .rest .0 .0 .0 .0 .1), ne-eqb _ 0x12 (c .match .rest .0 .0 .0 .1), ne-eqb _ 0x13 (c .match .rest .0 .0 .1), ne-eqb _ 0x14 (c .match .rest .0 .1), ne-eqb _ 0x15 (c .match .rest .1)) refl))

@@ -6,9 +6,6 @@ use borrow.Author.Needs.{needs}
 use Rattle.stepper.proofs.counts.one_more.Statement.{statement}
 use Rattle.stepper.proofs.counts.one_more.Tie as tie
 
-add-result : tie.Need-add-result
-add-result c = search needs
-
 returns : tie.Need-returns
 unfolding one-more
 returns c = simp (lt-ltb _ _ (c .if1 .taken), add-one)
@@ -18,4 +15,4 @@ unfolding one-more
 returns-2 c = simp (le-ltb _ _ (c .if1 .left))
 
 pub one-more-spec : {M : Type 1} → statement M
-one-more-spec = tie.close (tie.spec add-result returns returns-2)
+one-more-spec = tie.close (tie.spec (λ c. search needs) returns returns-2)

@@ -5,18 +5,6 @@ use borrow.Author.Needs.{needs}
 use Rattle.stepper.proofs.counts.with_port.Statement.{statement}
 use Rattle.stepper.proofs.counts.with_port.Tie as tie
 
-one-more-requires : tie.Need-one-more-requires
-one-more-requires c κs = search needs
-
-one-more-requires-2 : tie.Need-one-more-requires-2
-one-more-requires-2 c κs = search needs
-
-one-more-requires-3 : tie.Need-one-more-requires-3
-one-more-requires-3 c κs = search needs
-
-one-more-requires-4 : tie.Need-one-more-requires-4
-one-more-requires-4 c κs = search needs
-
 returns : tie.Need-returns
 returns c = one-called _ _ (omega arith) (c .one-more .ensures)
 
@@ -33,10 +21,10 @@ pub with-port-spec : {M : Type 1} → statement M
 with-port-spec =
     tie.close
     (tie.spec
-    one-more-requires
-    one-more-requires-2
-    one-more-requires-3
-    one-more-requires-4
+    (λ c κs. search needs)
+    (λ c κs. search needs)
+    (λ c κs. search needs)
+    (λ c κs. search needs)
     returns
     returns-2
     returns-3

@@ -1,4 +1,4 @@
-use Rattle.stepper.specs.Step.Halves.{either}
+use Rattle.stepper.specs.Plans.Halves.{either}
 use borrow.Author.Tests.{eq-eqb, ne-eqb}
 use Rattle.stepper.proofs.half.is_either.Statement.{statement}
 use Rattle.stepper.proofs.half.is_either.Tie as tie

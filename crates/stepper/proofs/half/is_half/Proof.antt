@@ -1,21 +1,16 @@
-use Rattle.stepper.specs.Step.Halves.{is-half}
-use borrow.Author.Tests.{eq-eqb, ne-eqb}
+use Rattle.stepper.specs.Plans.Halves.{is-half}
 use Rattle.stepper.proofs.half.is_half.Statement.{statement}
 use Rattle.stepper.proofs.half.is_half.Tie as tie
 
+half-piece-requires : tie.Need-half-piece-requires
+half-piece-requires c κs = tt
+
 same-range-requires : tie.Need-same-range-requires
-same-range-requires c κs = (c .before .before .before .pre .goal-inside, c .before .before .before .pre .first-inside)
+same-range-requires c κs = let w = c .before .before .pre in (w .goal-inside, rw (c .half-piece .ensures) (w .half-inside))
 
 returns : tie.Need-returns
 unfolding is-half
-returns c = rw (eq-eqb _ _ (c .before .if1 .taken)) (c .same-range .ensures)
-
-same-range-requires-2 : tie.Need-same-range-requires-2
-same-range-requires-2 c κs = (c .before .before .before .pre .goal-inside, c .before .before .before .pre .second-inside)
-
-returns-2 : tie.Need-returns-2
-unfolding is-half
-returns-2 c = rw (ne-eqb _ _ (c .before .if1 .left)) (c .same-range2 .ensures)
+returns c = rw (c .before .half-piece .ensures) at (c .same-range .ensures)
 
 pub is-half-spec : {M : Type 1} → statement M
-is-half-spec = tie.close (tie.spec same-range-requires returns same-range-requires-2 returns-2)
+is-half-spec = tie.close (tie.spec half-piece-requires same-range-requires returns)

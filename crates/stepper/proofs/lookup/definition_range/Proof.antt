@@ -1,5 +1,7 @@
 -- `definition_range` gives the range of the definition that the search finds.
-use Rattle.stepper.specs.Services.DefinitionRangeLaws.{has-definitions, range-absent, range-present}
+use Rattle.stepper.specs.Services.LookupLaws.{has-definitions, range-found}
+use Rattle.terms.specs.declared.definitions.Lookup.the-variants.{Absent, Present}
+use mathlib.Core.Path.{refl}
 use borrow.Author.Needs.{needs}
 use Rattle.stepper.proofs.lookup.definition_range.Statement.{statement}
 use Rattle.stepper.proofs.lookup.definition_range.Tie as tie
@@ -10,20 +12,11 @@ find-definition-requires c κs = has-definitions _ (c .shared-slice-known .given
 enum-told : tie.Need-enum-told
 enum-told c = search needs
 
-nowhere-requires : tie.Need-nowhere-requires
-nowhere-requires c κs = search needs
-
-enum-known-place : tie.Need-enum-known-place
-enum-known-place c = search needs
-
-range-after-requires : tie.Need-range-after-requires
-range-after-requires c κs = search needs
-
 returns : tie.Need-returns
-returns c = range-absent _ (c .before .before .before .before .shared-slice-known .given) _ _ (c .before .before .before .find-definition .ensures) (c .before .enum-told .given .1) (c .nowhere .ensures)
+returns c = range-found _ (c .before .before .before .before .shared-slice-known .given) _ _ (c .before .before .before .find-definition .ensures) Absent (c .before .enum-told .given .1) (c .nowhere .ensures)
 
 returns-2 : tie.Need-returns-2
-returns-2 c = range-present _ (c .before .before .before .before .before .shared-slice-known .given) _ _ (c .before .before .before .before .find-definition .ensures) (c .before .before .place .given .1) (c .range-after .ensures)
+returns-2 c = range-found _ (c .before .before .before .before .shared-slice-known .given) _ _ (c .before .before .before .find-definition .ensures) (Present _) (c .before .place .given .1) refl
 
 pub definition-range-spec : {M : Type 1} → statement M
 definition-range-spec =
@@ -31,8 +24,7 @@ definition-range-spec =
     (tie.spec
     find-definition-requires
     enum-told
-    nowhere-requires
-    enum-known-place
-    range-after-requires
+    (λ c κs. search needs)
+    (λ c. search needs)
     returns
     returns-2)

@@ -1,12 +1,9 @@
 -- `lookup` hands back the program's part from the start of the range to its end.
 use mathlib.Core.Path.{refl}
-use Rattle.stepper.specs.Services.LookupRangeLaws.{range-inside, looked-up}
+use Rattle.stepper.specs.Services.LookupLaws.{range-inside, looked-up}
 use borrow.Author.Needs.{needs}
 use Rattle.stepper.proofs.lookup.lookup.Statement.{statement}
 use Rattle.stepper.proofs.lookup.lookup.Tie as tie
-
-lookup-range-requires : tie.Need-lookup-range-requires
-lookup-range-requires c κs = search needs
 
 sub-result : tie.Need-sub-result
 sub-result c = range-inside (c .before .before .before .args .program) _ (c .before .before .shared-slice-known .given) (c .lookup-range .ensures) .0
@@ -22,4 +19,4 @@ returns c = looked-up (c .before .before .before .before .args .program) _ (c .b
 
 pub lookup-spec : {M : Type 1} → statement M
 lookup-spec =
-    tie.close (tie.spec lookup-range-requires sub-result part-result-start part-result-end returns)
+    tie.close (tie.spec (λ c κs. search needs) sub-result part-result-start part-result-end returns)

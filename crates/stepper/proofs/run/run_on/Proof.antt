@@ -1,61 +1,54 @@
-use Rattle.stepper.specs.Run.RunLoop.{Midway, midway-start, midway-passed, midway-ends, midway-stopped, midway-on, midway-done}
-use Rattle.stepper.specs.Run.Running.{direction}
-use Rattle.stepper.specs.Step.Stepped.{Passed}
-use Rattle.stepper.specs.Services.Desk.{layers}
-use Rattle.stepper.specs.Services.Services.{machine}
-use borrow.Author.Needs.{needs}
-use lib.ListN.{length, take}
+-- What the loop keeps: the run of as many steps as are taken from its start is held, and it is not stopped.
+use mathlib.Core.Path.{_≡_, refl, sym, _∙_}
 use Prim.Native.Nat.{_-_, _≤_}
-use mathlib.Core.Path.{_≡_, refl}
 use native.Mathlib.Omega.{arith}
+use lib.ListN.{length}
+use borrow.Author.Needs.{needs}
+use Rattle.stepper.specs.Run.RunLoop.{Standing, Keeps, standing-on, keeps-on, keeps-stopped, keeps-all}
 use Rattle.stepper.proofs.run.run_on.Statement.{statement}
 use Rattle.stepper.proofs.run.run_on.Tie as tie
 
 abbrev Inv-loop : tie.InvT-loop
-Inv-loop program here₀ start there₀ steps back len₀ ends₀ taken₀ here there len ends taken =
-    ((w : Passed program (take start here₀)) → Midway (machine layers (w .definitions)) (direction back) steps (w .event) taken here len ends)
-    × (taken ≤ steps) × (length here ≡ length here₀) × (length there ≡ length there₀)
+Inv-loop program here₀ there₀ order steps log₀ last₀ here there log last =
+    ((g : Standing program order last₀ here₀ log₀) → Keeps g last here log) × (last .taken ≤ steps) × (length here ≡ length here₀) × (length there ≡ length there₀) × (length log ≡ length log₀)
 
 abbrev μ-loop : tie.MeasureT-loop
-μ-loop program here₀ start there₀ steps back len₀ ends₀ taken₀ here there len ends taken = steps - taken
+μ-loop program here₀ there₀ order steps log₀ last₀ here there log last = steps - last .taken
 
 loop-holds : tie.Need-loop-holds Inv-loop μ-loop
-loop-holds c =
-    (λ w. midway-start (c .before .before .shared-slice-known .given) _ _ (c .before .slice-known .given) w (c .before .before .before .pre .1 .1 .0) (c .before .before .before .pre .1 .0), omega arith, refl, refl)
+loop-holds c = (λ g. (g .going, g .held), omega arith, refl, refl, refl)
 
-turn-requires : tie.Need-turn-requires Inv-loop μ-loop
-turn-requires c κs =
-    let w = c .before .before .before .before .before .before .before .pre .0 in let m = c .before .before .before .loop .inv .0 w in (midway-passed (c .before .before .before .before .before .before .shared-slice-known .given) _ _ w m, (midway-ends (c .before .before .before .before .before .before .shared-slice-known .given) _ _ w m, (m .front .inside, (omega (arith, c .before .before .before .loop .inv .2, c .before .before .before .before .before .before .before .pre .1 .1 .1 .0), omega (arith, c .before .before .before .loop .inv .3, c .before .before .before .before .before .before .before .pre .1 .1 .1 .1)))))
-
-same-length : tie.Need-same-length Inv-loop μ-loop
-same-length c = search needs
-
-same-length-2 : tie.Need-same-length-2 Inv-loop μ-loop
-same-length-2 c = search needs
+run-turn-requires : tie.Need-run-turn-requires Inv-loop μ-loop
+run-turn-requires c κs =
+    let start = c .before .before .before .before .before .before .before .before .before .before in
+    let inv = c .before .before .before .before .before .loop .inv in
+    let steps = c .before .before .before .if1 .taken in
+    (standing-on (start .pre .0) (inv .0 (start .pre .0)), (omega arith, (omega (arith, inv .2, start .pre .1 .1 .0), omega (arith, inv .3, start .pre .1 .1 .1))))
 
 returns : tie.Need-returns Inv-loop μ-loop
 returns c =
-    λ w. let b = c .before .before .before .before .before .before .before .before .before .before .before .before .before .shared-slice-known .given in let m = c .before .before .before .before .before .before .before .before .before .before .loop .inv .0 w in midway-stopped b _ _ w m (c .before .before .before .before .before .before .turn .ensures (midway-passed b _ _ w m)) (λ z. omega arith) (omega arith)
-
-add-taken : tie.Need-add-taken Inv-loop μ-loop
-add-taken c = omega arith
+    let turn = c .before .before .before .before .before .before .before .before in
+    let inv = turn .before .before .before .before .before .before .loop .inv in
+    λ g. keeps-stopped g _ (turn .run-turn .ensures (standing-on g (inv .0 g))) _ (turn .before .before .before .before .if1 .taken) (sym (c .before .has-stopped .ensures) ∙ c .if2 .taken)
 
 loop-less : tie.Need-loop-less Inv-loop μ-loop
-loop-less c = omega arith
+loop-less c =
+    let turn = c .before .before .before .before .before .before .before .before in
+    let inv = turn .before .before .before .before .before .before .loop .inv in
+    let start = c .before .before .before .before .before .before .before .before .before .before .before .before .before .before .before .before .before .before .before in
+    omega (arith, keeps-on (start .pre .0) _ (turn .run-turn .ensures (standing-on (start .pre .0) (inv .0 (start .pre .0)))) (sym (c .before .has-stopped .ensures) ∙ c .if2 .left) .0, turn .before .before .before .before .if1 .taken)
 
 loop-again : tie.Need-loop-again Inv-loop μ-loop
 loop-again c =
-    (λ w. let b = c .before .before .before .before .before .before .before .before .before .before .before .before .before .before .shared-slice-known .given in let m = c .before .before .before .before .before .before .before .before .before .before .before .loop .inv .0 w in midway-on b _ _ w m (c .before .before .before .before .before .before .before .turn .ensures (midway-passed b _ _ w m)) (omega arith) (omega arith), omega arith, search needs, search needs)
-
-same-length-3 : tie.Need-same-length-3 Inv-loop μ-loop
-same-length-3 c = c .before .loop .inv .2
-
-same-length-4 : tie.Need-same-length-4 Inv-loop μ-loop
-same-length-4 c = c .before .loop .inv .3
+    let turn = c .before .before .before .before .before .before .before .before in
+    let inv = turn .before .before .before .before .before .before .loop .inv in
+    let start = c .before .before .before .before .before .before .before .before .before .before .before .before .before .before .before .before .before .before .before in
+    (λ g. keeps-on g _ (turn .run-turn .ensures (standing-on g (inv .0 g))) (sym (c .before .has-stopped .ensures) ∙ c .if2 .left) .1, omega (arith, keeps-on (start .pre .0) _ (turn .run-turn .ensures (standing-on (start .pre .0) (inv .0 (start .pre .0)))) (sym (c .before .has-stopped .ensures) ∙ c .if2 .left) .0, turn .before .before .before .before .if1 .taken), search needs, search needs, search needs)
 
 returns-2 : tie.Need-returns-2 Inv-loop μ-loop
 returns-2 c =
-    λ w. midway-done (c .before .before .before .before .shared-slice-known .given) _ _ w (c .before .loop .inv .0 w) (omega arith) (c .before .loop .inv .1)
+    let inv = c .before .before .loop .inv in
+    λ g. keeps-all g _ (inv .0 g) (omega (arith, inv .1, c .if1 .left))
 
 pub run-on-spec : {M : Type 1} → statement M
 run-on-spec =
@@ -64,13 +57,15 @@ run-on-spec =
     Inv-loop
     μ-loop
     loop-holds
-    turn-requires
-    same-length
-    same-length-2
+    run-turn-requires
+    (λ c κs. search needs)
+    (λ c. search needs)
+    (λ c. search needs)
+    (λ c. search needs)
     returns
-    add-taken
     loop-less
     loop-again
-    same-length-3
-    same-length-4
+    (λ c. search needs)
+    (λ c. search needs)
+    (λ c. search needs)
     returns-2)

@@ -1,42 +1,18 @@
-use Rattle.stepper.specs.Step.SameLaws.{under-atom, whole-goal, body-beyond, body-missing, body-same, body-long}
-use Rattle.stepper.specs.Step.SettledLaws.{body-told-as}
-use Rattle.stepper.specs.Plans.LayoutLaws.{put-cuts}
+use Rattle.stepper.specs.Step.AtomStepLaws.{body-told-as}
+use Rattle.stepper.specs.Step.LastSevenLaws.{under-atom, whole-goal, body-beyond, body-missing, body-same, body-long}
+use Rattle.stepper.specs.Plans.Made.{put-cuts}
 use Rattle.terms.specs.Standing.Accepted.{accepted-program}
 use borrow.Author.Needs.{needs}
 use Rattle.stepper.proofs.same.same_body.Statement.{statement}
 use Rattle.stepper.proofs.same.same_body.Tie as tie
 
-ancestor-frame-requires : tie.Need-ancestor-frame-requires
-ancestor-frame-requires c κs = search needs
-
-slice-aggregate-atom-body : tie.Need-slice-aggregate-atom-body
-slice-aggregate-atom-body c = search needs
-
 atom-body-requires : tie.Need-atom-body-requires
 atom-body-requires c κs =
     let b = c .before .before .before .shared-slice-known .given in let k = c .before .before .shared-slice-known2 .given in let d = c .before .before .before .before .pre .0 in (accepted-program _ b (d .definitions) (d .reads), rw (c .before .ancestor-frame .ensures) (under-atom b k d (c .before .before .before .before .pre .1)))
 
-enum-told : tie.Need-enum-told
-enum-told c = search needs
-
-body-refusal-requires : tie.Need-body-refusal-requires
-body-refusal-requires c κs = search needs
-
-enum-told-2 : tie.Need-enum-told-2
-enum-told-2 c = search needs
-
-enum-known-answer : tie.Need-enum-known-answer
-enum-known-answer c = search needs
-
-slice-aggregate-same-front : tie.Need-slice-aggregate-same-front
-slice-aggregate-same-front c = search needs
-
 same-front-requires : tie.Need-same-front-requires
 same-front-requires c κs =
     let b = c .before .before .before .before .before .before .before .before .before .shared-slice-known .given in let k = c .before .before .before .before .before .before .before .before .shared-slice-known2 .given in let d = c .before .before .before .before .before .before .before .before .before .before .pre .0 in let w = c .before .before .before .before .before .before .before .before .before .before .pre .1 in let h = (body-told-as ((rw (c .before .before .before .before .before .before .before .ancestor-frame .ensures) at (c .before .before .before .before .before .atom-body .ensures)) (accepted-program _ b (d .definitions) (d .reads)) (under-atom b k d w)) (c .before .before .answer .given .1)) in (put-cuts (h .put) (h .room) .inside, whole-goal b k d w .inside)
-
-enum-told-3 : tie.Need-enum-told-3
-enum-told-3 c = search needs
 
 returns : tie.Need-returns
 returns c =
@@ -58,16 +34,16 @@ pub same-body-spec : {M : Type 1} → statement M
 same-body-spec =
     tie.close
     (tie.spec
-    ancestor-frame-requires
-    slice-aggregate-atom-body
+    (λ c κs. search needs)
+    (λ c. search needs)
     atom-body-requires
-    enum-told
-    body-refusal-requires
-    enum-told-2
-    enum-known-answer
-    slice-aggregate-same-front
+    (λ c. search needs)
+    (λ c κs. search needs)
+    (λ c. search needs)
+    (λ c. search needs)
+    (λ c. search needs)
     same-front-requires
-    enum-told-3
+    (λ c. search needs)
     returns
     returns-2
     returns-3

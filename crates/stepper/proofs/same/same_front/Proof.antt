@@ -3,9 +3,6 @@ use borrow.Author.Needs.{needs}
 use Rattle.stepper.proofs.same.same_front.Statement.{statement}
 use Rattle.stepper.proofs.same.same_front.Tie as tie
 
-same-range-requires : tie.Need-same-range-requires
-same-range-requires c κs = search needs
-
 returns : tie.Need-returns
 returns c = rw (sym (c .before .same-range .ensures) ∙ c .if1 .taken) refl
 
@@ -13,4 +10,4 @@ returns-2 : tie.Need-returns-2
 returns-2 c = rw (sym (c .before .same-range .ensures) ∙ c .if1 .left) refl
 
 pub same-front-spec : {M : Type 1} → statement M
-same-front-spec = tie.close (tie.spec same-range-requires returns returns-2)
+same-front-spec = tie.close (tie.spec (λ c κs. search needs) returns returns-2)

@@ -1,38 +1,18 @@
-use Rattle.stepper.specs.Step.SameLaws.{rest-bets, unifier-left, unifier-right, top-unifier, unifier-large, unifier-clash, unifier-same, unifier-long}
-use Rattle.stepper.specs.Step.SettledLaws.{told-as, event-short}
-use Rattle.stepper.specs.Plans.LayoutLaws.{put-cuts}
+use Rattle.stepper.specs.Step.EqualityStepLaws.{told-as}
+use Rattle.stepper.specs.Step.LastSevenLaws.{rest-bets, unifier-left, unifier-right, unifier-large, unifier-clash, unifier-same, unifier-long, unifier-cut}
+use Rattle.stepper.specs.Step.SteppedLaws.{event-short}
+use Rattle.stepper.specs.Plans.Made.{put-cuts}
 use borrow.Author.Needs.{needs}
 use Rattle.stepper.proofs.same.same_unifier.Statement.{statement}
 use Rattle.stepper.proofs.same.same_unifier.Tie as tie
 
-slice-aggregate-unifier-under : tie.Need-slice-aggregate-unifier-under
-slice-aggregate-unifier-under c = search needs
-
 unifier-under-requires : tie.Need-unifier-under-requires
 unifier-under-requires c κs =
-    let k = c .before .shared-slice-known .given in let w = c .before .before .pre in (rest-bets k w, (unifier-left k w, (unifier-right k w, event-short _ k (w .reads))))
-
-enum-told : tie.Need-enum-told
-enum-told c = search needs
-
-unifier-refusal-requires : tie.Need-unifier-refusal-requires
-unifier-refusal-requires c κs = search needs
-
-enum-told-2 : tie.Need-enum-told-2
-enum-told-2 c = search needs
-
-enum-known-answer : tie.Need-enum-known-answer
-enum-known-answer c = search needs
-
-slice-aggregate-same-front : tie.Need-slice-aggregate-same-front
-slice-aggregate-same-front c = search needs
+    let k = c .before .shared-slice-known .given in let w = c .before .before .pre in ((rest-bets k w, unifier-left k w, unifier-right k w), event-short _ k (w .reads))
 
 same-front-requires : tie.Need-same-front-requires
 same-front-requires c κs =
-    let k = c .before .before .before .before .before .before .before .shared-slice-known .given in let w = c .before .before .before .before .before .before .before .before .pre in let h = told-as (c .before .before .before .before .before .unifier-under .ensures (rest-bets k w) (unifier-left k w) (unifier-right k w)) (c .before .before .answer .given .1) in (put-cuts (h .put) (h .room) .inside, top-unifier k w .inside)
-
-enum-told-3 : tie.Need-enum-told-3
-enum-told-3 c = search needs
+    let k = c .before .before .before .before .before .before .before .shared-slice-known .given in let w = c .before .before .before .before .before .before .before .before .pre in let h = told-as (c .before .before .before .before .before .unifier-under .ensures (rest-bets k w) (unifier-left k w) (unifier-right k w)) (c .before .before .answer .given .1) in (put-cuts (h .put) (h .room) .inside, unifier-cut k w .inside)
 
 returns : tie.Need-returns
 returns c =
@@ -54,15 +34,15 @@ pub same-unifier-spec : {M : Type 1} → statement M
 same-unifier-spec =
     tie.close
     (tie.spec
-    slice-aggregate-unifier-under
+    (λ c. search needs)
     unifier-under-requires
-    enum-told
-    unifier-refusal-requires
-    enum-told-2
-    enum-known-answer
-    slice-aggregate-same-front
+    (λ c. search needs)
+    (λ c κs. search needs)
+    (λ c. search needs)
+    (λ c. search needs)
+    (λ c. search needs)
     same-front-requires
-    enum-told-3
+    (λ c. search needs)
     returns
     returns-2
     returns-3

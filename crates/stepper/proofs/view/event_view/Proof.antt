@@ -3,9 +3,6 @@ use borrow.Author.Needs.{needs}
 use Rattle.stepper.proofs.view.event_view.Statement.{statement}
 use Rattle.stepper.proofs.view.event_view.Tie as tie
 
-places-by-requires : tie.Need-places-by-requires
-places-by-requires c κs = search needs
-
 goal-part-requires : tie.Need-goal-part-requires
 goal-part-requires c κs = accepted-room _ (c .before .shared-slice-known .given) (c .places-by .ensures) (c .before .before .pre .0) .goal-inside
 
@@ -28,7 +25,7 @@ pub event-view-spec : {M : Type 1} → statement M
 event-view-spec =
     tie.close
     (tie.spec
-    places-by-requires
+    (λ c κs. search needs)
     goal-part-requires
     ancestor-top-requires
     stack-places-requires

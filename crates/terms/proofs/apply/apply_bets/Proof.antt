@@ -4,21 +4,9 @@ use borrow.Author.Needs.{needs}
 use Rattle.terms.proofs.apply.apply_bets.Statement.{statement}
 use Rattle.terms.proofs.apply.apply_bets.Tie as tie
 
-list-bets-requires : tie.Need-list-bets-requires
-list-bets-requires c κs = search needs
-
 put-under-requires : tie.Need-put-under-requires
 put-under-requires c κs =
     let pre = c .before .before .before .before .before .before .before .before .before .before .before .before .before .before .before .pre in (c .before .before .before .before .before .before .before .list-bets .ensures (pre .0) .table, term-on (pre .1 .0 .1))
-
-same-length : tie.Need-same-length
-same-length c = search needs
-
-same-length-2 : tie.Need-same-length-2
-same-length-2 c = search needs
-
-same-length-3 : tie.Need-same-length-3
-same-length-3 c = search needs
 
 returns : tie.Need-returns
 returns c =
@@ -28,9 +16,9 @@ pub apply-bets-spec : {M : Type 1} → statement M
 apply-bets-spec =
     tie.close
     (tie.spec
-    list-bets-requires
+    (λ c κs. search needs)
     put-under-requires
-    same-length
-    same-length-2
-    same-length-3
+    (λ c. search needs)
+    (λ c. search needs)
+    (λ c. search needs)
     returns)

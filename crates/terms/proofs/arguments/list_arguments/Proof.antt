@@ -4,49 +4,22 @@ use Prim.Native.Nat.{_-_}
 use native.Mathlib.Omega.{arith}
 use lib.ListN.{length}
 use Rattle.terms.specs.Body.Arguments.{ArgumentsAt, term-places}
-use Rattle.terms.specs.Body.ArgumentLaws.{Listing, listing-start, listing-next, listing-end}
+use Rattle.terms.specs.Body.ArgumentLaws.{ArgumentsListing, arguments-start, listing-next, listing-end}
 use borrow.Author.Needs.{needs}
 use Rattle.terms.proofs.arguments.list_arguments.Statement.{statement}
 use Rattle.terms.proofs.arguments.list_arguments.Tie as tie
 
 abbrev Inv-loop : tie.InvT-loop
-Inv-loop event table₀ k pos₀ i₀ table pos i = ((a : ArgumentsAt event (record { at = pos₀; arity = k })) → Listing event (term-places pos₀ (a .terms)) k table pos i) × (length table ≡ length table₀)
+Inv-loop event table₀ k pos₀ i₀ table pos i = ((a : ArgumentsAt event (record { at = pos₀; arity = k })) → ArgumentsListing event (term-places pos₀ (a .terms)) k table pos i) × (length table ≡ length table₀)
 
 abbrev μ-loop : tie.MeasureT-loop
 μ-loop event table₀ k pos₀ i₀ table pos i = k - i
 
 loop-holds : tie.Need-loop-holds Inv-loop μ-loop
-loop-holds c = (λ a. listing-start a, refl)
-
-mul-table : tie.Need-mul-table Inv-loop μ-loop
-mul-table c = search needs
-
-slice-write-table : tie.Need-slice-write-table Inv-loop μ-loop
-slice-write-table c = search needs
-
-term-end-requires : tie.Need-term-end-requires Inv-loop μ-loop
-term-end-requires c κs = search needs
-
-position-requires : tie.Need-position-requires Inv-loop μ-loop
-position-requires c κs = search needs
-
-add-i : tie.Need-add-i Inv-loop μ-loop
-add-i c = search needs
-
-loop-less : tie.Need-loop-less Inv-loop μ-loop
-loop-less c = search needs
+loop-holds c = (λ a. arguments-start a, refl)
 
 loop-again : tie.Need-loop-again Inv-loop μ-loop
 loop-again c = (λ a. listing-next (c .before .before .before .loop .inv .0 a) (omega (arith, c .before .before .before .before .before .before .pre .1, c .before .before .before .loop .inv .1)) (c .before .before .loop-test .taken) (c .before .term-end .ensures) (c .position .ensures), search needs)
-
-mul-table-2 : tie.Need-mul-table-2 Inv-loop μ-loop
-mul-table-2 c = search needs
-
-slice-write-table-2 : tie.Need-slice-write-table-2 Inv-loop μ-loop
-slice-write-table-2 c = search needs
-
-same-length : tie.Need-same-length Inv-loop μ-loop
-same-length c = search needs
 
 returns : tie.Need-returns Inv-loop μ-loop
 returns c = λ a. listing-end (c .before .loop .inv .0 a) (omega (arith, c .before .before .before .before .pre .1, c .before .loop .inv .1)) (c .loop-test .left)
@@ -58,14 +31,14 @@ list-arguments-spec =
     Inv-loop
     μ-loop
     loop-holds
-    mul-table
-    slice-write-table
-    term-end-requires
-    position-requires
-    add-i
-    loop-less
+    (λ c. search needs)
+    (λ c. search needs)
+    (λ c κs. search needs)
+    (λ c κs. search needs)
+    (λ c. search needs)
+    (λ c. search needs)
     loop-again
-    mul-table-2
-    slice-write-table-2
-    same-length
+    (λ c. search needs)
+    (λ c. search needs)
+    (λ c. search needs)
     returns)

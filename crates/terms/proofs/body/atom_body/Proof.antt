@@ -8,12 +8,6 @@ use borrow.Author.Needs.{needs}
 use Rattle.terms.proofs.body.atom_body.Statement.{statement}
 use Rattle.terms.proofs.body.atom_body.Tie as tie
 
-goal-head-requires : tie.Need-goal-head-requires
-goal-head-requires c κs = search needs
-
-enum-known-p : tie.Need-enum-known-p
-enum-known-p c = search needs
-
 -- 5 is an atom's number among the heads of goals
 not-five : (_≡_ {A = ℕ} 5 0) ⊎ ((_≡_ {A = ℕ} 5 1) ⊎ ((_≡_ {A = ℕ} 5 2) ⊎ ((_≡_ {A = ℕ} 5 3) ⊎ ((_≡_ {A = ℕ} 5 4) ⊎ (_≡_ {A = ℕ} 5 6))))) → ⊥
 not-five =
@@ -22,23 +16,14 @@ not-five =
 returns : tie.Need-returns
 returns c = λ d a. absurd (not-five (rw (atom-is a (c .before .goal-head .ensures)) at (c .match .keys2)))
 
-find-definition-requires : tie.Need-find-definition-requires
-find-definition-requires c κs = search needs
-
 enum-told : tie.Need-enum-told
 enum-told c = search needs
-
-enum-known-place : tie.Need-enum-known-place
-enum-known-place c = search needs
 
 body-with-requires : tie.Need-body-with-requires
 body-with-requires c κs = (place-goal (c .before .before .before .before .before .before .before .before .before .before .before .before .pre .1) (c .before .before .before .before .before .before .before .before .before .before .before .before .pre .0) (c .before .before .before .before .before .before .before .before .goal-head .ensures) (c .before .before .before .before .before .before .p .given .1) (c .before .before .before .before .find-definition .ensures (c .before .before .before .before .before .before .before .before .before .before .before .before .pre .0)) (c .before .before .place .given .1), (c .before .before .before .before .before .before .before .before .before .before .before .before .pre .1, atom-head (c .before .before .before .before .before .before .before .before .before .before .before .before .pre .1) (c .before .before .before .before .before .before .before .before .goal-head .ensures) (c .before .before .before .before .before .before .p .given .1) .1))
 
 returns-2 : tie.Need-returns-2
 returns-2 c = λ d a. body-undefined a d (c .before .before .before .before .before .before .goal-head .ensures) (c .before .before .before .before .p .given .1) _ (c .before .before .find-definition .ensures d) (c .enum-told .given .1)
-
-same-length : tie.Need-same-length
-same-length c = search needs
 
 returns-3 : tie.Need-returns-3
 returns-3 c = λ d a. body-defined a d (c .before .before .before .before .before .before .before .before .before .before .before .goal-head .ensures) (c .before .before .before .before .before .before .before .before .before .p .given .1) (c .before .before .before .before .before .before .before .find-definition .ensures d) (c .before .before .before .before .before .place .given .1) (c .before .before .body-with .ensures)
@@ -47,13 +32,13 @@ pub atom-body-spec : {M : Type 1} → statement M
 atom-body-spec =
     tie.close
     (tie.spec
-    goal-head-requires
-    enum-known-p
+    (λ c κs. search needs)
+    (λ c. search needs)
     returns
-    find-definition-requires
+    (λ c κs. search needs)
     enum-told
-    enum-known-place
+    (λ c. search needs)
     body-with-requires
     returns-2
-    same-length
+    (λ c. search needs)
     returns-3)

@@ -22,11 +22,8 @@ abbrev μ-loop : tie.MeasureT-loop
 loop-holds : tie.Need-loop-holds Inv-loop μ-loop
 loop-holds c = λ g t m. counting-start g (t .terms) m
 
-walk-step-requires : tie.Need-walk-step-requires Inv-loop μ-loop
-walk-step-requires c κs = ahead-on (c .before .loop .inv (c .before .before .before .before .pre .0) (c .before .before .before .before .pre .1 .0) 0 .ahead)
-
-enum-known-v : tie.Need-enum-known-v Inv-loop μ-loop
-enum-known-v c = search needs
+next-node-requires : tie.Need-next-node-requires Inv-loop μ-loop
+next-node-requires c κs = ahead-on (c .before .loop .inv (c .before .before .before .before .pre .0) (c .before .before .before .before .pre .1 .0) 0 .ahead)
 
 numbered-length-requires : tie.Need-numbered-length-requires Inv-loop μ-loop
 numbered-length-requires c κs = c .before .before .before .before .before .before .before .before .pre .1 .0
@@ -38,21 +35,18 @@ loop-less : tie.Need-loop-less Inv-loop μ-loop
 loop-less c =
     let start = c .before .before .before .before .before .before .before .before .before .before .pre in
     let u = c .before .before .before .before .before .before .before .loop .inv (start .0) (start .1 .0) 0 in
-    omega (arith, ahead-less (u .ahead) (c .before .before .before .before .before .before .before .before .before .shared-slice-known .given) (c .before .before .before .before .before .walk-step .ensures) (c .before .before .before .v .given .1))
+    omega (arith, ahead-less (u .ahead) (c .before .before .before .before .before .before .before .before .before .shared-slice-known .given) (c .before .before .before .before .before .next-node .ensures) (c .before .before .before .v .given .1))
 
 loop-again : tie.Need-loop-again Inv-loop μ-loop
 loop-again c = λ g t m.
-    counting-variable (c .before .before .before .before .before .before .before .loop .inv g t m) (c .before .before .before .before .before .before .before .before .before .shared-slice-known .given) (c .before .before .before .before .before .walk-step .ensures) (c .before .before .before .before .before .before .loop-test .taken) (c .before .before .before .v .given .1)
+    counting-variable (c .before .before .before .before .before .before .before .loop .inv g t m) (c .before .before .before .before .before .before .before .before .before .shared-slice-known .given) (c .before .before .before .before .before .next-node .ensures) (c .before .before .before .before .before .before .loop-test .taken) (c .before .before .before .v .given .1)
     (c .before .numbered-length .ensures t m) (c .added .ensures)
-
-enum-known-d : tie.Need-enum-known-d Inv-loop μ-loop
-enum-known-d c = search needs
 
 sub-added : tie.Need-sub-added Inv-loop μ-loop
 sub-added c =
     let start = c .before .before .before .before .before .before .before .before .before .before .pre in
     let u = c .before .before .before .before .before .before .before .loop .inv (start .0) (start .1 .0) 0 in
-    omega (arith, ahead-less-other (u .ahead) (c .before .before .before .before .before .before .before .before .before .shared-slice-known .given) (c .before .before .before .before .before .walk-step .ensures) (c .before .before .before .d .given .1))
+    omega (arith, ahead-less-other (u .ahead) (c .before .before .before .before .before .before .before .before .before .shared-slice-known .given) (c .before .before .before .before .before .next-node .ensures) (c .before .before .before .d .given .1))
 
 added-requires-2 : tie.Need-added-requires-2 Inv-loop μ-loop
 added-requires-2 c κs = (omega (arith, c .before .before .before .before .before .before .loop-test .taken), c .before .before .before .before .before .before .before .before .before .before .pre .1 .1)
@@ -61,17 +55,17 @@ loop-less-2 : tie.Need-loop-less-2 Inv-loop μ-loop
 loop-less-2 c =
     let start = c .before .before .before .before .before .before .before .before .before .before .before .pre in
     let u = c .before .before .before .before .before .before .before .before .loop .inv (start .0) (start .1 .0) 0 in
-    omega (arith, ahead-less-other (u .ahead) (c .before .before .before .before .before .before .before .before .before .before .shared-slice-known .given) (c .before .before .before .before .before .before .walk-step .ensures) (c .before .before .before .before .d .given .1))
+    omega (arith, ahead-less-other (u .ahead) (c .before .before .before .before .before .before .before .before .before .before .shared-slice-known .given) (c .before .before .before .before .before .before .next-node .ensures) (c .before .before .before .before .d .given .1))
 
 loop-again-2 : tie.Need-loop-again-2 Inv-loop μ-loop
 loop-again-2 c = λ g t m.
-    counting-other (c .before .before .before .before .before .before .before .before .loop .inv g t m) (c .before .before .before .before .before .before .before .before .before .before .shared-slice-known .given) (c .before .before .before .before .before .before .walk-step .ensures) (c .before .before .before .before .before .before .before .loop-test .taken) (c .before .before .before .before .d .given .1) (c .added2 .ensures)
+    counting-other (c .before .before .before .before .before .before .before .before .loop .inv g t m) (c .before .before .before .before .before .before .before .before .before .before .shared-slice-known .given) (c .before .before .before .before .before .before .next-node .ensures) (c .before .before .before .before .before .before .before .loop-test .taken) (c .before .before .before .before .d .given .1) (c .added2 .ensures)
 
 enum-told : tie.Need-enum-told Inv-loop μ-loop
 enum-told c = search needs
 
 returns : tie.Need-returns Inv-loop μ-loop
-returns c = λ g t m. counting-done (c .before .before .before .before .loop .inv g t m) (c .before .before .before .before .before .before .shared-slice-known .given) (c .before .before .walk-step .ensures) (c .before .before .before .loop-test .taken) (c .enum-told .given .1)
+returns c = λ g t m. counting-done (c .before .before .before .before .loop .inv g t m) (c .before .before .before .before .before .before .shared-slice-known .given) (c .before .before .next-node .ensures) (c .before .before .before .loop-test .taken) (c .enum-told .given .1)
 
 returns-2 : tie.Need-returns-2 Inv-loop μ-loop
 returns-2 c = λ g t m. counting-full (c .before .loop .inv g t m) (c .loop-test .left)
@@ -83,13 +77,13 @@ body-length-spec =
     Inv-loop
     μ-loop
     loop-holds
-    walk-step-requires
-    enum-known-v
+    next-node-requires
+    (λ c. search needs)
     numbered-length-requires
     added-requires
     loop-less
     loop-again
-    enum-known-d
+    (λ c. search needs)
     sub-added
     added-requires-2
     loop-less-2

@@ -19,24 +19,15 @@ returns c = λ g a q. body-too-many a (c .before .before .next-variable .ensures
 add-t12 : tie.Need-add-t12
 add-t12 c = omega (arith, atom-room (c .before .before .before .before .before .before .before .pre .1 .0))
 
-slice-aggregate-list-arguments : tie.Need-slice-aggregate-list-arguments
-slice-aggregate-list-arguments c = search needs
-
 list-arguments-requires : tie.Need-list-arguments-requires
 list-arguments-requires c κs =
     let start = c .before .before .before .before .before .before .before .before .pre in
     (atom-arguments (start .1 .0) (start .1 .1), omega (arith, atom-few (start .1 .0) (start .1 .1)))
 
-slice-aggregate-numbered-body : tie.Need-slice-aggregate-numbered-body
-slice-aggregate-numbered-body c = search needs
-
 numbered-body-requires : tie.Need-numbered-body-requires
 numbered-body-requires c κs =
     let start = c .before .before .before .before .before .before .before .before .before .before .before .before .pre in
     (start .0 .0, (atom-table (start .1 .0) (start .1 .1) (c .before .before .before .list-arguments .ensures), first-new-small (start .1 .0) (c .before .before .before .before .before .before .before .before .next-variable .ensures (start .1 .0 .frame))))
-
-same-length : tie.Need-same-length
-same-length c = search needs
 
 returns-2 : tie.Need-returns-2
 returns-2 c = λ g a q.
@@ -51,9 +42,9 @@ body-with-spec =
     locals-beyond-requires
     returns
     add-t12
-    slice-aggregate-list-arguments
+    (λ c. search needs)
     list-arguments-requires
-    slice-aggregate-numbered-body
+    (λ c. search needs)
     numbered-body-requires
-    same-length
+    (λ c. search needs)
     returns-2)

@@ -48,12 +48,6 @@ returns c =
     let at-visit = c .before .before .before .before in
     closing-stuck _ _ _ _ _ _ _ (at-visit .visit .ensures) (c .enum-told .given .1) _
 
-enum-told-2 : tie.Need-enum-told-2 Inv-loop μ-loop
-enum-told-2 c = search needs
-
-add-i : tie.Need-add-i Inv-loop μ-loop
-add-i c = search needs
-
 loop-less : tie.Need-loop-less Inv-loop μ-loop
 loop-less c =
     let at-visit = c .before .before .before .before in
@@ -66,9 +60,6 @@ loop-again c =
     let head = c .before .before .before .before .before .before .before in
     let at-loop-test = c .before .before .before .before .before .before in
     closing-fine _ _ _ _ _ _ _ (at-visit .visit .ensures) (c .enum-told2 .given .1) (head .loop .inv) (at-loop-test .loop-test .taken)
-
-enum-told-3 : tie.Need-enum-told-3 Inv-loop μ-loop
-enum-told-3 c = search needs
 
 loop-less-2 : tie.Need-loop-less-2 Inv-loop μ-loop
 loop-less-2 c =
@@ -99,11 +90,11 @@ close-spec =
     enum-told
     same-length
     returns
-    enum-told-2
-    add-i
+    (λ c. search needs)
+    (λ c. search needs)
     loop-less
     loop-again
-    enum-told-3
+    (λ c. search needs)
     loop-less-2
     loop-again-2
     same-length-2

@@ -5,20 +5,8 @@ use borrow.Author.Needs.{needs}
 use Rattle.terms.proofs.classes.visit.Statement.{statement}
 use Rattle.terms.proofs.classes.visit.Tie as tie
 
-mul-if1 : tie.Need-mul-if1
-mul-if1 c = search needs
-
-shared-slice-read-if1 : tie.Need-shared-slice-read-if1
-shared-slice-read-if1 c = search needs
-
 returns : tie.Need-returns
 returns c = turned-variable _ _ _ _ _ (λ h. omega (arith, c .if1 .taken))
-
-mul-r : tie.Need-mul-r
-mul-r c = search needs
-
-slice-read-r : tie.Need-slice-read-r
-slice-read-r c = search needs
 
 compare-requires : tie.Need-compare-requires
 compare-requires c κs =
@@ -27,12 +15,6 @@ compare-requires c κs =
 
 enum-told : tie.Need-enum-told
 enum-told c = search needs
-
-enum-told-2 : tie.Need-enum-told-2
-enum-told-2 c = search needs
-
-enum-known-p : tie.Need-enum-known-p
-enum-known-p c = search needs
 
 unite-requires : tie.Need-unite-requires
 unite-requires c κs =
@@ -43,9 +25,6 @@ unite-requires c κs =
     differ-unitable _ _ _ _ (start .pre .1 .0) _ (start .pre .1 .1) (at-if1 .if1 .left) _ (at-compare .compare .ensures) _ _ (g .1)
     (start .pre .0)
 
-same-length : tie.Need-same-length
-same-length c = search needs
-
 returns-2 : tie.Need-returns-2
 returns-2 c =
     let start = c .before .before .before .before .before .before .before .before .before .before .before in
@@ -53,18 +32,12 @@ returns-2 c =
     turned-stuck _ _ _ _ (start .pre .1 .0) _ (start .pre .1 .1) (at-if1 .if1 .left) _ (c .before .before .compare .ensures)
     (c .enum-told .given .1) _
 
-same-length-2 : tie.Need-same-length-2
-same-length-2 c = search needs
-
 returns-3 : tie.Need-returns-3
 returns-3 c =
     let start = c .before .before .before .before .before .before .before .before .before .before .before in
     let at-if1 = c .before .before .before .before .before in
     turned-fine _ _ _ _ (start .pre .1 .0) _ (start .pre .1 .1) (at-if1 .if1 .left) _ (c .before .before .compare .ensures)
     (c .enum-told2 .given .1)
-
-same-length-3 : tie.Need-same-length-3
-same-length-3 c = search needs
 
 returns-4 : tie.Need-returns-4
 returns-4 c =
@@ -80,19 +53,19 @@ pub visit-spec : {M : Type 1} → statement M
 visit-spec =
     tie.close
     (tie.spec
-    mul-if1
-    shared-slice-read-if1
+    (λ c. search needs)
+    (λ c. search needs)
     returns
-    mul-r
-    slice-read-r
+    (λ c. search needs)
+    (λ c. search needs)
     compare-requires
     enum-told
-    enum-told-2
-    enum-known-p
+    (λ c. search needs)
+    (λ c. search needs)
     unite-requires
-    same-length
+    (λ c. search needs)
     returns-2
-    same-length-2
+    (λ c. search needs)
     returns-3
-    same-length-3
+    (λ c. search needs)
     returns-4)

@@ -18,20 +18,11 @@ loop-holds c = searched-start _ _ _ _
 entry-at-requires : tie.Need-entry-at-requires Inv-loop μ-loop
 entry-at-requires c κs = searched-item (c .before .loop .inv) (c .loop-test .taken) (c .before .before .before .pre)
 
-defines-requires : tie.Need-defines-requires Inv-loop μ-loop
-defines-requires c κs = search needs
-
 add-t10 : tie.Need-add-t10 Inv-loop μ-loop
 add-t10 c = omega (arith, entry-room (searched-item (c .before .before .before .before .loop .inv) (c .before .before .before .loop-test .taken) (c .before .before .before .before .before .before .pre)))
 
 returns : tie.Need-returns Inv-loop μ-loop
 returns c = searched-found (c .before .before .before .before .loop .inv) (c .before .before .before .loop-test .taken) (c .before .before .entry-at .ensures) (c .before .defines .ensures) (c .if1 .taken)
-
-add-i : tie.Need-add-i Inv-loop μ-loop
-add-i c = search needs
-
-loop-less : tie.Need-loop-less Inv-loop μ-loop
-loop-less c = search needs
 
 loop-again : tie.Need-loop-again Inv-loop μ-loop
 loop-again c = searched-next (c .before .before .before .before .loop .inv) (c .before .before .before .loop-test .taken) (c .before .before .entry-at .ensures) (c .before .defines .ensures) (c .if1 .left)
@@ -47,10 +38,10 @@ among-spec =
     μ-loop
     loop-holds
     entry-at-requires
-    defines-requires
+    (λ c κs. search needs)
     add-t10
     returns
-    add-i
-    loop-less
+    (λ c. search needs)
+    (λ c. search needs)
     loop-again
     returns-2)

@@ -4,29 +4,8 @@ use borrow.Author.Needs.{needs}
 use Rattle.terms.proofs.definitions.entry_at.Statement.{statement}
 use Rattle.terms.proofs.definitions.entry_at.Tie as tie
 
-definition-head-requires : tie.Need-definition-head-requires
-definition-head-requires c κs = search needs
-
-enum-known-p : tie.Need-enum-known-p
-enum-known-p c = search needs
-
-definition-end-requires : tie.Need-definition-end-requires
-definition-end-requires c κs = search needs
-
-enum-known-e : tie.Need-enum-known-e
-enum-known-e c = search needs
-
 enum-told : tie.Need-enum-told
 enum-told c = search needs
-
-no-entry-requires : tie.Need-no-entry-requires
-no-entry-requires c κs = search needs
-
-enum-told-2 : tie.Need-enum-told-2
-enum-told-2 c = search needs
-
-no-entry-requires-2 : tie.Need-no-entry-requires-2
-no-entry-requires-2 c κs = search needs
 
 returns : tie.Need-returns
 returns c = λ d. entry-is d (c .before .before .before .before .before .before .before .definition-head .ensures) (c .before .before .before .before .before .p .given .1) (c .before .before .before .definition-end .ensures) (c .before .e .given .1)
@@ -41,14 +20,14 @@ pub entry-at-spec : {M : Type 1} → statement M
 entry-at-spec =
     tie.close
     (tie.spec
-    definition-head-requires
-    enum-known-p
-    definition-end-requires
-    enum-known-e
+    (λ c κs. search needs)
+    (λ c. search needs)
+    (λ c κs. search needs)
+    (λ c. search needs)
     enum-told
-    no-entry-requires
-    enum-told-2
-    no-entry-requires-2
+    (λ c κs. search needs)
+    (λ c. search needs)
+    (λ c κs. search needs)
     returns
     returns-2
     returns-3)

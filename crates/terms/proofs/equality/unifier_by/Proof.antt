@@ -5,24 +5,12 @@ use borrow.Author.Needs.{needs}
 use Rattle.terms.proofs.equality.unifier_by.Statement.{statement}
 use Rattle.terms.proofs.equality.unifier_by.Tie as tie
 
-slice-aggregate-apply-bets : tie.Need-slice-aggregate-apply-bets
-slice-aggregate-apply-bets c = search needs
-
 apply-bets-requires : tie.Need-apply-bets-requires
 apply-bets-requires c κs =
-    let p = c .before .before .before .before .before .before .before .pre in (p .0, ((_, p .1 .0), record { entries = p .1 .1 .1 .0; same = p .1 .1 .1 .1; limit = search needs }))
-
-enum-known-k : tie.Need-enum-known-k
-enum-known-k c = search needs
+    let p = c .before .before .before .before .before .before .before .pre in (p .0 .0, ((_, p .0 .1), record { entries = p .1 .0; same = p .1 .1; limit = search needs }))
 
 enum-told : tie.Need-enum-told
 enum-told c = search needs
-
-same-length : tie.Need-same-length
-same-length c = search needs
-
-same-length-2 : tie.Need-same-length-2
-same-length-2 c = search needs
 
 returns : tie.Need-returns
 returns c =
@@ -30,24 +18,15 @@ returns c =
 
 array-share-prefix-a : tie.Need-array-share-prefix-a
 array-share-prefix-a c =
-    let p = c .before .before .before .before .before .before .before .before .before .before .before .before .before .before .before .before .pre in value-length (p .1 .0 .term) (c .before .before .before .before .before .before .before .before .apply-bets .ensures (p .0) _ (p .1 .0)) (c .before .k .given .1)
+    let p = c .before .before .before .before .before .before .before .before .before .before .before .before .before .before .before .before .pre in value-length (p .0 .1 .term) (c .before .before .before .before .before .before .before .before .apply-bets .ensures (p .0 .0) _ (p .0 .1)) (c .before .k .given .1)
 
 slice-aggregate-unifier-with : tie.Need-slice-aggregate-unifier-with
 slice-aggregate-unifier-with c =
-    let p = c .before .before .before .before .before .before .before .before .before .before .before .before .before .before .before .before .before .pre in sym (part-length _ _ (value-length (p .1 .0 .term) (c .before .before .before .before .before .before .before .before .before .apply-bets .ensures (p .0) _ (p .1 .0)) (c .before .before .k .given .1)))
+    let p = c .before .before .before .before .before .before .before .before .before .before .before .before .before .before .before .before .before .pre in sym (part-length _ _ (value-length (p .0 .1 .term) (c .before .before .before .before .before .before .before .before .before .apply-bets .ensures (p .0 .0) _ (p .0 .1)) (c .before .before .k .given .1)))
 
 unifier-with-requires : tie.Need-unifier-with-requires
 unifier-with-requires c κs =
-    let p = c .before .before .before .before .before .before .before .before .before .before .before .before .before .before .before .before .before .before .before .before .pre in (p .0, (p .1 .1 .0, (search needs, (search needs, one-value (p .1 .0 .term) (c .before .before .before .before .before .before .before .before .before .before .before .before .apply-bets .ensures (p .0) _ (p .1 .0)) (c .before .before .before .before .before .k .given .1) (p .0 .formed) (p .1 .0 .formed)))))
-
-same-length-3 : tie.Need-same-length-3
-same-length-3 c = search needs
-
-same-length-4 : tie.Need-same-length-4
-same-length-4 c = search needs
-
-same-length-5 : tie.Need-same-length-5
-same-length-5 c = search needs
+    let p = c .before .before .before .before .before .before .before .before .before .before .before .before .before .before .before .before .before .before .before .before .pre in (p .0 .0, (p .0 .2, (search needs, (search needs, one-value (p .0 .1 .term) (c .before .before .before .before .before .before .before .before .before .before .before .before .apply-bets .ensures (p .0 .0) _ (p .0 .1)) (c .before .before .before .before .before .k .given .1) (p .0 .0 .formed) (p .0 .1 .formed)))))
 
 returns-2 : tie.Need-returns-2
 returns-2 c =
@@ -57,17 +36,17 @@ pub unifier-by-spec : {M : Type 1} → statement M
 unifier-by-spec =
     tie.close
     (tie.spec
-    slice-aggregate-apply-bets
+    (λ c. search needs)
     apply-bets-requires
-    enum-known-k
+    (λ c. search needs)
     enum-told
-    same-length
-    same-length-2
+    (λ c. search needs)
+    (λ c. search needs)
     returns
     array-share-prefix-a
     slice-aggregate-unifier-with
     unifier-with-requires
-    same-length-3
-    same-length-4
-    same-length-5
+    (λ c. search needs)
+    (λ c. search needs)
+    (λ c. search needs)
     returns-2)

@@ -5,24 +5,12 @@ use borrow.Author.Needs.{needs}
 use Rattle.terms.proofs.equality.unifier_with.Statement.{statement}
 use Rattle.terms.proofs.equality.unifier_with.Tie as tie
 
-slice-aggregate-apply-bets : tie.Need-slice-aggregate-apply-bets
-slice-aggregate-apply-bets c = search needs
-
 apply-bets-requires : tie.Need-apply-bets-requires
 apply-bets-requires c κs =
     let p = c .before .before .before .before .before .before .before .before .pre in (p .0, ((_, p .1 .0), record { entries = p .1 .1 .0; same = p .1 .1 .1 .0; limit = search needs }))
 
-enum-known-m : tie.Need-enum-known-m
-enum-known-m c = search needs
-
 enum-told : tie.Need-enum-told
 enum-told c = search needs
-
-same-length : tie.Need-same-length
-same-length c = search needs
-
-same-length-2 : tie.Need-same-length-2
-same-length-2 c = search needs
 
 returns : tie.Need-returns
 returns c =
@@ -40,15 +28,6 @@ write-unifier-requires : tie.Need-write-unifier-requires
 write-unifier-requires c κs =
     let p = c .before .before .before .before .before .before .before .before .before .before .before .before .before .before .before .before .before .before .before .pre in (p .1 .1 .1 .1, one-value (p .1 .0 .term) (c .before .before .before .before .before .before .before .before .before .before .apply-bets .ensures (p .0) _ (p .1 .0)) (c .before .before .before .m .given .1) (p .0 .formed) (p .1 .0 .formed))
 
-same-length-3 : tie.Need-same-length-3
-same-length-3 c = search needs
-
-same-length-4 : tie.Need-same-length-4
-same-length-4 c = search needs
-
-same-length-5 : tie.Need-same-length-5
-same-length-5 c = search needs
-
 returns-2 : tie.Need-returns-2
 returns-2 c =
     λ p v t. let s = c .before .before .before .before .before .before .before .before .before .before .before .before .before .apply-bets .ensures p _ t in let m = c .before .before .before .before .before .before .m .given .1 in let b = one-value (t .term) s m (p .formed) (t .formed) in right-within (v .value .term) (t .term) s m (c .before .before .write-unifier .ensures .each (v .value .term) (b .value .term) (v .value .formed) (b .value .formed) (v .value .same) (b .value .same))
@@ -57,17 +36,17 @@ pub unifier-with-spec : {M : Type 1} → statement M
 unifier-with-spec =
     tie.close
     (tie.spec
-    slice-aggregate-apply-bets
+    (λ c. search needs)
     apply-bets-requires
-    enum-known-m
+    (λ c. search needs)
     enum-told
-    same-length
-    same-length-2
+    (λ c. search needs)
+    (λ c. search needs)
     returns
     array-share-prefix-b
     slice-aggregate-write-unifier
     write-unifier-requires
-    same-length-3
-    same-length-4
-    same-length-5
+    (λ c. search needs)
+    (λ c. search needs)
+    (λ c. search needs)
     returns-2)

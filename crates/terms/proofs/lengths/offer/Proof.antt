@@ -4,26 +4,11 @@ use borrow.Author.Needs.{needs}
 use Rattle.terms.proofs.lengths.offer.Statement.{statement}
 use Rattle.terms.proofs.lengths.offer.Tie as tie
 
-mul-if1 : tie.Need-mul-if1
-mul-if1 c = search needs
-
-shared-slice-read-if1 : tie.Need-shared-slice-read-if1
-shared-slice-read-if1 c = search needs
-
 returns : tie.Need-returns
 returns c = offered-other _ _ _ _ _ (c .if1 .taken)
 
-mul-if2 : tie.Need-mul-if2
-mul-if2 c = search needs
-
-shared-slice-read-if2 : tie.Need-shared-slice-read-if2
-shared-slice-read-if2 c = search needs
-
 returns-2 : tie.Need-returns-2
 returns-2 c = offered-known _ _ _ _ _ (c .if2 .taken)
-
-weigh-requires : tie.Need-weigh-requires
-weigh-requires c κs = search needs
 
 returns-3 : tie.Need-returns-3
 returns-3 c = offered-weighed _ _ _ _ _ _ (c .before .before .before .if1 .left) (c .before .if2 .left) (c .weigh .ensures)
@@ -32,11 +17,11 @@ pub offer-spec : {M : Type 1} → statement M
 offer-spec =
     tie.close
     (tie.spec
-    mul-if1
-    shared-slice-read-if1
+    (λ c. search needs)
+    (λ c. search needs)
     returns
-    mul-if2
-    shared-slice-read-if2
+    (λ c. search needs)
+    (λ c. search needs)
     returns-2
-    weigh-requires
+    (λ c κs. search needs)
     returns-3)

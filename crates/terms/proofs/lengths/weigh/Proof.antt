@@ -22,34 +22,13 @@ Inv-loop kind next rep size r end w₀ p₀ w p = Weighing next rep size r p w
 abbrev μ-loop : tie.MeasureT-loop
 μ-loop kind next rep size r end w₀ p₀ w p = end - p
 
-mul-if1 : tie.Need-mul-if1 Inv-loop μ-loop
-mul-if1 c = search needs
-
-shared-slice-read-if1 : tie.Need-shared-slice-read-if1 Inv-loop μ-loop
-shared-slice-read-if1 c = search needs
-
 returns : tie.Need-returns Inv-loop μ-loop
 returns c = variable-weighed _ _ _ _ _ (λ h. omega (arith, c .if1 .taken))
-
-mul-end : tie.Need-mul-end Inv-loop μ-loop
-mul-end c = search needs
-
-shared-slice-read-end : tie.Need-shared-slice-read-end Inv-loop μ-loop
-shared-slice-read-end c = search needs
-
-add-p : tie.Need-add-p Inv-loop μ-loop
-add-p c = search needs
 
 loop-holds : tie.Need-loop-holds Inv-loop μ-loop
 loop-holds c =
     let start = c .before .before .before .before .before .before .before in
     weighing-start _ _ _ _ _ (start .pre .0) (start .pre .1)
-
-mul-c : tie.Need-mul-c Inv-loop μ-loop
-mul-c c = search needs
-
-shared-slice-read-c : tie.Need-shared-slice-read-c Inv-loop μ-loop
-shared-slice-read-c c = search needs
 
 mul-k : tie.Need-mul-k Inv-loop μ-loop
 mul-k c =
@@ -75,12 +54,6 @@ capped-requires c κs =
     let start = c .before .before .before .before .before .before .before .before .before .before .before .before in
     let head = c .before .before .before .before in
     weighing-capped _ _ _ _ _ _ _ (start .pre .0) (head .loop .inv) (c .before .before .before .loop-test .taken)
-
-mul-p : tie.Need-mul-p Inv-loop μ-loop
-mul-p c = search needs
-
-shared-slice-read-p : tie.Need-shared-slice-read-p Inv-loop μ-loop
-shared-slice-read-p c = search needs
 
 loop-less : tie.Need-loop-less Inv-loop μ-loop
 loop-less c =
@@ -108,21 +81,21 @@ weigh-spec =
     (tie.spec
     Inv-loop
     μ-loop
-    mul-if1
-    shared-slice-read-if1
+    (λ c. search needs)
+    (λ c. search needs)
     returns
-    mul-end
-    shared-slice-read-end
-    add-p
+    (λ c. search needs)
+    (λ c. search needs)
+    (λ c. search needs)
     loop-holds
-    mul-c
-    shared-slice-read-c
+    (λ c. search needs)
+    (λ c. search needs)
     mul-k
     shared-slice-read-k
     returns-2
     capped-requires
-    mul-p
-    shared-slice-read-p
+    (λ c. search needs)
+    (λ c. search needs)
     loop-less
     loop-again
     returns-3)

@@ -11,15 +11,6 @@ Inv-loop kind next i p₀ k₀ p k = Passes kind next i p k
 abbrev μ-loop : tie.MeasureT-loop
 μ-loop kind next i p₀ k₀ p k = k
 
-add-p : tie.Need-add-p Inv-loop μ-loop
-add-p c = search needs
-
-mul-k : tie.Need-mul-k Inv-loop μ-loop
-mul-k c = search needs
-
-shared-slice-read-k : tie.Need-shared-slice-read-k Inv-loop μ-loop
-shared-slice-read-k c = search needs
-
 loop-holds : tie.Need-loop-holds Inv-loop μ-loop
 loop-holds c = passes-start _ _ _ (omega arith)
 
@@ -33,12 +24,6 @@ shared-slice-read-p c =
     let start = c .before .before .before .before in
     passes-in _ _ _ _ _ (c .before .before .loop .inv) (start .pre) (c .before .loop-test .taken)
 
-sub-k : tie.Need-sub-k Inv-loop μ-loop
-sub-k c = search needs
-
-loop-less : tie.Need-loop-less Inv-loop μ-loop
-loop-less c = search needs
-
 loop-again : tie.Need-loop-again Inv-loop μ-loop
 loop-again c = passes-step _ _ _ _ _ (c .before .before .loop .inv) (c .before .loop-test .taken)
 
@@ -51,13 +36,13 @@ behind-spec =
     (tie.spec
     Inv-loop
     μ-loop
-    add-p
-    mul-k
-    shared-slice-read-k
+    (λ c. search needs)
+    (λ c. search needs)
+    (λ c. search needs)
     loop-holds
     mul-p
     shared-slice-read-p
-    sub-k
-    loop-less
+    (λ c. search needs)
+    (λ c. search needs)
     loop-again
     returns)

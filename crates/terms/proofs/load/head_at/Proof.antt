@@ -8,15 +8,6 @@ use borrow.Author.Needs.{needs}
 use Rattle.terms.proofs.load.head_at.Statement.{statement}
 use Rattle.terms.proofs.load.head_at.Tie as tie
 
-term-head-requires : tie.Need-term-head-requires
-term-head-requires c κs = search needs
-
-enum-known-v : tie.Need-enum-known-v
-enum-known-v c = search needs
-
-enum-known-f : tie.Need-enum-known-f
-enum-known-f c = search needs
-
 add-t8 : tie.Need-add-t8
 add-t8 c =
     let at-shared-slice-known = c .before .before .before .before in
@@ -43,9 +34,9 @@ pub head-at-spec : {M : Type 1} → statement M
 head-at-spec =
     tie.close
     (tie.spec
-    term-head-requires
-    enum-known-v
-    enum-known-f
+    (λ c κs. search needs)
+    (λ c. search needs)
+    (λ c. search needs)
     add-t8
     enum-told
     returns

@@ -64,9 +64,6 @@ same-length-2 c =
     let at-load2 = c .before .before .before .before .before .before .before .before .before in
     at-load2 .load2 .kept .1 .1 .0 ∙ at-load .load .kept .1 .1 .0
 
-same-length-3 : tie.Need-same-length-3
-same-length-3 c = search needs
-
 returns : tie.Need-returns
 returns c =
     let start = c .before .before .before .before .before .before .before .before .before .before .before .before .before .before .before .before .before .before .before .before .before .before .before .before in
@@ -87,5 +84,5 @@ lay-spec =
     link-requires
     same-length
     same-length-2
-    same-length-3
+    (λ c. search needs)
     returns)

@@ -14,30 +14,15 @@ abbrev μ-loop : tie.MeasureT-loop
 loop-holds : tie.Need-loop-holds Inv-loop μ-loop
 loop-holds c = linking-start _ _ (c .before .before .pre .long)
 
-sub-i : tie.Need-sub-i Inv-loop μ-loop
-sub-i c = search needs
-
 behind-requires : tie.Need-behind-requires Inv-loop μ-loop
 behind-requires c κs =
     let start = c .before .before .before .before .before in
     linking-node _ _ _ (c .before .before .loop .inv) (c .before .loop-test .taken) (start .pre)
 
-mul-next : tie.Need-mul-next Inv-loop μ-loop
-mul-next c = search needs
-
-slice-write-next : tie.Need-slice-write-next Inv-loop μ-loop
-slice-write-next c = search needs
-
-loop-less : tie.Need-loop-less Inv-loop μ-loop
-loop-less c = search needs
-
 loop-again : tie.Need-loop-again Inv-loop μ-loop
 loop-again c =
     let head = c .before .before .before in
     linking-step _ _ _ (head .loop .inv) (c .before .before .loop-test .taken) _ (c .behind .ensures)
-
-same-length : tie.Need-same-length Inv-loop μ-loop
-same-length c = search needs
 
 returns : tie.Need-returns Inv-loop μ-loop
 returns c = record { each = λ ts e j a b. c .before .loop .inv .each .each ts e j (omega (arith, c .loop-test .left)) b }
@@ -49,11 +34,11 @@ link-spec =
     Inv-loop
     μ-loop
     loop-holds
-    sub-i
+    (λ c. search needs)
     behind-requires
-    mul-next
-    slice-write-next
-    loop-less
+    (λ c. search needs)
+    (λ c. search needs)
+    (λ c. search needs)
     loop-again
-    same-length
+    (λ c. search needs)
     returns)

@@ -18,9 +18,6 @@ loop-holds c =
     let start = c .before .before .before in
     load-start _ _ _ _ (start .pre .1 .0) (start .pre .1 .1)
 
-head-at-requires : tie.Need-head-at-requires Inv-loop μ-loop
-head-at-requires c κs = search needs
-
 mul-kind : tie.Need-mul-kind Inv-loop μ-loop
 mul-kind c =
     let start = c .before .before .before .before .before .before in
@@ -81,7 +78,7 @@ load-spec =
     Inv-loop
     μ-loop
     loop-holds
-    head-at-requires
+    (λ c κs. search needs)
     mul-kind
     slice-write-kind
     mul-number

@@ -20,26 +20,8 @@ loop-holds c = (λ p. bets-start p, refl, refl)
 list-bet-requires : tie.Need-list-bet-requires Inv-loop μ-loop
 list-bet-requires c κs = let u = c .before .before .before .loop .inv .0 (c .before .before .before .before .before .before .before .pre .0) in (bets-here u (omega arith), (bets-room u (omega arith) (omega arith), omega arith))
 
-bet-end-requires : tie.Need-bet-end-requires Inv-loop μ-loop
-bet-end-requires c κs = search needs
-
-position-requires : tie.Need-position-requires Inv-loop μ-loop
-position-requires c κs = search needs
-
-sub-left : tie.Need-sub-left Inv-loop μ-loop
-sub-left c = search needs
-
-loop-less : tie.Need-loop-less Inv-loop μ-loop
-loop-less c = search needs
-
 loop-again : tie.Need-loop-again Inv-loop μ-loop
 loop-again c = (λ p. let u = c .before .before .before .before .before .before .before .before .before .before .loop .inv .0 p in bets-next u (omega arith) (omega arith) (c .before .before .before .before .before .before .list-bet .ensures (bets-here u (omega arith))) (c .before .bet-end .ensures) (c .position .ensures), search needs, search needs)
-
-same-length : tie.Need-same-length Inv-loop μ-loop
-same-length c = search needs
-
-same-length-2 : tie.Need-same-length-2 Inv-loop μ-loop
-same-length-2 c = search needs
 
 returns : tie.Need-returns Inv-loop μ-loop
 returns c = λ p. bets-end (c .before .loop .inv .0 p) (p .rules) (omega arith) (omega arith)
@@ -52,11 +34,11 @@ list-bets-spec =
     μ-loop
     loop-holds
     list-bet-requires
-    bet-end-requires
-    position-requires
-    sub-left
-    loop-less
+    (λ c κs. search needs)
+    (λ c κs. search needs)
+    (λ c. search needs)
+    (λ c. search needs)
     loop-again
-    same-length
-    same-length-2
+    (λ c. search needs)
+    (λ c. search needs)
     returns)

@@ -4,20 +4,8 @@ use borrow.Author.Needs.{needs}
 use Rattle.terms.proofs.pairs.pairs_at.Statement.{statement}
 use Rattle.terms.proofs.pairs.pairs_at.Tie as tie
 
-bet-head-requires : tie.Need-bet-head-requires
-bet-head-requires c κs = search needs
-
-enum-known-n : tie.Need-enum-known-n
-enum-known-n c = search needs
-
 enum-told : tie.Need-enum-told
 enum-told c = search needs
-
-enum-told-2 : tie.Need-enum-told-2
-enum-told-2 c = search needs
-
-enum-told-3 : tie.Need-enum-told-3
-enum-told-3 c = search needs
 
 returns : tie.Need-returns
 returns c = ap head-pairs (sym (c .before .n .given .1) ∙ c .before .before .before .bet-head .ensures)
@@ -35,11 +23,11 @@ pub pairs-at-spec : {M : Type 1} → statement M
 pairs-at-spec =
     tie.close
     (tie.spec
-    bet-head-requires
-    enum-known-n
+    (λ c κs. search needs)
+    (λ c. search needs)
     enum-told
-    enum-told-2
-    enum-told-3
+    (λ c. search needs)
+    (λ c. search needs)
     returns
     returns-2
     returns-3

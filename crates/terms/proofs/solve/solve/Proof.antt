@@ -5,15 +5,6 @@ use borrow.Author.Needs.{needs}
 use Rattle.terms.proofs.solve.solve.Statement.{statement}
 use Rattle.terms.proofs.solve.solve.Tie as tie
 
-begin-requires : tie.Need-begin-requires
-begin-requires c κs = search needs
-
-close-requires : tie.Need-close-requires
-close-requires c κs = search needs
-
-same-length : tie.Need-same-length
-same-length c = search needs
-
 returns : tie.Need-returns
 returns c = ended-solved _ _ _ _ _ (c .before .before .before .close .ensures) (not-true _ (c .if1 .taken)) _
 
@@ -23,15 +14,6 @@ measure-requires c κs =
     let at-close = c .before .before .before .before .before in
     let P = start .pre in
     (P .0, (ended-state _ _ _ _ _ (at-close .close .ensures) (not-false _ (c .before .before .if1 .left)), P .1 .1))
-
-complete-requires : tie.Need-complete-requires
-complete-requires c κs = search needs
-
-same-length-2 : tie.Need-same-length-2
-same-length-2 c = search needs
-
-same-length-3 : tie.Need-same-length-3
-same-length-3 c = search needs
 
 returns-2 : tie.Need-returns-2
 returns-2 c =
@@ -45,12 +27,12 @@ pub solve-spec : {M : Type 1} → statement M
 solve-spec =
     tie.close
     (tie.spec
-    begin-requires
-    close-requires
-    same-length
+    (λ c κs. search needs)
+    (λ c κs. search needs)
+    (λ c. search needs)
     returns
     measure-requires
-    complete-requires
-    same-length-2
-    same-length-3
+    (λ c κs. search needs)
+    (λ c. search needs)
+    (λ c. search needs)
     returns-2)

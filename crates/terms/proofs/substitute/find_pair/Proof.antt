@@ -1,4 +1,4 @@
-use Rattle.terms.specs.Values.Entries.{PairTable, entries}
+use Rattle.terms.specs.Values.Entries.{PairTable, pair-entries}
 use Rattle.terms.specs.Values.EntryLaws.{Searching, find-start, find-none, find-number, find-found, find-next}
 use mathlib.Core.List.{List, []}
 use Prim.Native.Nat.{ℕ, _≤_}
@@ -8,7 +8,7 @@ use Rattle.terms.proofs.substitute.find_pair.Statement.{statement}
 use Rattle.terms.proofs.substitute.find_pair.Tie as tie
 
 abbrev Inv-loop : tie.InvT-loop
-Inv-loop event places i v k₀ k = (k ≤ i) × ((firsts : List ℕ) (p : PairTable event places firsts i) → Searching (entries [] (p .bets)) v k)
+Inv-loop event places i v k₀ k = (k ≤ i) × ((firsts : List ℕ) (p : PairTable event places firsts i) → Searching (pair-entries [] (p .bets)) v k)
 
 abbrev μ-loop : tie.MeasureT-loop
 μ-loop event places i v k₀ k = k
@@ -16,20 +16,8 @@ abbrev μ-loop : tie.MeasureT-loop
 loop-holds : tie.Need-loop-holds Inv-loop μ-loop
 loop-holds c = (omega arith, λ firsts p. find-start p _)
 
-sub-k : tie.Need-sub-k Inv-loop μ-loop
-sub-k c = search needs
-
-mul-at : tie.Need-mul-at Inv-loop μ-loop
-mul-at c = search needs
-
 shared-slice-read-at : tie.Need-shared-slice-read-at Inv-loop μ-loop
 shared-slice-read-at c = omega (arith, c .before .before .loop .inv .0, c .before .before .before .before .before .pre)
-
-word-at-requires : tie.Need-word-at-requires Inv-loop μ-loop
-word-at-requires c κs = search needs
-
-enum-known-x : tie.Need-enum-known-x Inv-loop μ-loop
-enum-known-x c = search needs
 
 enum-told : tie.Need-enum-told Inv-loop μ-loop
 enum-told c = search needs
@@ -40,9 +28,6 @@ returns c = λ firsts p. absurd (find-number p (c .before .before .before .befor
 returns-2 : tie.Need-returns-2 Inv-loop μ-loop
 returns-2 c =
     λ firsts p. find-found p (c .before .before .before .before .before .before .before .loop .inv .1 firsts p) (omega arith) (c .before .before .before .before .word-at .ensures) (c .before .before .x .given .1) (omega arith)
-
-loop-less : tie.Need-loop-less Inv-loop μ-loop
-loop-less c = search needs
 
 loop-again : tie.Need-loop-again Inv-loop μ-loop
 loop-again c =
@@ -58,14 +43,14 @@ find-pair-spec =
     Inv-loop
     μ-loop
     loop-holds
-    sub-k
-    mul-at
+    (λ c. search needs)
+    (λ c. search needs)
     shared-slice-read-at
-    word-at-requires
-    enum-known-x
+    (λ c κs. search needs)
+    (λ c. search needs)
     enum-told
     returns
     returns-2
-    loop-less
+    (λ c. search needs)
     loop-again
     returns-3)

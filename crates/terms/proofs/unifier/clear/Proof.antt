@@ -17,15 +17,6 @@ abbrev μ-loop : tie.MeasureT-loop
 loop-holds : tie.Need-loop-holds Inv-loop μ-loop
 loop-holds c = record { long = refl; zero = λ j h. absurd (omega arith) }
 
-mul-size : tie.Need-mul-size Inv-loop μ-loop
-mul-size c = search needs
-
-slice-write-size : tie.Need-slice-write-size Inv-loop μ-loop
-slice-write-size c = search needs
-
-add-i : tie.Need-add-i Inv-loop μ-loop
-add-i c = search needs
-
 loop-less : tie.Need-loop-less Inv-loop μ-loop
 loop-less c = simp length-set (omega arith)
 
@@ -45,9 +36,9 @@ clear-spec =
     Inv-loop
     μ-loop
     loop-holds
-    mul-size
-    slice-write-size
-    add-i
+    (λ c. search needs)
+    (λ c. search needs)
+    (λ c. search needs)
     loop-less
     loop-again
     same-length

@@ -23,12 +23,6 @@ better-requires c κs =
     let start = c .before .before .before .before .before .before in
     (start .pre, c .loop-test .taken)
 
-add-i : tie.Need-add-i Inv-loop μ-loop
-add-i c = search needs
-
-loop-less : tie.Need-loop-less Inv-loop μ-loop
-loop-less c = search needs
-
 loop-again : tie.Need-loop-again Inv-loop μ-loop
 loop-again c = (c .better .ensures .each (c .before .before .loop .inv .0), omega (arith, c .before .loop-test .taken))
 
@@ -38,4 +32,4 @@ returns c = record { found = c .before .loop .inv .0 .found; least = λ j a k b 
 pub least-spec : {M : Type 1} → statement M
 least-spec =
     tie.close
-    (tie.spec Inv-loop μ-loop loop-holds better-requires add-i loop-less loop-again returns)
+    (tie.spec Inv-loop μ-loop loop-holds better-requires (λ c. search needs) (λ c. search needs) loop-again returns)

@@ -66,9 +66,6 @@ add-result c =
     let at-put-word = c .before .before .before .before .before .before .before in
     let h = pair-place _ _ _ (start .pre .0) _ _ _ (start .pre .1) _ _ (at-put-word .put-word .ensures) in omega arith
 
-same-length : tie.Need-same-length
-same-length c = search needs
-
 returns : tie.Need-returns
 returns c =
     let start = c .before .before .before .before .before .before .before .before .before .before .before .before .before .before .before .before .before in
@@ -92,5 +89,5 @@ put-pair-spec =
     mul-result
     shared-slice-read-result
     add-result
-    same-length
+    (λ c. search needs)
     returns)

@@ -1,5 +1,5 @@
 -- `put_pairs` writes the pairs in order.
-use Rattle.terms.specs.Unifier.GivesLaws.{Writing, writing-start, writing-few, writing-fits, writing-step, writing-end}
+use Rattle.terms.specs.Unifier.GivesLaws.{PairsWriting, pairs-writing-start, writing-few, writing-fits, writing-step, writing-end}
 use Rattle.terms.specs.Unifier.LeastLaws.{table-classed}
 use Rattle.terms.specs.Classes.Nodes.{nodes}
 use Prim.Native.Nat.{_-_}
@@ -8,13 +8,13 @@ use Rattle.terms.proofs.unifier.put_pairs.Statement.{statement}
 use Rattle.terms.proofs.unifier.put_pairs.Tie as tie
 
 abbrev Inv-loop : tie.InvT-loop
-Inv-loop kind number next rep size out₀ at end₀ count₀ lo₀ out end count lo = Writing (nodes kind number next) rep out₀ at out end count lo
+Inv-loop kind number next rep size out₀ at end₀ count₀ lo₀ out end count lo = PairsWriting (nodes kind number next) rep out₀ at out end count lo
 
 abbrev μ-loop : tie.MeasureT-loop
 μ-loop kind number next rep size out₀ at end₀ count₀ lo₀ out end count lo = 65536 - lo
 
 loop-holds : tie.Need-loop-holds Inv-loop μ-loop
-loop-holds c = writing-start _ _ _ _
+loop-holds c = pairs-writing-start _ _ _ _
 
 least-requires : tie.Need-least-requires Inv-loop μ-loop
 least-requires c κs =

@@ -7,12 +7,6 @@ use borrow.Author.Needs.{needs}
 use Rattle.terms.proofs.variables.ancestor_top.Statement.{statement}
 use Rattle.terms.proofs.variables.ancestor_top.Tie as tie
 
-ancestor-head-requires : tie.Need-ancestor-head-requires
-ancestor-head-requires c κs = search needs
-
-enum-known-k : tie.Need-enum-known-k
-enum-known-k c = search needs
-
 add-t6 : tie.Need-add-t6
 add-t6 c = omega (arith, ancestor-room _ _ (c .before .before .before .before .shared-slice-known .given) (c .before .before .before .ancestor-head .ensures) (Called _ _) (c .before .k .given .1) .0)
 
@@ -28,17 +22,11 @@ add-t8 c = omega (arith, ancestor-room _ _ (c .before .before .before .shared-sl
 variables-top-requires-2 : tie.Need-variables-top-requires-2
 variables-top-requires-2 c κs = ancestor-on (c .before .before .before .before .pre) (c .before .before .ancestor-head .ensures) (InConj _) (c .enum-told .given .1)
 
-enum-told-2 : tie.Need-enum-told-2
-enum-told-2 c = search needs
-
 add-t10 : tie.Need-add-t10
 add-t10 c = omega (arith, ancestor-room _ _ (c .before .before .before .shared-slice-known .given) (c .before .before .ancestor-head .ensures) (InDisj _) (c .enum-told2 .given .1) .0)
 
 variables-top-requires-3 : tie.Need-variables-top-requires-3
 variables-top-requires-3 c κs = ancestor-on (c .before .before .before .before .pre) (c .before .before .ancestor-head .ensures) (InDisj _) (c .enum-told2 .given .1)
-
-enum-told-3 : tie.Need-enum-told-3
-enum-told-3 c = search needs
 
 returns : tie.Need-returns
 returns c = λ a. ancestor-tops a (c .before .before .before .before .ancestor-head .ensures) (Called _ _) (c .before .before .k .given .1) (c .variables-top .ensures)
@@ -56,17 +44,17 @@ pub ancestor-top-spec : {M : Type 1} → statement M
 ancestor-top-spec =
     tie.close
     (tie.spec
-    ancestor-head-requires
-    enum-known-k
+    (λ c κs. search needs)
+    (λ c. search needs)
     add-t6
     variables-top-requires
     enum-told
     add-t8
     variables-top-requires-2
-    enum-told-2
+    (λ c. search needs)
     add-t10
     variables-top-requires-3
-    enum-told-3
+    (λ c. search needs)
     returns
     returns-2
     returns-3

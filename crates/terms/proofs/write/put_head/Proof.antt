@@ -20,9 +20,6 @@ put-word-requires c κs =
     let at-put-byte = c .before .before .before in
     let h = ap length (head-variable (start .args .kind) (start .args .number) (at-if1 .if1 .taken)) in omega (arith, start .pre .1, at-put-byte .put-byte .ensures .place, put-length (at-put-byte .put-byte .ensures))
 
-same-length : tie.Need-same-length
-same-length c = search needs
-
 returns : tie.Need-returns
 returns c =
     let at-if1 = c .before .before .before .before .before .before .before .before in
@@ -54,9 +51,6 @@ put-byte-requires-3 c κs =
     let at-put-word2 = c .before .before .before in
     let h = ap length (head-symbol (start .args .kind) (start .args .number) (at-if1 .if1 .left)) in omega (arith, start .pre .1, at-put-byte2 .put-byte2 .ensures .place, put-length (at-put-byte2 .put-byte2 .ensures), at-put-word2 .put-word2 .ensures .place, put-length (at-put-word2 .put-word2 .ensures))
 
-same-length-2 : tie.Need-same-length-2
-same-length-2 c = search needs
-
 returns-2 : tie.Need-returns-2
 returns-2 c =
     let at-if1 = c .before .before .before .before .before .before .before .before .before .before .before .before in
@@ -70,11 +64,11 @@ put-head-spec =
     (tie.spec
     put-byte-requires
     put-word-requires
-    same-length
+    (λ c. search needs)
     returns
     put-byte-requires-2
     put-word-requires-2
     cast-put-byte
     put-byte-requires-3
-    same-length-2
+    (λ c. search needs)
     returns-2)

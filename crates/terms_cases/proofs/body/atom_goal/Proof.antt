@@ -13,11 +13,8 @@ atom-body-requires c κs =
     let q = c .before .before .before .before .before .before .before .pre .1 in
     (c .before .before .before .before .before .before .before .pre .0, atom-there (c .before .before .before .before .before .shared-slice-known2 .given) q (c .before .before .before .event-places .ensures (atom-event q) (q .read)))
 
-same-length : tie.Need-same-length
-same-length c = search needs
-
 returns : tie.Need-returns
 returns c = λ d q. c .before .before .atom-body .ensures d (atom-there (c .before .before .before .before .before .before .before .before .shared-slice-known2 .given) q (c .before .before .before .before .before .before .event-places .ensures (atom-event q) (q .read)))
 
 pub atom-goal-spec : {M : Type 1} → statement M
-atom-goal-spec = tie.close (tie.spec event-places-requires atom-body-requires same-length returns)
+atom-goal-spec = tie.close (tie.spec event-places-requires atom-body-requires (λ c. search needs) returns)

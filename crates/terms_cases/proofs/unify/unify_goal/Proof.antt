@@ -9,12 +9,6 @@ use Rattle.terms_cases.proofs.unify.unify_goal.Tie as tie
 event-places-requires : tie.Need-event-places-requires
 event-places-requires c κs = equality-accepted (c .before .before .pre)
 
-term-end-requires : tie.Need-term-end-requires
-term-end-requires c κs = search needs
-
-enum-known-middle : tie.Need-enum-known-middle
-enum-known-middle c = search needs
-
 enum-told : tie.Need-enum-told
 enum-told c = search needs
 
@@ -27,10 +21,7 @@ unifier-under-requires c κs =
     let known = c .before .before .before .before .before .before .before .before .before .shared-slice-known .given in
     let i = c .before .before .before .before .before .before .before .event-places .ensures (equality-event q) (q .read) in
     let m = sym (c .before .before .before .before .before .before .term-end .ensures) ∙ c .before .before .before .before .middle .given .1 in
-    (bets-there known q i, (left-there known q i m, (right-there known q i m, equality-short known q)))
-
-same-length : tie.Need-same-length
-same-length c = search needs
+    ((bets-there known q i, left-there known q i m, right-there known q i m), equality-short known q)
 
 returns-2 : tie.Need-returns-2
 returns-2 c =
@@ -45,10 +36,10 @@ unify-goal-spec =
     tie.close
     (tie.spec
     event-places-requires
-    term-end-requires
-    enum-known-middle
+    (λ c κs. search needs)
+    (λ c. search needs)
     enum-told
     returns
     unifier-under-requires
-    same-length
+    (λ c. search needs)
     returns-2)

@@ -6,24 +6,6 @@ use Rattle.walk.specs.Reading.{delivered}
 use Rattle.walk.proofs.input.read_part.Statement.{statement}
 use Rattle.walk.proofs.input.read_part.Tie as tie
 
-add-to : tie.Need-add-to
-add-to c = search needs
-
-sub-read-full : tie.Need-sub-read-full
-sub-read-full c = search needs
-
-part-read-full-start : tie.Need-part-read-full-start
-part-read-full-start c = search needs
-
-part-read-full-end : tie.Need-part-read-full-end
-part-read-full-end c = search needs
-
-read-full-requires : tie.Need-read-full-requires
-read-full-requires c κs = search needs
-
-same-length : tie.Need-same-length
-same-length c = search needs
-
 returns : tie.Need-returns
 returns c =
     let read = c .before .before .read-full in
@@ -35,10 +17,10 @@ pub read-part-spec : {M : Type 1} → statement M
 read-part-spec =
     tie.close
     (tie.spec
-    add-to
-    sub-read-full
-    part-read-full-start
-    part-read-full-end
-    read-full-requires
-    same-length
+    (λ c. search needs)
+    (λ c. search needs)
+    (λ c. search needs)
+    (λ c. search needs)
+    (λ c κs. search needs)
+    (λ c. search needs)
     returns)

@@ -1,7 +1,6 @@
 -- The loop's invariant: the text up to what is left was printed, and pages are left.
 use mathlib.Core.Path.{sym, _∙_}
 use Prim.Native.Nat.{_<_}
-use native.Mathlib.Omega.{arith}
 use lib.Seq.{length-take-le}
 use borrow.Author.Needs.{needs}
 use Rattle.walk_text.specs.Rest.{pages-left}
@@ -16,14 +15,8 @@ Inv-loop program query page₀ rest₀ page rest = Printing program query rest �
 abbrev μ-loop : tie.MeasureT-loop
 μ-loop program query page₀ rest₀ page rest = pages-left rest
 
-whole-requires : tie.Need-whole-requires Inv-loop μ-loop
-whole-requires c κs = search needs
-
 loop-holds : tie.Need-loop-holds Inv-loop μ-loop
 loop-holds c = (printing-start (c .whole .result) (c .whole .ensures), pages-start (c .whole .result) (c .whole .ensures))
-
-next-page-requires : tie.Need-next-page-requires Inv-loop μ-loop
-next-page-requires c κs = search needs
 
 array-share-prefix-page : tie.Need-array-share-prefix-page Inv-loop μ-loop
 array-share-prefix-page c = c .next-page .ensures .inside
@@ -31,14 +24,8 @@ array-share-prefix-page c = c .next-page .ensures .inside
 slice-aggregate-write-bytes : tie.Need-slice-aggregate-write-bytes Inv-loop μ-loop
 slice-aggregate-write-bytes c = sym (length-take-le _ _ (c .before .next-page .ensures .inside))
 
-write-bytes-requires : tie.Need-write-bytes-requires Inv-loop μ-loop
-write-bytes-requires c κs = search needs
-
 returns : tie.Need-returns Inv-loop μ-loop
 returns c = printing-cut (c .before .before .before .before .before .loop .inv .0) (c .before .before .before .next-page .ensures) _ (c .before .write-bytes .ensures) (c .if1 .taken)
-
-is-done-requires : tie.Need-is-done-requires Inv-loop μ-loop
-is-done-requires c κs = search needs
 
 returns-2 : tie.Need-returns-2 Inv-loop μ-loop
 returns-2 c =
@@ -61,14 +48,14 @@ print-text-spec =
     (tie.spec
     Inv-loop
     μ-loop
-    whole-requires
+    (λ c κs. search needs)
     loop-holds
-    next-page-requires
+    (λ c κs. search needs)
     array-share-prefix-page
     slice-aggregate-write-bytes
-    write-bytes-requires
+    (λ c κs. search needs)
     returns
-    is-done-requires
+    (λ c κs. search needs)
     returns-2
     loop-less
     loop-again)

@@ -7,14 +7,8 @@ use borrow.Author.Needs.{needs}
 use Rattle.walk_cases.proofs.text.digest_query.Statement.{statement}
 use Rattle.walk_cases.proofs.text.digest_query.Tie as tie
 
-taken-length-requires : tie.Need-taken-length-requires
-taken-length-requires c κs = search needs
-
 slice-aggregate-digest-text : tie.Need-slice-aggregate-digest-text
 slice-aggregate-digest-text c = sym (length-take-le _ _ (taken-within _ (c .before .taken-length .ensures)))
-
-digest-text-requires : tie.Need-digest-text-requires
-digest-text-requires c κs = search needs
 
 returns : tie.Need-returns
 returns c = (rw (taken-front _ (c .before .before .before .taken-length .ensures)) at (c .digest-text .ensures .0), c .digest-text .ensures .1)
@@ -22,4 +16,4 @@ returns c = (rw (taken-front _ (c .before .before .before .taken-length .ensures
 pub digest-query-spec : {M : Type 1} → statement M
 digest-query-spec =
     tie.close
-    (tie.spec taken-length-requires slice-aggregate-digest-text digest-text-requires returns)
+    (tie.spec (λ c κs. search needs) slice-aggregate-digest-text (λ c κs. search needs) returns)

@@ -6,7 +6,7 @@ use lib.Seq.{length-take-le}
 use Rattle.walk_text.specs.Text.{text}
 use Rattle.walk_text.specs.Rest.{left-text, pages-left}
 use Rattle.walk_text.specs.RestLaws.{pages-more}
-use Rattle.walk_cases.specs.Digest.{digest-from, digest-of}
+use Rattle.case_io.specs.Digest.{digest-from, digest-of}
 use Rattle.walk_cases.specs.TextLaws.{digest-start, digest-page, digest-end}
 use borrow.Author.Needs.{needs}
 use Rattle.walk_cases.proofs.text.digest_text.Statement.{statement}
@@ -19,23 +19,11 @@ Inv-loop program query page₀ digest₀ rest₀ page digest rest =
 abbrev μ-loop : tie.MeasureT-loop
 μ-loop program query page₀ digest₀ rest₀ page digest rest = pages-left rest
 
-no-bytes-requires : tie.Need-no-bytes-requires Inv-loop μ-loop
-no-bytes-requires c κs = search needs
-
-whole-requires : tie.Need-whole-requires Inv-loop μ-loop
-whole-requires c κs = search needs
-
 loop-holds : tie.Need-loop-holds Inv-loop μ-loop
 loop-holds c = (rw (c .whole .ensures) (omega arith), rw (c .before .no-bytes .ensures) (digest-start _ _ _ (c .whole .ensures)))
 
-next-page-requires : tie.Need-next-page-requires Inv-loop μ-loop
-next-page-requires c κs = search needs
-
 add-front-requires : tie.Need-add-front-requires Inv-loop μ-loop
 add-front-requires c κs = c .before .before .next-page .ensures .inside
-
-is-done-requires : tie.Need-is-done-requires Inv-loop μ-loop
-is-done-requires c κs = search needs
 
 returns : tie.Need-returns Inv-loop μ-loop
 returns c = (digest-end _ _ _ _ (sym (c .before .is-done .ensures) ∙ c .if1 .taken) (digest-page _ _ _ _ (c .before .before .before .before .before .before .next-page .ensures) (c .before .before .before .add-front .ensures) (c .before .before .before .before .before .before .before .before .loop .inv .1)), (c .before .before .before .before .before .before .next-page .ensures .inside, sym (length-take-le _ _ (c .before .before .before .before .before .before .next-page .ensures .inside))))
@@ -52,12 +40,12 @@ digest-text-spec =
     (tie.spec
     Inv-loop
     μ-loop
-    no-bytes-requires
-    whole-requires
+    (λ c κs. search needs)
+    (λ c κs. search needs)
     loop-holds
-    next-page-requires
+    (λ c κs. search needs)
     add-front-requires
-    is-done-requires
+    (λ c κs. search needs)
     returns
     loop-less
     loop-again)

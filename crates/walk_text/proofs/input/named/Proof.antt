@@ -3,12 +3,6 @@ use Rattle.walk_text.specs.InputLaws.{named-over, named-within, named-sh
 use Rattle.walk_text.proofs.input.named.Statement.{statement}
 use Rattle.walk_text.proofs.input.named.Tie as tie
 
-word-at-requires : tie.Need-word-at-requires
-word-at-requires c κs = search needs
-
-enum-known-n : tie.Need-enum-known-n
-enum-known-n c = search needs
-
 enum-told : tie.Need-enum-told
 enum-told c = search needs
 
@@ -22,4 +16,4 @@ returns-3 : tie.Need-returns-3
 returns-3 c = named-short _ (c .before .before .word-at .ensures) (c .enum-told .given .1)
 
 pub named-spec : {M : Type 1} → statement M
-named-spec = tie.close (tie.spec word-at-requires enum-known-n enum-told returns returns-2 returns-3)
+named-spec = tie.close (tie.spec (λ c κs. search needs) (λ c. search needs) enum-told returns returns-2 returns-3)

@@ -4,9 +4,6 @@ use Rattle.walk_text.specs.InputLaws.{named-most, taken-length}
 use Rattle.walk_text.proofs.input.taken_length.Statement.{statement}
 use Rattle.walk_text.proofs.input.taken_length.Tie as tie
 
-named-requires : tie.Need-named-requires
-named-requires c κs = search needs
-
 add-end : tie.Need-add-end
 add-end c = omega (arith, c .named .ensures, named-most (c .before .before .args .input .now))
 
@@ -17,4 +14,4 @@ returns-2 : tie.Need-returns-2
 returns-2 c = omega (arith, c .before .named .ensures, taken-length (c .before .before .before .args .input .now))
 
 pub taken-length-spec : {M : Type 1} → statement M
-taken-length-spec = tie.close (tie.spec named-requires add-end returns returns-2)
+taken-length-spec = tie.close (tie.spec (λ c κs. search needs) add-end returns returns-2)

@@ -4,15 +4,6 @@ use borrow.Author.Needs.{needs}
 use Rattle.walk_text.proofs.line.put_count.Statement.{statement}
 use Rattle.walk_text.proofs.line.put_count.Tie as tie
 
-put-byte-requires : tie.Need-put-byte-requires
-put-byte-requires c κs = search needs
-
-put-number-requires : tie.Need-put-number-requires
-put-number-requires c κs = search needs
-
-same-length : tie.Need-same-length
-same-length c = search needs
-
 returns : tie.Need-returns
 returns c =
     let number = c .before .before in
@@ -20,4 +11,4 @@ returns c =
     (put-then (space .put-byte .ensures) (number .put-number .ensures .0), omega arith)
 
 pub put-count-spec : {M : Type 1} → statement M
-put-count-spec = tie.close (tie.spec put-byte-requires put-number-requires same-length returns)
+put-count-spec = tie.close (tie.spec (λ c κs. search needs) (λ c κs. search needs) (λ c. search needs) returns)

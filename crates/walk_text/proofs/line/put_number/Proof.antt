@@ -1,26 +1,13 @@
 use native.Mathlib.Omega.{arith}
-use Rattle.walk_text.specs.DecimalLaws.{few-digits}
-use Rattle.walk_text.specs.LineLaws.{put-decimal}
+use Rattle.walk_text.specs.LineLaws.{few-digits, put-decimal}
 use borrow.Author.Needs.{needs}
 use Rattle.walk_text.proofs.line.put_number.Statement.{statement}
 use Rattle.walk_text.proofs.line.put_number.Tie as tie
-
-decimal-requires : tie.Need-decimal-requires
-decimal-requires c κs = search needs
-
-array-share-prefix-digits : tie.Need-array-share-prefix-digits
-array-share-prefix-digits c = search needs
-
-slice-aggregate-put-part : tie.Need-slice-aggregate-put-part
-slice-aggregate-put-part c = search needs
 
 put-part-requires : tie.Need-put-part-requires
 put-part-requires c κs =
     let number = c .before .before in
     omega (arith, few-digits (number .before .before .before .fits .n .fits) (number .decimal .ensures .1 .0), number .decimal .ensures .0 .1)
-
-same-length : tie.Need-same-length
-same-length c = search needs
 
 returns : tie.Need-returns
 returns c =
@@ -33,9 +20,9 @@ pub put-number-spec : {M : Type 1} → statement M
 put-number-spec =
     tie.close
     (tie.spec
-    decimal-requires
-    array-share-prefix-digits
-    slice-aggregate-put-part
+    (λ c κs. search needs)
+    (λ c. search needs)
+    (λ c. search needs)
     put-part-requires
-    same-length
+    (λ c. search needs)
     returns)

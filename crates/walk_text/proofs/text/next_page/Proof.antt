@@ -6,18 +6,6 @@ use Rattle.walk_text.proofs.text.next_page.Tie as tie
 enum-told : tie.Need-enum-told
 enum-told c = search needs
 
-first-page-requires : tie.Need-first-page-requires
-first-page-requires c κs = search needs
-
-enum-told-2 : tie.Need-enum-told-2
-enum-told-2 c = search needs
-
-later-page-requires : tie.Need-later-page-requires
-later-page-requires c κs = search needs
-
-enum-told-3 : tie.Need-enum-told-3
-enum-told-3 c = search needs
-
 returns : tie.Need-returns
 returns c = paged-start (c .before .before .before .before .before .before .args .rest) (c .before .before .enum-told .given .1) (c .first-page .ensures)
 
@@ -32,10 +20,10 @@ next-page-spec =
     tie.close
     (tie.spec
     enum-told
-    first-page-requires
-    enum-told-2
-    later-page-requires
-    enum-told-3
+    (λ c κs. search needs)
+    (λ c. search needs)
+    (λ c κs. search needs)
+    (λ c. search needs)
     returns
     returns-2
     returns-3)

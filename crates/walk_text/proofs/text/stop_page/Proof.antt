@@ -7,9 +7,6 @@ use Rattle.walk_text.specs.RestLaws.{gives-last}
 use Rattle.walk_text.proofs.text.stop_page.Statement.{statement}
 use Rattle.walk_text.proofs.text.stop_page.Tie as tie
 
-put-stop-requires : tie.Need-put-stop-requires
-put-stop-requires c κs = search needs
-
 returns : tie.Need-returns
 returns c =
     let n : length (c .before .before .args .page .now) ≡ 65536 = search needs in
@@ -17,4 +14,4 @@ returns c =
     λ program query most. gives-last most (put .0) (omega (arith, n, put-length (put .0), put .1))
 
 pub stop-page-spec : {M : Type 1} → statement M
-stop-page-spec = tie.close (tie.spec put-stop-requires returns)
+stop-page-spec = tie.close (tie.spec (λ c κs. search needs) returns)

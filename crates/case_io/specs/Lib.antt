@@ -1,0 +1,4 @@
+pub mod Digest
+pub mod DigestLaws
+pub mod Hex
+pub mod HexLaws

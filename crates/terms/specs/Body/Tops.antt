@@ -1,0 +1,65 @@
+-- The variables of the members of an event's stacks, and what code tells of them: one more than the greatest, and where a member ends.
+use mathlib.Core.Path.{_≡_}
+use mathlib.Core.List.{List, [], _∷_}
+use Prim.Native.Nat.{ℕ, _<_, max}
+use Rattle.records.specs.Format.Syntax.{Ancestor, Binding, Bet}
+use Rattle.records.specs.Format.Syntax.Binding.{bind}
+use Rattle.records.specs.Format.Syntax.Bet.{unifier, or, by}
+use Rattle.records.specs.Format.Encode.{each, ancestor-bytes, bet-bytes}
+use Rattle.records.specs.Format.Formed.{AncestorFormed, BetFormed}
+use Rattle.records.specs.Gate.RecordRules.{term-variables, goal-variables, ancestor-variables}
+use Rattle.records.specs.declared.traverse.Top.{Top}
+use Rattle.records.specs.Ends.Above.{above}
+use Rattle.terms.specs.Standing.Rows.{Item, StandingRow}
+use Rattle.terms.specs.Standing.Frames.{PairsAt}
+use Rattle.terms.specs.declared.variables.Piece.{Piece}
+use Rattle.terms.specs.declared.variables.Stack.{Stack}
+use Rattle.terms.specs.declared.variables.Stack.the-variants.{Ancestors, Bets}
+
+-- the variables of a pair, its own first, and of a bet
+abbrev pub pair-variables : Binding → List ℕ
+pair-variables (bind v t) = v ∷ term-variables t
+
+abbrev pub bet-variables : Bet → List ℕ
+bet-variables (unifier σ) = each pair-variables σ
+bet-variables (or h) = []
+bet-variables (by g) = goal-variables g
+
+-- the members of a stack: ancestors or bets
+abbrev pub Member : Stack → Type 0
+Member Ancestors = Ancestor
+Member Bets = Bet
+
+abbrev pub member-bytes : (k : Stack) → Member k → List ℕ
+member-bytes Ancestors = ancestor-bytes
+member-bytes Bets = bet-bytes
+
+abbrev pub MemberFormed : (k : Stack) → Member k → Type 0
+MemberFormed Ancestors = AncestorFormed
+MemberFormed Bets = BetFormed
+
+abbrev pub member-variables : (k : Stack) → Member k → List ℕ
+member-variables Ancestors = ancestor-variables
+member-variables Bets = bet-variables
+
+abbrev pub members-variables : (k : Stack) → List (Member k) → List ℕ
+members-variables k l = each (member-variables k) l
+
+-- a member, and a stack of n of them, that stand somewhere
+abbrev pub MemberAt : Stack → List ℕ → ℕ → Type 0
+MemberAt k s at = Item (member-bytes k) (MemberFormed k) s at
+
+abbrev pub StackAt : Stack → List ℕ → ℕ → ℕ → Type 0
+StackAt k s at n = StandingRow (member-bytes k) (MemberFormed k) s at n
+
+-- what ends at e has these variables
+pub record TopOf (variables : List ℕ) (e : ℕ) (r : Top) : Type 0 where
+  pub top : r .top ≡ above variables
+  pub end : r .end ≡ e
+
+-- the same, where some of them stand in pairs that are still to come
+pub record PieceOf (s : List ℕ) (variables : List ℕ) (e : ℕ) (r : Piece) : Type 0 where
+  pub few : r .pairs < 65536
+  pub pairs : PairsAt s (r .end) (r .pairs)
+  pub end : pairs .end ≡ e
+  pub top : above variables ≡ max (r .top) (above (each pair-variables (pairs .items)))

@@ -3,21 +3,22 @@
  * Link with libfourport.a, which `rt staticlib fourport` makes for x86-64 Linux; it needs memcpy and memset of the C library and nothing else.
  * What is said here of an answer, of what is written and of what stays untouched is proved for every input; see the contracts in crates/fourport.
  *
- * Records are those of the specification: a length of two bytes, high byte first, of what follows it, the version byte 1, and the body.
+ * docs/SPECIFICATION.md says what records, questions and services are. A record has two bytes that say how many follow, the high one first, the
+ * version byte 1, and the body.
  *
- * Numbers. Each function but fourport_lookup answers 0 if it is done, else the number of the first question whose answer is no:
+ * Numbers. Each function but fourport_lookup answers 0 if it is done, else the number of the first question (SPECIFICATION 7) whose answer is no:
  *
- *    1  the program or clause record: is it 3 to 32,768 bytes, its length field naming the rest?
+ *    1  the program or clause record: has it 3 to 32,768 bytes, and do its first two say how many follow?
  *    2  is its version 1?
- *    3  does the grammar read its body to the last byte, each byte in range?
- *    4  does it keep the order and variable rules?
+ *    3  is its body, from the first byte to the last, of the kind asked for?
+ *    4  does it keep the record rules: order of definitions, variables?
  *   11  the query or event record: as 1
  *   12  as 2
  *   13  as 3
- *   14  does it keep the pair rules of unifiers?
+ *   14  does it keep the record rules: pairs of unifiers?
  *    5  is the output at least FOURPORT_RECORD bytes?
- *    6  is a walk still possible? No: forward from exit or fail with no ancestors; back from call with both stacks empty
- *    7  does a rule match? Also, of a step back: does what it finds step forward to the given event?
+ *    6  can the walk go on? Not forward from exit or fail without ancestors, nor back from call without ancestors and bets
+ *    7  does a rule match? Of a step back also: does the event found lead on to the given one?
  *    8  is each value at most 8,192 bytes?
  *    9  is every new local at most 65,535? In a canonical program: has every definition at most 255 locals?
  *   10  does the result fit FOURPORT_RECORD bytes?

@@ -1,4 +1,4 @@
-//! The desk behind its boundary, and the twin behind the same one: an output lent by the caller, document 01's numbers.
+//! The desk behind its boundary, and the twin behind the same one: an output lent by the caller, the specification's numbers.
 
 use fourport::{raw, Counts};
 use twin::rules::Direction;

@@ -5,7 +5,6 @@
 mod calls;
 mod clock;
 mod desk;
-mod layout;
 mod prolog;
 mod sizes;
 mod walks;

@@ -2,35 +2,46 @@
 
 use crate::clock::nanoseconds;
 use crate::desk::Desk;
-use crate::layout::{atom, by, conj, constant, disj, equal, event, failure, half, or, program, truth, unifier, var, Bytes, ROOM};
 use crate::walks::Walk;
+use layout::{
+    atom, by, conjunction, constant, definition, disjunction, equality, event, half, or, program, unifier, variable, FAIL, IN_CONJUNCTION,
+    IN_DISJUNCTION, RECORD_LIMIT as ROOM, TRUE,
+};
 use std::hint::black_box;
 
 /// The mean length of the search's events where nothing is below them.
 const MEAN_BARE: usize = 83;
 const LENGTHS: [usize; 6] = [100, 300, 1_000, 3_000, 10_000, 30_000];
 
+type Bytes = Vec<u8>;
+
+/// V = a and V = b.
+fn halves(v: u16) -> [Bytes; 2] {
+    [0, 1].map(|symbol| equality(&variable(v), &constant(symbol)))
+}
+
 /// bay(V) :- V = a ; V = b.
 fn bays() -> Bytes {
-    program(&[(1, 1, 0, disj(&equal(&var(0), &constant(0)), &equal(&var(0), &constant(1))))])
+    let [first, second] = halves(0);
+    program(&[definition(1, 1, 0, &disjunction(&first, &second))])
 }
 
 /// bay(V0), (bay(V1), fail).
 fn search() -> Bytes {
-    conj(&atom(1, &[var(0)]), &conj(&atom(1, &[var(1)]), &failure()))
+    conjunction(&atom(1, &[variable(0)]), &conjunction(&atom(1, &[variable(1)]), &FAIL))
 }
 
 /// What a call of bay leaves among the ancestors, as often as it fits.
 fn ancestors(room: usize) -> Vec<Bytes> {
-    let body = disj(&equal(&var(2), &constant(0)), &equal(&var(2), &constant(1)));
-    let call = atom(1, &[var(2)]);
-    filled(&[half(2, &body), call.clone(), half(1, &conj(&call, &truth()))], room)
+    let [first, second] = halves(2);
+    let call = atom(1, &[variable(2)]);
+    filled(&[half(IN_DISJUNCTION, 2, &first, &second), call.clone(), half(IN_CONJUNCTION, 1, &call, &TRUE)], room)
 }
 
 /// What it leaves among the bets.
 fn bets(room: usize) -> Vec<Bytes> {
-    let body = disj(&equal(&var(2), &constant(0)), &equal(&var(2), &constant(1)));
-    filled(&[by(&body), or(1), unifier(&[(2, constant(0))])], room)
+    let [first, second] = halves(2);
+    filled(&[by(&disjunction(&first, &second)), or(1), unifier(&[(2, constant(0))])], room)
 }
 
 fn filled(parts: &[Bytes], room: usize) -> Vec<Bytes> {

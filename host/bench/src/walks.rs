@@ -2,8 +2,8 @@
 
 use crate::clock::nanoseconds;
 use crate::desk::Desk;
-use crate::layout::{record_at, ROOM};
 use crate::prolog::Rates;
+use layout::{record_at, split_record, RECORD_LIMIT as ROOM};
 use std::fs;
 use std::path::Path;
 
@@ -26,9 +26,9 @@ impl Walk {
 
     fn read(desk: &dyn Desk, path: &Path) -> Walk {
         let input = fs::read(path).expect("the records of a page");
-        let program = record_at(&input);
+        let (program, query) = split_record(&input);
         let mut out = vec![0; ROOM];
-        assert_eq!(desk.first(record_at(&input[program.len()..]), &mut out), 0);
+        assert_eq!(desk.first(record_at(query), &mut out), 0);
         Walk::of(desk, program, record_at(&out), u32::MAX)
     }
 

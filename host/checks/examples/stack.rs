@@ -1,8 +1,8 @@
 //! The least native stack with which the deepest cases of each service pass: each is tried in a process of its own, on a thread of a given size, since
 //! one that does not fit ends the process.
 
-use checks::generate::layout::{clause, equality, event, listed, nested, program, record, symbol, unifier, variable, TRUE};
 use fourport::raw;
+use layout::{clause, clauses, equality, event, nested, program, record, symbol, unifier, variable, TRUE};
 use std::process::{Command, ExitCode, Stdio};
 use std::{env, thread};
 
@@ -11,7 +11,7 @@ type Call = fn(&mut [u8]) -> u32;
 
 const CASES: [(&str, Call); 11] = [
     ("nothing", |_| 0),
-    ("canonical", |out| raw::canonical(&record(&listed(&[clause(5, 1, &[nested(8_186, &variable(0))], &TRUE)])), out)),
+    ("canonical", |out| raw::canonical(&clauses(&[clause(5, 1, &[nested(8_186, &variable(0))], &TRUE)]), out)),
     ("first", |out| raw::first(&record(&equality(&variable(0), &nested(8_188, &symbol(2, &[])))), out)),
     ("forward", |out| raw::forward(&program(&[]), &event(1, &doubly_nested(1_630), &[], &[]), out)),
     ("back", |out| raw::back(&program(&[]), &event(2, &doubly_nested(2_045), &[], &[unifier(&[])]), out)),

@@ -1,5 +1,6 @@
-//! Which rule of document 01's list a step took, for the table.
+//! Which rule of SPECIFICATION 3.3 a step took, for the table.
 
+use layout::{byte_at, port, PORT_AT};
 use twin::records::{reader, Ancestor, GoalShape, Half, Port};
 
 /// The rules, with both outcomes of the call of an equality and of an atom.
@@ -36,14 +37,14 @@ pub fn rule(from: &[u8], to: &[u8]) -> Option<usize> {
         Ancestor::Atom(_) => (true, Half::First, false),
         Ancestor::Join(half, goal) => (false, *half, matches!(goal.shape(), GoalShape::Conjunction(..))),
     });
-    let port = to.get(3)?;
+    let failed = byte_at(to, PORT_AT) == port::FAIL;
     Some(match (event.port, event.goal.shape(), under) {
         (Port::Call, GoalShape::Conjunction(..), _) => 0,
         (Port::Call, GoalShape::Disjunction(..), _) => 6,
         (Port::Call, GoalShape::True, _) => 12,
         (Port::Call, GoalShape::Fail, _) => 14,
-        (Port::Call, GoalShape::Equality(..), _) => 15 + usize::from(*port == 3),
-        (Port::Call, GoalShape::Atom(..), _) => 18 + usize::from(*port == 3),
+        (Port::Call, GoalShape::Equality(..), _) => 15 + usize::from(failed),
+        (Port::Call, GoalShape::Atom(..), _) => 18 + usize::from(failed),
         (Port::Redo, GoalShape::Conjunction(..), _) => 5,
         (Port::Redo, GoalShape::Disjunction(..), _) => 11,
         (Port::Redo, GoalShape::True, _) => 13,

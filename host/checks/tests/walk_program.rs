@@ -14,8 +14,8 @@ use std::time::{Duration, Instant};
 /// Far longer than any walk takes.
 const PATIENCE: Duration = Duration::from_secs(20);
 
-/// Document 01's own program, its query, and what they print.
-const PROGRAM: [u8; 5] = [0, 3, 1, 0, 0];
+/// The input of SPECIFICATION 8.10, and what it prints.
+const PROGRAM: [u8; 5] = layout::NO_DEFINITIONS;
 const QUERY: [u8; 11] = [0, 9, 1, 0x12, 1, 0, 0, 2, 0, 2, 0];
 const PRINTED: &str = "0 call 0 0\n1 exit 0 1\nstop 6\n";
 
@@ -54,7 +54,7 @@ fn lines() -> Vec<String> {
 /// The line that is stored for a text: how many bytes and lines it has, its checksum (FNV-1a), and the text or its last line.
 fn line(ordinal: usize, text: &str) -> String {
     let checksum = text.bytes().fold(0x811C_9DC5u32, |sum, byte| (sum ^ u32::from(byte)).wrapping_mul(0x0100_0193));
-    let last = text.split_inclusive('\n').last().unwrap_or_default();
+    let last = text.split_inclusive('\n').next_back().unwrap_or_default();
     let shown = if text.len() <= 80 { text.to_string() } else { format!(".. {last}") };
     format!("{ordinal} {} {} {checksum:08x} {}", text.len(), text.matches('\n').count(), shown.replace('\n', "/"))
 }

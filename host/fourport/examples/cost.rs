@@ -1,6 +1,7 @@
 //! What a call costs: the boundary alone, the smallest calls of each service, and a garage walked forward and back by single steps and by runs.
 
 use fourport::{raw, Counts, Direction, Event, Program, Query, RECORD_LIMIT};
+use layout::{record, split_record, CALL_TRUE, NO_DEFINITIONS, TRUE};
 use std::hint::black_box;
 use std::time::Instant;
 
@@ -11,7 +12,7 @@ fn timed(name: &str, calls: u32, mut call: impl FnMut()) {
 }
 
 fn calls() {
-    let (program, call, query) = ([0, 3, 1, 0, 0], [0, 7, 1, 1, 0x10, 0, 0, 0, 0], [0, 2, 1, 0x10]);
+    let (program, call, query) = (NO_DEFINITIONS, CALL_TRUE, record(&TRUE));
     let mut out = vec![0; RECORD_LIMIT];
     let mut counts = Counts::default();
     timed("count of no bytes (refused at once)", 20_000_000, || _ = black_box(raw::count(&mut counts, black_box(&[]))));
@@ -27,7 +28,7 @@ fn calls() {
 
 fn walks() -> Result<(), fourport::Refusal> {
     let input = include_bytes!("../../../examples/three-bays.in");
-    let (program, query) = input.split_at(2 + usize::from(u16::from_be_bytes([input[0], input[1]])));
+    let (program, query) = split_record(input);
     let program = Program::from_bytes(program)?;
     let start = Event::first(&Query::from_bytes(query)?)?;
     println!("three bays, 119 steps forward and 119 back:");

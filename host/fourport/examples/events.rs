@@ -5,6 +5,7 @@
 //! that ended the walk, or `cut`. Records, goals and values are in hexadecimal; all of them are the desk's own answers.
 
 use fourport::{raw, RECORD_LIMIT, STACK};
+use layout::{number_at, record_at, split_record, ATOM, CONJUNCTION, DISJUNCTION, EQUALITY, EVENT_GOAL_AT, PORT_AT, SYMBOL, VARIABLE};
 use std::collections::BTreeSet;
 use std::io::{self, BufWriter, Read, Write};
 
@@ -18,8 +19,8 @@ fn walks(most: usize) -> io::Result<()> {
     io::stdin().lock().read_to_end(&mut input)?;
     let mut rest = &input[..];
     while !rest.is_empty() {
-        let (clauses, behind) = rest.split_at(length(rest));
-        let (query, behind) = behind.split_at(length(behind));
+        let (clauses, behind) = split_record(rest);
+        let (query, behind) = split_record(behind);
         match walk(clauses, query, most, &mut out)? {
             0 => writeln!(out, "cut")?,
             number => writeln!(out, "stop {number}")?,
@@ -36,14 +37,14 @@ fn walk(clauses: &[u8], query: &[u8], most: usize, out: &mut impl Write) -> io::
     if number != 0 {
         return Ok(number);
     }
-    let program = &program[..length(&program)];
+    let program = record_at(&program);
     writeln!(out, "program {}", hex(program))?;
     let mut number = raw::first(query, &mut event);
     for _ in 0..most {
-        if number != 0 || !printed(&event[..length(&event)], out)? {
+        if number != 0 || !printed(record_at(&event), out)? {
             return Ok(number);
         }
-        number = raw::forward(program, &event[..length(&event)], &mut next);
+        number = raw::forward(program, record_at(&event), &mut next);
         if number == 0 {
             std::mem::swap(&mut event, &mut next);
         }
@@ -61,13 +62,13 @@ fn printed(event: &[u8], out: &mut impl Write) -> io::Result<bool> {
         }
         line += &format!(" {v} {}", hex(&value[..written as usize]));
     }
-    writeln!(out, "{} {} {}{line}", event[3], word(event, end), hex(&event[4..end]))?;
+    writeln!(out, "{} {} {}{line}", event[PORT_AT], number_at(event, end), hex(&event[EVENT_GOAL_AT..end]))?;
     Ok(true)
 }
 
 /// Where an accepted event's goal ends, and its variables in the order of their numbers.
 fn goal(event: &[u8]) -> (usize, BTreeSet<u16>) {
-    let (mut at, mut terms, mut goals, mut variables) = (4, 0, 1, BTreeSet::new());
+    let (mut at, mut terms, mut goals, mut variables) = (EVENT_GOAL_AT, 0, 1, BTreeSet::new());
     while terms + goals > 0 {
         let kind = event[at];
         if terms > 0 {
@@ -76,28 +77,19 @@ fn goal(event: &[u8]) -> (usize, BTreeSet<u16>) {
             goals -= 1;
         }
         at += match kind {
-            0x01 => 3,
-            0x02 | 0x15 => 4,
+            VARIABLE => 3,
+            SYMBOL | ATOM => 4,
             _ => 1,
         };
         match kind {
-            0x01 => _ = variables.insert(word(event, at - 2)),
-            0x02 | 0x15 => terms += usize::from(event[at - 1]),
-            0x12 => terms += 2,
-            0x13 | 0x14 => goals += 2,
+            VARIABLE => _ = variables.insert(number_at(event, at - 2)),
+            SYMBOL | ATOM => terms += usize::from(event[at - 1]),
+            EQUALITY => terms += 2,
+            CONJUNCTION | DISJUNCTION => goals += 2,
             _ => (),
         }
     }
     (at, variables)
-}
-
-fn word(bytes: &[u8], at: usize) -> u16 {
-    u16::from_be_bytes([bytes[at], bytes[at + 1]])
-}
-
-/// The length of the record at the start.
-fn length(bytes: &[u8]) -> usize {
-    2 + usize::from(word(bytes, 0))
 }
 
 fn hex(bytes: &[u8]) -> String {

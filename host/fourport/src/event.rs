@@ -1,10 +1,8 @@
 //! Event records, and what one asks of a single event.
 
-use crate::output;
+use crate::record::{record_type, written};
 use crate::{raw, Query, Refusal, RECORD_LIMIT};
-
-/// A program of no definitions, to put an event's questions.
-const NO_DEFINITIONS: [u8; 5] = [0, 3, 1, 0, 0];
+use layout::{byte_at, port, NO_DEFINITIONS, PORT_AT};
 
 /// The four ports.
 #[derive(Clone, Copy, Debug, PartialEq, Eq, Hash)]
@@ -19,35 +17,31 @@ pub enum Port {
     Redo,
 }
 
-/// An event record that passed questions 11 to 14. Whether a walk reaches it is not asked. Equal events have equal bytes, so `==` is document 01's
-/// equality: the same port, goal, ancestors and bets.
-///
-/// ```
-/// use fourport::{Event, Port};
-/// let event = Event::from_bytes([0, 7, 1, 4, 0x10, 0, 0, 0, 0])?;
-/// assert_eq!(event.port(), Port::Redo);
-/// # Ok::<(), fourport::Refusal>(())
-/// ```
-#[derive(Clone, Debug, PartialEq, Eq, Hash)]
-pub struct Event(Vec<u8>);
-
-/// The bytes of a term, without length or version.
-#[derive(Clone, Debug, PartialEq, Eq, Hash)]
-pub struct Term(Vec<u8>);
-
-impl Event {
+record_type! {
+    /// An event record that passed questions 11 to 14. Whether a walk reaches it is not asked. Equal events have equal bytes, so `==` is equality as
+    /// SPECIFICATION 9.3 has it: the same port, goal, ancestors and bets.
+    ///
+    /// ```
+    /// use fourport::{Event, Port};
+    /// let event = Event::from_bytes([0, 7, 1, 4, 0x10, 0, 0, 0, 0])?;
+    /// assert_eq!(event.port(), Port::Redo);
+    /// # Ok::<(), fourport::Refusal>(())
+    /// ```
+    Event,
     /// The record, if it passes the questions. They are put by a run of no steps.
     ///
     /// ```
     /// use fourport::{Event, Refusal, Which};
     /// assert_eq!(Event::from_bytes([0, 7, 1, 5, 0x10, 0, 0, 0, 0]), Err(Refusal::Grammar(Which::Event)));
     /// ```
-    pub fn from_bytes(bytes: impl Into<Vec<u8>>) -> Result<Event, Refusal> {
-        let bytes = bytes.into();
-        Refusal::unless_done(raw::run(&NO_DEFINITIONS, &bytes, 0, 0, &mut vec![0; RECORD_LIMIT], &mut 0))?;
-        Ok(Event(bytes))
-    }
+    puts: |event, out| raw::run(&NO_DEFINITIONS, event, 0, 0, out, &mut 0)
+}
 
+/// The bytes of a term, without length or version.
+#[derive(Clone, Debug, PartialEq, Eq, Hash)]
+pub struct Term(Vec<u8>);
+
+impl Event {
     /// The first event of a query; refused by [`Refusal::Fit`] only.
     ///
     /// ```
@@ -57,12 +51,7 @@ impl Event {
     /// # Ok::<(), fourport::Refusal>(())
     /// ```
     pub fn first(query: &Query) -> Result<Event, Refusal> {
-        output::record(|out| raw::first(query.as_bytes(), out)).map(Event)
-    }
-
-    /// The whole record.
-    pub fn as_bytes(&self) -> &[u8] {
-        &self.0
+        written(|out| raw::first(query.as_bytes(), out)).map(Event)
     }
 
     /// The event's port: its byte is 1 to 4, since the event passed the questions.
@@ -74,10 +63,10 @@ impl Event {
     /// # Ok::<(), fourport::Refusal>(())
     /// ```
     pub fn port(&self) -> Port {
-        match self.0.get(3) {
-            Some(1) => Port::Call,
-            Some(2) => Port::Exit,
-            Some(3) => Port::Fail,
+        match byte_at(&self.0, PORT_AT) {
+            port::CALL => Port::Call,
+            port::EXIT => Port::Exit,
+            port::FAIL => Port::Fail,
             _ => Port::Redo,
         }
     }
@@ -93,9 +82,9 @@ impl Event {
     /// # Ok::<(), fourport::Refusal>(())
     /// ```
     pub fn value(&self, v: u16) -> Result<Term, Refusal> {
-        let (mut out, mut written) = (vec![0; RECORD_LIMIT], 0);
-        Refusal::unless_done(raw::value(&self.0, v, &mut out, &mut written))?;
-        out.truncate(written as usize);
+        let (mut out, mut length) = (vec![0; RECORD_LIMIT], 0);
+        Refusal::unless_done(raw::value(&self.0, v, &mut out, &mut length))?;
+        out.truncate(length as usize);
         out.shrink_to_fit();
         Ok(Term(out))
     }
@@ -108,7 +97,7 @@ impl Event {
     /// The record becomes the one that the desk wrote at the start of `out`.
     pub(crate) fn replace(&mut self, out: &[u8]) {
         self.0.clear();
-        self.0.extend_from_slice(out.get(..output::record_length(out)).unwrap_or(out));
+        self.0.extend_from_slice(layout::record_at(out));
     }
 }
 
@@ -122,12 +111,6 @@ impl Term {
     /// # Ok::<(), fourport::Refusal>(())
     /// ```
     pub fn as_bytes(&self) -> &[u8] {
-        &self.0
-    }
-}
-
-impl AsRef<[u8]> for Event {
-    fn as_ref(&self) -> &[u8] {
         &self.0
     }
 }

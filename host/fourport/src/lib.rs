@@ -1,12 +1,12 @@
 //! The rule desk for Rust: safe calls into its proved archive (`rt staticlib fourport`).
 //!
 //! The desk walks a query through pure Prolog clauses, one port event after another (call, exit, fail, redo), forward and back. Every answer is the
-//! proved code's; this crate lends it memory and gives its numbers names. Document 01 says what the records are.
+//! proved code's; this crate lends it memory and gives its numbers names. `docs/SPECIFICATION.md` says what the records are.
 //!
 //! - [`Clauses`], [`Program`], [`Query`] and [`Event`] hold the bytes of a record that passed the gate's questions 1 to 4, so a program cannot be
 //!   lent as an event and what is lent later is never refused as a record.
 //! - [`Walk`] stands at an event and steps forward and back from there.
-//! - [`Refusal`] is a no to one of the questions; its [`number`](Refusal::number) is document 01's.
+//! - [`Refusal`] is a no to one of the questions; its [`number`](Refusal::number) is the specification's.
 //! - [`raw`] is the same over byte slices with an output lent by the caller: any bytes, any length, no allocation.
 //!
 //! ```
@@ -42,10 +42,10 @@
 mod clauses;
 mod counts;
 mod event;
-mod output;
 mod program;
 mod query;
 pub mod raw;
+mod record;
 mod refusal;
 #[allow(unsafe_code)]
 mod sys;
@@ -60,7 +60,7 @@ pub use refusal::{Refusal, Which};
 pub use walk::{Backs, Forwards, Walk};
 
 /// The longest record, and the least output that question 5 lets pass.
-pub const RECORD_LIMIT: usize = 32_768;
+pub const RECORD_LIMIT: usize = layout::RECORD_LIMIT;
 
 /// Native stack, in bytes, that is enough for any call.
 ///

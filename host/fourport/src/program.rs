@@ -1,25 +1,31 @@
 //! Program records, and the steps under one.
 
-use crate::output;
-use crate::{raw, Clauses, Event, Refusal, Walk, RECORD_LIMIT};
+use crate::record::{record_type, written};
+use crate::{raw, Clauses, Event, Refusal, Walk};
+use layout::{byte_at, number_at, ARITY_AT, CALL_TRUE, DEFINITION_GOAL_AT, LOCALS_AT, PREDICATE_AT};
 use std::ops::Range;
 
-/// The event call true with empty stacks, to put a program's questions.
-const CALL_TRUE: [u8; 9] = [0, 7, 1, 1, 0x10, 0, 0, 0, 0];
-
-/// A program record that passed questions 1 to 4. It stays the same throughout a walk.
-///
-/// ```
-/// use fourport::{Event, Program, Query, Refusal};
-/// let program = Program::from_bytes([0, 3, 1, 0, 0])?;
-/// let call = Event::first(&Query::from_bytes([0, 2, 1, 0x10])?)?;
-/// let exit = program.forward(&call)?;
-/// assert_eq!(program.back(&exit)?, call);
-/// assert_eq!(program.forward(&exit), Err(Refusal::Walk));
-/// # Ok::<(), Refusal>(())
-/// ```
-#[derive(Clone, Debug, PartialEq, Eq, Hash)]
-pub struct Program(Vec<u8>);
+record_type! {
+    /// A program record that passed questions 1 to 4. It stays the same throughout a walk.
+    ///
+    /// ```
+    /// use fourport::{Event, Program, Query, Refusal};
+    /// let program = Program::from_bytes([0, 3, 1, 0, 0])?;
+    /// let call = Event::first(&Query::from_bytes([0, 2, 1, 0x10])?)?;
+    /// let exit = program.forward(&call)?;
+    /// assert_eq!(program.back(&exit)?, call);
+    /// assert_eq!(program.forward(&exit), Err(Refusal::Walk));
+    /// # Ok::<(), Refusal>(())
+    /// ```
+    Program,
+    /// The record, if it passes the questions. They are put by a run of no steps.
+    ///
+    /// ```
+    /// use fourport::{Program, Refusal, Which};
+    /// assert_eq!(Program::from_bytes([0, 3, 1, 0]), Err(Refusal::Frame(Which::Program)));
+    /// ```
+    puts: |program, out| raw::run(program, &CALL_TRUE, 0, 0, out, &mut 0)
+}
 
 /// Which way a run goes.
 #[derive(Clone, Copy, Debug, PartialEq, Eq, Hash)]
@@ -49,18 +55,6 @@ pub struct Definition<'p> {
 }
 
 impl Program {
-    /// The record, if it passes the questions. They are put by a run of no steps.
-    ///
-    /// ```
-    /// use fourport::{Program, Refusal, Which};
-    /// assert_eq!(Program::from_bytes([0, 3, 1, 0]), Err(Refusal::Frame(Which::Program)));
-    /// ```
-    pub fn from_bytes(bytes: impl Into<Vec<u8>>) -> Result<Program, Refusal> {
-        let bytes = bytes.into();
-        Refusal::unless_done(raw::run(&bytes, &CALL_TRUE, 0, 0, &mut vec![0; RECORD_LIMIT], &mut 0))?;
-        Ok(Program(bytes))
-    }
-
     /// The canonical program of the clauses; refused by [`Refusal::Locals`] or [`Refusal::Fit`] only.
     ///
     /// ```
@@ -70,12 +64,7 @@ impl Program {
     /// # Ok::<(), fourport::Refusal>(())
     /// ```
     pub fn canonical(clauses: &Clauses) -> Result<Program, Refusal> {
-        output::record(|out| raw::canonical(clauses.as_bytes(), out)).map(Program)
-    }
-
-    /// The whole record.
-    pub fn as_bytes(&self) -> &[u8] {
-        &self.0
+        written(|out| raw::canonical(clauses.as_bytes(), out)).map(Program)
     }
 
     /// One step forward; refused by questions 6 to 10 only.
@@ -89,7 +78,7 @@ impl Program {
     /// # Ok::<(), fourport::Refusal>(())
     /// ```
     pub fn forward(&self, event: &Event) -> Result<Event, Refusal> {
-        output::record(|out| raw::forward(&self.0, event.as_bytes(), out)).map(Event::written)
+        written(|out| raw::forward(&self.0, event.as_bytes(), out)).map(Event::written)
     }
 
     /// One step back; refused by questions 6 to 10 only.
@@ -103,7 +92,7 @@ impl Program {
     /// # Ok::<(), Refusal>(())
     /// ```
     pub fn back(&self, event: &Event) -> Result<Event, Refusal> {
-        output::record(|out| raw::back(&self.0, event.as_bytes(), out)).map(Event::written)
+        written(|out| raw::back(&self.0, event.as_bytes(), out)).map(Event::written)
     }
 
     /// That many single steps, or as many as are accepted. That a run is stopped is no error; one occurs only where a record is refused, which a
@@ -123,7 +112,7 @@ impl Program {
     pub fn run(&self, event: &Event, steps: u32, direction: Direction) -> Result<Run, Refusal> {
         let (mut taken, mut stopped) = (0, None);
         let back = u8::from(direction == Direction::Back);
-        let record = output::record(|out| {
+        let record = written(|out| {
             let number = raw::run(&self.0, event.as_bytes(), steps, back, out, &mut taken);
             // 6 to 10 stop a run, and the event reached is written; any other number but 0 refuses it
             match number {
@@ -183,32 +172,21 @@ impl<'p> Definition<'p> {
 
     /// The predicate's number.
     pub fn predicate(self) -> u16 {
-        u16::from_be_bytes([self.byte(0), self.byte(1)])
+        number_at(self.bytes, PREDICATE_AT)
     }
 
     /// The number of the head's variables.
     pub fn arity(self) -> u8 {
-        self.byte(2)
+        byte_at(self.bytes, ARITY_AT)
     }
 
     /// The number of locals.
     pub fn locals(self) -> u8 {
-        self.byte(3)
+        byte_at(self.bytes, LOCALS_AT)
     }
 
     /// The bytes of the goal.
     pub fn goal(self) -> &'p [u8] {
-        self.bytes.get(4..).unwrap_or_default()
-    }
-
-    /// A byte of the head, which every definition has.
-    fn byte(self, at: usize) -> u8 {
-        self.bytes.get(at).copied().unwrap_or_default()
-    }
-}
-
-impl AsRef<[u8]> for Program {
-    fn as_ref(&self) -> &[u8] {
-        &self.0
+        self.bytes.get(DEFINITION_GOAL_AT..).unwrap_or_default()
     }
 }

@@ -1,6 +1,6 @@
 //! The desk's services over byte slices, with an output lent by the caller: any bytes, any length. Nothing is allocated.
 //!
-//! The result is document 01's number, 0 for done; a refusal leaves the output untouched, and bytes after a written record stay as they were. A
+//! The result is the number of SPECIFICATION 7, 0 for done; a refusal leaves the output untouched, and bytes after a written record stay as they were. A
 //! written record's length is its first two bytes, big-endian, and 2.
 
 use crate::{sys, Counts};

@@ -1,4 +1,4 @@
-//! Document 01's questions: a refusal names the one that was answered no.
+//! The gate's questions (SPECIFICATION 7): a refusal names the one that was answered no.
 
 use std::fmt;
 
@@ -11,7 +11,7 @@ pub enum Which {
     Event,
 }
 
-/// A no to one of document 01's questions. `Display` puts the question in words.
+/// A no to one of the gate's questions. `Display` puts the question in words.
 ///
 /// ```
 /// use fourport::{Program, Refusal, Which};
@@ -42,7 +42,7 @@ pub enum Refusal {
     Locals,
     /// 10: does the result fit 32,768 bytes?
     Fit,
-    /// A number that document 01 does not have. The desk gives none; this is here so that nothing has to panic.
+    /// A number that the specification does not have. The desk gives none; this is here so that nothing has to panic.
     Unknown(u32),
 }
 
@@ -78,7 +78,7 @@ impl Refusal {
         })
     }
 
-    /// Document 01's number.
+    /// The question's number.
     ///
     /// ```
     /// # use fourport::{Refusal, Which};
@@ -116,7 +116,7 @@ impl Refusal {
         }
     }
 
-    /// The question, in document 01's words.
+    /// The question, in words.
     ///
     /// ```
     /// # use fourport::Refusal;
@@ -134,7 +134,7 @@ impl Refusal {
             Refusal::Value => "is each of S(T1), S(T2), or the value wanted, at most 8,192 bytes?",
             Refusal::Locals => "is every new local at most 65,535 (canonical form: locals at most 255)?",
             Refusal::Fit => "does the result fit 32,768 bytes?",
-            Refusal::Unknown(_) => "a question that document 01 does not have",
+            Refusal::Unknown(_) => "a question that the specification does not have",
         }
     }
 

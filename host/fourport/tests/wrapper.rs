@@ -1,23 +1,20 @@
 //! The typed layer: it says what the raw layer says, it holds only records that passed, and it never panics.
 
 use fourport::{raw, Clauses, Counts, Direction, Event, Port, Program, Query, Refusal, Walk, Which, RECORD_LIMIT, STACK};
+use layout::{clause, clauses, equality, nested, record, split_record, symbol, variable, CALL_TRUE, CONJUNCTION, NO_DEFINITIONS, TRUE, TRUTH};
 use std::thread;
 
 const THREE_BAYS: &[u8] = include_bytes!("../../../examples/three-bays.in");
 
 fn three_bays() -> (Program, Event) {
-    let (program, query) = THREE_BAYS.split_at(2 + usize::from(u16::from_be_bytes([THREE_BAYS[0], THREE_BAYS[1]])));
+    let (program, query) = split_record(THREE_BAYS);
     let query = Query::from_bytes(query).expect("a query");
     (Program::from_bytes(program).expect("a program"), Event::first(&query).expect("a first event"))
 }
 
-fn record(body: &[u8]) -> Vec<u8> {
-    [&((body.len() + 1) as u16).to_be_bytes()[..], &[1], body].concat()
-}
-
-/// V0 = f(f(..f(V1)..)), that many times.
-fn nested(times: usize) -> Vec<u8> {
-    [&[0x12, 1, 0, 0][..], &[2, 0, 6, 1].repeat(times), &[1, 0, 1]].concat()
+/// The query V0 = f(f(..f(V1)..)), that many times.
+fn deep_query(times: usize) -> Query {
+    Query::from_bytes(record(&equality(&variable(0), &nested(times, &variable(1))))).expect("a query")
 }
 
 /// The garage of examples/three-bays.txt: the sheet stands at event 119, and a planner steps back across the failed clause.
@@ -62,7 +59,7 @@ fn a_definition_is_a_part_of_the_program() {
     assert_eq!(definition.predicate(), 2);
     assert_eq!(program.as_bytes()[definition.place()].as_ptr(), definition.as_bytes().as_ptr());
     assert_eq!(definition.as_bytes().len(), 4 + definition.goal().len());
-    let none = Program::from_bytes([0, 3, 1, 0, 0]).expect("no definitions");
+    let none = Program::from_bytes(NO_DEFINITIONS).expect("no definitions");
     assert_eq!(none.definition(&start), None);
     let called = program.forward(&start).expect("the body");
     assert_eq!(program.definition(&called), None);
@@ -78,8 +75,8 @@ fn only_records_that_pass() {
                 let put = |number| Refusal::from_number(number).filter(|refusal| refusal.record().is_some());
                 assert_eq!(Clauses::from_bytes(&framed[..]).err(), put(raw::canonical(&framed, &mut out)));
                 assert_eq!(Query::from_bytes(&framed[..]).err(), put(raw::first(&framed, &mut out)));
-                assert_eq!(Event::from_bytes(&framed[..]).err(), put(raw::forward(&[0, 3, 1, 0, 0], &framed, &mut out)));
-                assert_eq!(Program::from_bytes(&framed[..]).err(), put(raw::forward(&framed, &[0, 7, 1, 1, 0x10, 0, 0, 0, 0], &mut out)));
+                assert_eq!(Event::from_bytes(&framed[..]).err(), put(raw::forward(&NO_DEFINITIONS, &framed, &mut out)));
+                assert_eq!(Program::from_bytes(&framed[..]).err(), put(raw::forward(&framed, &CALL_TRUE, &mut out)));
             }
         }
     }
@@ -87,12 +84,11 @@ fn only_records_that_pass() {
 
 #[test]
 fn what_passes_as_a_record_may_still_not_fit() {
-    let query = Query::from_bytes(record(&[&[0x13, 0x10].repeat(16_381)[..], &[0x10]].concat())).expect("a query of 32,766 bytes");
+    let query = Query::from_bytes(record(&[&[CONJUNCTION, TRUTH].repeat(16_381)[..], &TRUE].concat())).expect("a query of 32,766 bytes");
     assert_eq!(Event::first(&query), Err(Refusal::Fit));
-    let fact =
-        [&[0, 5, 16, 64][..], &(0..16).flat_map(|i| [2, 0, 1, 4, 1, 0, i, 1, 0, i + 16, 1, 0, i + 32, 1, 0, i + 48]).collect::<Vec<u8>>(), &[0x10]]
-            .concat();
-    let clauses = Clauses::from_bytes(record(&[&[0, 4][..], &fact.repeat(4)].concat())).expect("four facts of 64 variables");
+    let head: Vec<Vec<u8>> = (0..16).map(|i| symbol(1, &[i, i + 16, i + 32, i + 48].map(variable))).collect();
+    let facts = vec![clause(5, 64, &head, &TRUE); 4];
+    let clauses = Clauses::from_bytes(clauses(&facts)).expect("four facts of 64 variables");
     assert_eq!(clauses.canonical(), Err(Refusal::Locals));
 }
 
@@ -113,10 +109,10 @@ fn numbers_and_words() {
 #[test]
 fn deep_terms() {
     let deep = || {
-        let program = Program::from_bytes([0, 3, 1, 0, 0]).expect("no definitions");
-        let start = Event::first(&Query::from_bytes(record(&nested(8_188))).expect("a query")).expect("a first event");
+        let program = Program::from_bytes(NO_DEFINITIONS).expect("no definitions");
+        let start = Event::first(&deep_query(8_188)).expect("a first event");
         assert_eq!(program.forward(&start), Err(Refusal::Value));
-        let start = Event::first(&Query::from_bytes(record(&nested(2_047))).expect("a query")).expect("a first event");
+        let start = Event::first(&deep_query(2_047)).expect("a first event");
         let next = program.forward(&start).expect("the exit");
         assert_eq!(next.value(0).expect("a value").as_bytes(), &start.as_bytes()[8..8 + 8_191]);
         assert_eq!(program.back(&next), Ok(start));

@@ -1,6 +1,7 @@
 //! Steps per second of the run service: a search through 20 two-valued bays, 5,000,000 steps forward and the same back; and the little garage of
 //! examples/three-bays.in, 119 steps forward and back, read and written anew each time.
 
+use layout::{atom, conjunction, constant, definition, disjunction, equality, program, record, variable, FAIL};
 use std::time::Instant;
 use twin::gate::RECORD_LIMIT as ROOM;
 use twin::rules::Direction::{Back, Forward};
@@ -15,7 +16,7 @@ fn main() {
 
 fn short_runs() {
     let input = include_bytes!("../../../examples/three-bays.in");
-    let (program, query) = input.split_at(2 + usize::from(input[0]) * 256 + usize::from(input[1]));
+    let (program, query) = layout::split_record(input);
     let event = first(query, ROOM).bytes;
     let (start, mut steps) = (Instant::now(), 0);
     for _ in 0..10_000 {
@@ -29,10 +30,9 @@ fn short_runs() {
 
 fn long_run() {
     // bay(V) :- V = a; V = b.   ?- bay(V0), (bay(V1), .. (bay(V19), fail)).
-    let program = [0, 24, 1, 0, 1, 0, 5, 1, 0, 0x14, 0x12, 1, 0, 0, 2, 0, 2, 0, 0x12, 1, 0, 0, 2, 0, 3, 0];
-    let mut query: Vec<u8> = (0..20).flat_map(|i| [0x13, 0x15, 0, 5, 1, 1, 0, i]).collect();
-    query.push(0x11);
-    let query = [&[0, query.len() as u8 + 1, 1], &query[..]].concat();
+    let [a, b] = [2, 3].map(|symbol| equality(&variable(0), &constant(symbol)));
+    let program = program(&[definition(5, 1, 0, &disjunction(&a, &b))]);
+    let query = record(&(0..20).rev().fold(FAIL.to_vec(), |rest, i| conjunction(&atom(5, &[variable(i)]), &rest)));
     let mut event = first(&query, ROOM).bytes;
     for (word, direction) in [("forward", Forward), ("back", Back)] {
         let start = Instant::now();

@@ -1,4 +1,4 @@
-//! Clauses to canonical program (document 000, definition 2.1); questions 9 and 10.
+//! Clauses to canonical program (SPECIFICATION 2); questions 9 and 10.
 
 use crate::gate::{Question, Refusal, LOCALS_LIMIT, RECORD_LIMIT};
 use crate::records::{writer, Clause, Definition, Goal, GoalRef, GoalShape, Program, Term, TermRef};

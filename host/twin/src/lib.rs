@@ -1,4 +1,4 @@
-//! The rule desk of document 01 once more, in plain Rust: an oracle for the proved desk, and the speed to beat.
+//! The rule desk of docs/SPECIFICATION.md once more, in plain Rust: an oracle for the proved desk, and the speed to beat.
 //!
 //! Bytes are read into trees and written from trees at the boundary alone (`records`); everything between works on trees. Trees share their parts
 //! through `Rc`, each knows the length of its bytes and the greatest variable in it, and every walk over a tree has a stack of its own, its end too:

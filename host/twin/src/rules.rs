@@ -1,4 +1,4 @@
-//! The rules, one arm for each line of document 01, read from left to right and from right to left; questions 6 to 10.
+//! The rules, one arm for each line of SPECIFICATION 3.3, read from left to right and from right to left; questions 6 to 10.
 //!
 //! A rule is read as a change of the event that is there: what port and goal come, and what happens at the top of each stack.
 

@@ -1,4 +1,4 @@
-//! The last question 7 as document 01 words it: what a step back gives steps forward to the event, and where the two rules that compare
+//! The last question 7 (SPECIFICATION 7.7): what a step back gives steps forward to the event, and where the two rules that compare
 //! refuse, what they would have given does not.
 
 use std::fs;

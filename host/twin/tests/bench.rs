@@ -1,13 +1,10 @@
-//! The bench sheet of document 01, line by line.
+//! The bench sheet (SPECIFICATION 11), line by line.
 
-mod layout;
 use layout::*;
 use twin::gate::RECORD_LIMIT as ROOM;
 use twin::rules::Direction::Forward;
 use twin::services::{back, canonical, first, forward, run, Reply};
 use twin::walk::walk;
-
-const TRUE: [u8; 1] = [0x10];
 
 fn hexa(digits: &str) -> Vec<u8> {
     digits.split_whitespace().map(|byte| u8::from_str_radix(byte, 16).expect("hexadecimal")).collect()
@@ -27,15 +24,15 @@ fn none() -> Vec<u8> {
 
 /// The step forward from the call of an equality with empty stacks.
 fn equated(left: &[u8], right: &[u8]) -> Reply {
-    forward(&none(), &event(1, &eq(left, right), &[], &[]), ROOM)
+    forward(&none(), &event(1, &equality(left, right), &[], &[]), ROOM)
 }
 
 fn a() -> Vec<u8> {
-    sym(2, &[])
+    symbol(2, &[])
 }
 
 fn b() -> Vec<u8> {
-    sym(3, &[])
+    symbol(3, &[])
 }
 
 #[test]
@@ -60,37 +57,34 @@ fn walk_prints() {
 
 #[test]
 fn a_walk_of_nineteen_steps() {
-    let halves = (eq(&var(0), &a()), eq(&var(0), &b()));
-    let body = disj(&halves.0, &halves.1);
-    let (p, last) = (atom(5, &[var(0)]), eq(&var(0), &b()));
-    let query = conj(&p, &last);
+    let halves = (equality(&variable(0), &a()), equality(&variable(0), &b()));
+    let body = disjunction(&halves.0, &halves.1);
+    let (p, last) = (atom(5, &[variable(0)]), equality(&variable(0), &b()));
+    let query = conjunction(&p, &last);
     let program = program(&[definition(5, 1, 0, &body)]);
     let start = first(&record(&query), ROOM).bytes;
     let at = |steps| {
         let run = run(&program, &start, steps, Forward, ROOM);
         (run.number, run.steps, run.bytes)
     };
-    let under = |kind: u8, tag: u8, join: &[u8]| [&[kind, tag], &join[1..]].concat();
-    let by = [&[0x22], &body[..]].concat();
-    let or = |tag| vec![0x21, tag];
-    let bound_to_a = unifier(&[(0, a())]);
-    let eighth = event(3, &last, &[under(0x30, 2, &query)], &[by.clone(), or(1), bound_to_a]);
+    let in_query = |tag| half(IN_CONJUNCTION, tag, &p, &last);
+    let eighth = event(3, &last, &[in_query(2)], &[by(&body), or(1), unifier(&[(0, a())])]);
     assert_eq!(at(8), (0, 8, eighth));
-    let twelfth = event(3, &halves.0, &[under(0x31, 1, &body), p.clone(), under(0x30, 1, &query)], &[]);
+    let twelfth = event(3, &halves.0, &[half(IN_DISJUNCTION, 1, &halves.0, &halves.1), p.clone(), in_query(1)], &[]);
     assert_eq!(at(12), (0, 12, twelfth));
-    let nineteenth = event(2, &query, &[], &[unifier(&[]), by, or(2), unifier(&[(0, b())])]);
+    let nineteenth = event(2, &query, &[], &[unifier(&[]), by(&body), or(2), unifier(&[(0, b())])]);
     assert_eq!(at(19), (0, 19, nineteenth.clone()));
     assert_eq!(at(20), (6, 19, nineteenth));
 }
 
 #[test]
 fn unifiers() {
-    let looped = (var(0), sym(6, &[var(0)]));
-    assert_eq!(equated(&looped.0, &looped.1), gives(event(3, &eq(&looped.0, &looped.1), &[], &[])));
-    let two = eq(&var(3), &var(7));
-    assert_eq!(equated(&var(3), &var(7)), gives(event(2, &two, &[], &[unifier(&[(7, var(3))])])));
-    let (left, right) = (sym(6, &[var(0), var(0)]), sym(6, &[var(1), a()]));
-    assert_eq!(equated(&left, &right), gives(event(2, &eq(&left, &right), &[], &[unifier(&[(0, a()), (1, a())])])));
+    let looped = (variable(0), symbol(6, &[variable(0)]));
+    assert_eq!(equated(&looped.0, &looped.1), gives(event(3, &equality(&looped.0, &looped.1), &[], &[])));
+    let two = equality(&variable(3), &variable(7));
+    assert_eq!(equated(&variable(3), &variable(7)), gives(event(2, &two, &[], &[unifier(&[(7, variable(3))])])));
+    let (left, right) = (symbol(6, &[variable(0), variable(0)]), symbol(6, &[variable(1), a()]));
+    assert_eq!(equated(&left, &right), gives(event(2, &equality(&left, &right), &[], &[unifier(&[(0, a()), (1, a())])])));
 }
 
 #[test]
@@ -104,22 +98,25 @@ fn undefined_atom_and_redo_true() {
 
 #[test]
 fn canonical_form() {
-    let fact = [&[0, 8, 1, 0][..], &a(), &TRUE].concat();
-    let rule = [&[0, 8, 1, 1][..], &sym(6, &[var(0)]), &atom(8, &[var(0)])].concat();
-    let goal = disj(&conj(&eq(&var(0), &a()), &TRUE), &conj(&eq(&var(0), &sym(6, &[var(1)])), &atom(8, &[var(1)])));
-    assert_eq!(canonical(&record(&listed(&[fact, rule])), ROOM), gives(program(&[definition(8, 1, 1, &goal)])));
+    let fact = clause(8, 0, &[a()], &TRUE);
+    let rule = clause(8, 1, &[symbol(6, &[variable(0)])], &atom(8, &[variable(0)]));
+    let goal = disjunction(
+        &conjunction(&equality(&variable(0), &a()), &TRUE),
+        &conjunction(&equality(&variable(0), &symbol(6, &[variable(1)])), &atom(8, &[variable(1)])),
+    );
+    assert_eq!(canonical(&clauses(&[fact, rule]), ROOM), gives(program(&[definition(8, 1, 1, &goal)])));
     assert_eq!(canonical(&program(&[]), ROOM), gives(program(&[])));
 }
 
 #[test]
 fn limits() {
-    let (passes, over) = (nested(2047, &a()), nested(2045, &sym(6, &[var(1), var(2), var(3)])));
+    let (passes, over) = (nested(2047, &a()), nested(2045, &symbol(6, &[variable(1), variable(2), variable(3)])));
     assert_eq!((passes.len(), over.len()), (8192, 8193));
-    assert_eq!(equated(&var(0), &passes).number, 0);
-    assert_eq!(equated(&var(0), &over).number, 8);
-    let one_local = program(&[definition(5, 1, 1, &eq(&var(0), &var(1)))]);
-    let call = |variable| forward(&one_local, &event(1, &atom(5, &[var(variable)]), &[], &[]), ROOM);
-    assert_eq!(call(65_534), gives(event(1, &eq(&var(65_534), &var(65_535)), &[atom(5, &[var(65_534)])], &[])));
+    assert_eq!(equated(&variable(0), &passes).number, 0);
+    assert_eq!(equated(&variable(0), &over).number, 8);
+    let one_local = program(&[definition(5, 1, 1, &equality(&variable(0), &variable(1)))]);
+    let call = |highest| forward(&one_local, &event(1, &atom(5, &[variable(highest)]), &[], &[]), ROOM);
+    assert_eq!(call(65_534), gives(event(1, &equality(&variable(65_534), &variable(65_535)), &[atom(5, &[variable(65_534)])], &[])));
     assert_eq!(call(65_535), refused(9));
     let redo = event(4, &TRUE, &[], &[]);
     assert_eq!(forward(&none(), &redo, 32_767), refused(5));

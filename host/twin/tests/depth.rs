@@ -1,6 +1,5 @@
 //! Deep trees need no native stack, and unifiers that could not be written take no time. Each test has a thread of 128 KiB.
 
-mod layout;
 use layout::*;
 use std::thread;
 use twin::gate::RECORD_LIMIT as ROOM;
@@ -17,19 +16,19 @@ fn on_a_small_stack(test: impl FnOnce() + Send + 'static) {
 fn nested_terms() {
     on_a_small_stack(|| {
         // 8,190 symbols in one another fill a query record, and its first event no longer fits
-        assert_eq!(first(&record(&eq(&var(0), &nested(8189, &sym(2, &[])))), ROOM).number, 10);
-        let goal = eq(&var(0), &nested(8188, &var(1)));
+        assert_eq!(first(&record(&equality(&variable(0), &nested(8189, &symbol(2, &[])))), ROOM).number, 10);
+        let goal = equality(&variable(0), &nested(8188, &variable(1)));
         let start = first(&record(&goal), ROOM);
         assert_eq!(start.number, 0);
         assert_eq!(run(&program(&[]), &start.bytes, 5, Forward, ROOM).number, 8);
-        let atom = atom(5, &[nested(4000, &var(1))]);
+        let atom = atom(5, &[nested(4000, &variable(1))]);
         let start = first(&record(&atom), ROOM);
         for (other, number) in [(1, 0), (0, 10)] {
-            let copies = program(&[definition(5, 1, 1, &eq(&var(0), &var(other)))]);
+            let copies = program(&[definition(5, 1, 1, &equality(&variable(0), &variable(other)))]);
             assert_eq!(run(&copies, &start.bytes, 1, Forward, ROOM).number, number);
         }
-        let clause = [&[0, 5, 1, 1][..], &nested(8185, &var(0)), &[0x10]].concat();
-        assert_eq!(canonical(&record(&listed(&[clause])), ROOM).number, 0);
+        let clause = clause(5, 1, &[nested(8185, &variable(0))], &TRUE);
+        assert_eq!(canonical(&clauses(&[clause]), ROOM).number, 0);
     });
 }
 
@@ -38,7 +37,11 @@ fn nested_goals() {
     on_a_small_stack(|| {
         for left in [true, false] {
             let joins = 16_000;
-            let goal = if left { [vec![0x13; joins], vec![0x10; joins + 1]].concat() } else { [[0x13, 0x10].repeat(joins), vec![0x10]].concat() };
+            let goal = if left {
+                [vec![CONJUNCTION; joins], vec![TRUTH; joins + 1]].concat()
+            } else {
+                [[CONJUNCTION, TRUTH].repeat(joins), vec![TRUTH]].concat()
+            };
             let start = first(&record(&goal), ROOM);
             assert_eq!(start.number, 0);
             let there = run(&program(&[]), &start.bytes, 100_000, Forward, ROOM);

@@ -1,6 +1,5 @@
 //! Random equalities against the textbook's unifier, and random walks: a run equals single steps, and steps back find the events again.
 
-mod layout;
 use layout::*;
 use std::collections::BTreeMap;
 use twin::gate::RECORD_LIMIT as ROOM;
@@ -20,23 +19,23 @@ impl Dice {
 
     fn term(&mut self, depth: u64, variables: u64) -> Vec<u8> {
         match self.below(if depth == 0 { 3 } else { 6 }) {
-            0 => sym(self.below(2) as u16, &[]),
-            1 | 2 => var(self.below(variables) as u16),
+            0 => symbol(self.below(2) as u16, &[]),
+            1 | 2 => variable(self.below(variables) as u16),
             _ => {
                 let arguments: Vec<Vec<u8>> = (0..1 + self.below(2)).map(|_| self.term(depth - 1, variables)).collect();
-                sym(6, &arguments)
+                symbol(6, &arguments)
             }
         }
     }
 
     fn goal(&mut self, depth: u64, variables: u64) -> Vec<u8> {
         match self.below(if depth == 0 { 6 } else { 10 }) {
-            0 => vec![0x10],
-            1 => vec![0x11],
-            2 | 3 => eq(&self.term(2, variables), &self.term(2, variables)),
+            0 => TRUE.to_vec(),
+            1 => FAIL.to_vec(),
+            2 | 3 => equality(&self.term(2, variables), &self.term(2, variables)),
             4 | 5 => atom(self.below(4) as u16, &[self.term(1, variables)]),
-            6 | 7 => conj(&self.goal(depth - 1, variables), &self.goal(depth - 1, variables)),
-            _ => disj(&self.goal(depth - 1, variables), &self.goal(depth - 1, variables)),
+            6 | 7 => conjunction(&self.goal(depth - 1, variables), &self.goal(depth - 1, variables)),
+            _ => disjunction(&self.goal(depth - 1, variables), &self.goal(depth - 1, variables)),
         }
     }
 }
@@ -78,7 +77,7 @@ fn bytes(term: &TermRef) -> Vec<u8> {
 fn unifiers() {
     let (mut dice, mut found) = (Dice(1), 0);
     for _ in 0..20_000 {
-        let goal = reader::query(&record(&eq(&dice.term(4, 5), &dice.term(4, 5)))).expect("a query");
+        let goal = reader::query(&record(&equality(&dice.term(4, 5), &dice.term(4, 5)))).expect("a query");
         let mut terms = Vec::new();
         goal.each_term(|term| terms.push(term.clone()));
         let mut bindings = Bindings::new();

@@ -8,7 +8,9 @@ mod values;
 
 use crate::clock::least;
 use crate::desk::Desk;
-use crate::layout::{Bytes, ROOM};
+use layout::RECORD_LIMIT as ROOM;
+
+type Bytes = Vec<u8>;
 
 /// A call of one service.
 pub enum Call {
@@ -31,6 +33,13 @@ impl Call {
             Call::Value(..) => "value",
             Call::Lookup(..) => "lookup",
             Call::Count(_) => "count",
+        }
+    }
+
+    fn records(&self) -> Vec<&Bytes> {
+        match self {
+            Call::Canonical(record) | Call::First(record) | Call::Value(record, _) | Call::Count(record) => vec![record],
+            Call::Forward(program, event) | Call::Back(program, event) | Call::Lookup(program, event) => vec![program, event],
         }
     }
 
@@ -71,6 +80,7 @@ type Dearest = (f64, String);
 fn dearest(desk: &dyn Desk, twin: &dyn Desk, words: &str, calls: &[Call]) -> Dearest {
     let mut found = (0.0, String::new());
     for call in calls {
+        assert!(call.records().iter().all(|record| record.len() <= ROOM), "{words}: a record is too long");
         let (time, answer, out) = timed(desk, call);
         let (twin_time, twin_answer, twin_out) = timed(twin, call);
         assert!((answer, &out) == (twin_answer, &twin_out), "{words}: desk {answer}, twin {twin_answer}");

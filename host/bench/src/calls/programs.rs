@@ -1,42 +1,40 @@
 //! The largest clause records, of several shapes, to their canonical form.
 
-use super::{Call, Case};
-use crate::layout::{atom, clauses, conj, constant, sym, truth, var, Bytes};
-
-type Clause = (usize, u8, Vec<Bytes>, Bytes);
+use super::{Bytes, Call, Case};
+use layout::{atom, clause, clauses, conjunction, constant, nested, symbol, variable, TRUE};
 
 /// So many facts, the n-th of the predicate that is given.
-fn facts(n: usize, predicate: impl Fn(usize) -> usize) -> Vec<Clause> {
-    (0..n).map(|i| (predicate(i), 0, vec![], truth())).collect()
+fn facts(n: u16, predicate: impl Fn(u16) -> u16) -> Vec<Bytes> {
+    (0..n).map(|i| clause(predicate(i), 0, &[], &TRUE)).collect()
 }
 
 /// Predicates that go up and down, each number once.
-fn mixed(i: usize) -> usize {
-    (i * 4_099) % 6_553
+fn mixed(i: u16) -> u16 {
+    (u32::from(i) * 4_099 % 6_553) as u16
 }
 
-fn with_head(n: usize, head: Vec<Bytes>, variables: u8) -> Vec<Clause> {
-    vec![(1, variables, head, truth()); n]
+fn with_head(n: usize, head: Bytes, variables: u8) -> Vec<Bytes> {
+    vec![clause(1, variables, &[head], &TRUE); n]
 }
 
 /// A clause whose goal has so many atoms.
-fn long_goal(atoms: usize) -> Vec<Clause> {
-    let goal = (0..atoms).fold(truth(), |rest, _| conj(&atom(2, &[var(0)]), &rest));
-    vec![(1, 1, vec![var(0)], goal)]
+fn long_goal(atoms: usize) -> Vec<Bytes> {
+    let goal = (0..atoms).fold(TRUE.to_vec(), |rest, _| conjunction(&atom(2, &[variable(0)]), &rest));
+    vec![clause(1, 1, &[variable(0)], &goal)]
 }
 
 pub fn cases() -> Vec<Case> {
-    let nested = (0..8_180).fold(constant(0), |term, _| sym(2, &[term]));
-    let wide: Bytes = (0..600).fold(constant(0), |rest, _| sym(1, &[vec![var(0); 15], vec![rest]].concat()));
+    let long = nested(8_180, &constant(0));
+    let wide: Bytes = (0..600).fold(constant(0), |rest, _| symbol(1, &[vec![variable(0); 15], vec![rest]].concat()));
     [
         ("6,552 predicates, rising", facts(6_552, |i| i)),
         ("6,552 predicates, falling", facts(6_552, |i| 6_552 - i)),
         ("6,552 predicates in any order", facts(6_552, mixed)),
         ("6,552 clauses of one predicate", facts(6_552, |_| 7)),
         ("6,552 clauses of two predicates in turn", facts(6_552, |i| i % 2)),
-        ("as many clauses with a constant in the head as have a canonical form", with_head(2_047, vec![constant(0)], 0)),
-        ("one clause with a nested term", with_head(1, vec![nested], 0)),
-        ("one clause with a wide term of variables", with_head(1, vec![wide], 1)),
+        ("as many clauses with a constant in the head as have a canonical form", with_head(2_047, constant(0), 0)),
+        ("one clause with a nested term", with_head(1, long, 0)),
+        ("one clause with a wide term of variables", with_head(1, wide, 1)),
         ("one clause with a long goal", long_goal(4_000)),
     ]
     .into_iter()

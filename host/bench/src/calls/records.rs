@@ -1,14 +1,16 @@
 //! The gate and the plain rules over the longest and deepest records.
 
-use super::{Call, Case};
-use crate::layout::{atom, by, conj, constant, disj, equal, event, half, or, program, query, sym, truth, unifier, var, Bytes};
+use super::{Bytes, Call, Case};
+use layout::{
+    atom, by, conjunction, constant, disjunction, equality, event, half, nested, or, program, record, unifier, variable, IN_CONJUNCTION, TRUE,
+};
 
-fn nested(n: usize) -> Bytes {
-    (0..n).fold(constant(0), |term, _| sym(2, &[term]))
+fn chain(n: usize) -> Bytes {
+    nested(n, &constant(0))
 }
 
 fn joins(n: usize) -> Bytes {
-    (0..n).fold(truth(), |goal, i| if i % 2 == 0 { conj(&goal, &truth()) } else { disj(&goal, &truth()) })
+    (0..n).fold(TRUE.to_vec(), |goal, i| if i % 2 == 0 { conjunction(&goal, &TRUE) } else { disjunction(&goal, &TRUE) })
 }
 
 /// Each port, forward and back, and the counter.
@@ -21,26 +23,26 @@ fn ways(goal: &Bytes, ancestors: &[Bytes], bets: &[Bytes]) -> Vec<Call> {
 }
 
 pub fn cases() -> Vec<Case> {
-    let (deep_term, deep_goal) = (nested(4_080), joins(5_400));
-    let pairs: Vec<(usize, Bytes)> = (0..6_548).map(|i| (i, var(65_535))).collect();
-    let unifiers: Vec<Bytes> = (0..4_090).map(|i| unifier(&[(i, var(i + 1))])).collect();
+    let (deep_term, deep_goal) = (chain(4_080), joins(5_400));
+    let pairs: Vec<(u16, Bytes)> = (0..6_548).map(|i| (i, variable(65_535))).collect();
+    let unifiers: Vec<Bytes> = (0..4_090).map(|i| unifier(&[(i, variable(i + 1))])).collect();
     let mut found = vec![
-        ("a query of 8,180 terms within each other", vec![Call::First(query(&equal(&nested(8_180), &var(0))))]),
-        ("a query of 16,380 goals within each other", vec![Call::First(query(&joins(16_380)))]),
+        ("a query of 8,180 terms within each other", vec![Call::First(record(&equality(&chain(8_180), &variable(0))))]),
+        ("a query of 16,380 goals within each other", vec![Call::First(record(&joins(16_380)))]),
     ];
     let events = [
-        ("an equality of two terms of 16 KB", equal(&deep_term, &deep_term), vec![], vec![]),
+        ("an equality of two terms of 16 KB", equality(&deep_term, &deep_term), vec![], vec![]),
         (
             "a goal of 5,400 joins, itself among the ancestors and bets",
             deep_goal.clone(),
-            vec![half(1, &conj(&deep_goal, &truth()))],
+            vec![half(IN_CONJUNCTION, 1, &deep_goal, &TRUE)],
             vec![by(&deep_goal)],
         ),
-        ("an atom of 8,180 terms within each other", atom(1, &[nested(8_180)]), vec![], vec![]),
-        ("16,000 bets OR", truth(), vec![], vec![or(1); 16_000]),
-        ("8,000 ancestors", truth(), vec![half(1, &conj(&truth(), &truth())); 8_000], vec![]),
-        ("4,090 unifiers", truth(), vec![], unifiers),
-        ("a unifier of 6,548 pairs", equal(&var(0), &var(1)), vec![], vec![unifier(&pairs)]),
+        ("an atom of 8,180 terms within each other", atom(1, &[chain(8_180)]), vec![], vec![]),
+        ("16,000 bets OR", TRUE.to_vec(), vec![], vec![or(1); 16_000]),
+        ("8,000 ancestors", TRUE.to_vec(), vec![half(IN_CONJUNCTION, 1, &TRUE, &TRUE); 8_000], vec![]),
+        ("4,090 unifiers", TRUE.to_vec(), vec![], unifiers),
+        ("a unifier of 6,548 pairs", equality(&variable(0), &variable(1)), vec![], vec![unifier(&pairs)]),
     ];
     found.extend(events.into_iter().map(|(words, goal, ancestors, bets)| (words, ways(&goal, &ancestors, &bets))));
     found

@@ -1,7 +1,6 @@
 //! Clause records.
 
 use super::goals::{goal, ARITIES, PREDICATES};
-use super::layout;
 use super::terms::{all_bytes, terms, Names};
 use super::Dice;
 
@@ -80,7 +79,7 @@ pub fn clauses(dice: &mut Dice) -> Vec<u8> {
     while layout::listed(&parts).len() > 32_765 {
         parts.pop();
     }
-    layout::record(&layout::listed(&parts))
+    layout::clauses(&parts)
 }
 
 /// Clauses whose grammar is right and that break question 4.
@@ -93,5 +92,5 @@ pub fn breaking(dice: &mut Dice) -> Vec<u8> {
         _ => layout::clause(1, 2, &[layout::variable(0), layout::variable(dice.between(2, 300) as u16)], &layout::FAIL),
     };
     parts.insert(dice.below(parts.len() + 1), broken);
-    layout::record(&layout::listed(&parts))
+    layout::clauses(&parts)
 }

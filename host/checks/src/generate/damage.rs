@@ -1,18 +1,10 @@
 //! Records that were damaged.
 
 use super::Dice;
+use layout::mended;
 
 /// Bytes that mean something somewhere.
 const TELLING: [u8; 22] = [0, 1, 2, 3, 4, 5, 16, 17, 0x10, 0x11, 0x12, 0x13, 0x14, 0x15, 0x16, 0x20, 0x21, 0x22, 0x30, 0x31, 64, 255];
-
-/// The length field made to name the rest.
-fn mended(mut record: Vec<u8>) -> Vec<u8> {
-    if record.len() >= 2 {
-        let length = ((record.len() - 2) as u16).to_be_bytes();
-        record[..2].copy_from_slice(&length);
-    }
-    record
-}
 
 /// A byte of the body changed, the frame right.
 pub fn one_byte(dice: &mut Dice, record: &[u8]) -> Vec<u8> {

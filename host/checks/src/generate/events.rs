@@ -1,9 +1,10 @@
 //! Events that no walk need reach: any port with any goal, any stacks.
 
 use super::goals::{atom, goal, goal_bytes, Goal};
-use super::layout;
+use super::sized::{bet_of, term_of};
 use super::terms::{term_bytes, Names};
 use super::Dice;
+use layout::{IN_CONJUNCTION, IN_DISJUNCTION};
 
 /// A unifier bet that keeps the pair rules: the bound variables are some of the names', the terms are over others.
 pub fn unifier(dice: &mut Dice, names: Names) -> Vec<u8> {
@@ -40,7 +41,7 @@ pub fn ancestor(dice: &mut Dice, names: Names) -> Vec<u8> {
 
 /// An ancestor that has the goal in one half, mostly the one that the tag selects.
 fn half_with(dice: &mut Dice, goal: &[u8], names: Names) -> Vec<u8> {
-    let (kind, tag, other) = (0x30 + dice.below(2) as u8, dice.between(1, 2) as u8, goal_bytes(dice, names, 1));
+    let (kind, tag, other) = ([IN_CONJUNCTION, IN_DISJUNCTION][dice.below(2)], dice.between(1, 2) as u8, goal_bytes(dice, names, 1));
     let first = (tag == 1) != dice.one_in(12);
     if first {
         layout::half(kind, tag, goal, &other)
@@ -107,7 +108,7 @@ pub fn of_atom(dice: &mut Dice) -> Vec<u8> {
 pub fn nearly_full(dice: &mut Dice) -> Vec<u8> {
     let mut parts = parts(dice);
     let left = (32_768 - dice.below(40)).saturating_sub(parts.record().len()).max(16);
-    parts.bets.push(layout::bet_of(left));
+    parts.bets.push(bet_of(left));
     let record = parts.record();
     if record.len() <= 32_768 {
         record
@@ -121,7 +122,7 @@ pub fn large_values(dice: &mut Dice) -> Vec<u8> {
     let doubled = |i: u16| layout::unifier(&[(i, layout::symbol(1, &[layout::variable(i + 1), layout::variable(i + 1)]))]);
     let levels = dice.between(8, 11) as u16;
     // 2^n places, each filled at the last with a term of some bytes
-    let last = layout::unifier(&[(levels, layout::term_of(*dice.pick(&[4, 7, 8, 11, 12, 15, 16, 20, 24, 28])))]);
+    let last = layout::unifier(&[(levels, term_of(*dice.pick(&[4, 7, 8, 11, 12, 15, 16, 20, 24, 28])))]);
     let mut bets: Vec<Vec<u8>> = [last].into_iter().chain((0..levels).rev().map(doubled)).collect();
     if dice.one_in(2) {
         bets.insert(0, unifier(dice, Names::low(6)));

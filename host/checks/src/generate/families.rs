@@ -1,8 +1,8 @@
 //! Families of equalities: doubling rows, chains, random systems of equations.
 
-use super::layout::{equality, symbol, variable};
 use super::terms::{term_bytes, Names};
 use super::Dice;
+use layout::{equality, symbol, variable};
 
 /// The terms as the arguments of one term, sixteen to a level.
 fn row(terms: &[Vec<u8>]) -> Vec<u8> {

@@ -1,6 +1,5 @@
 //! Goals.
 
-use super::layout;
 use super::terms::{all_bytes, term, terms, Names, Term};
 use super::Dice;
 

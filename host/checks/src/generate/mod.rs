@@ -6,8 +6,8 @@ pub mod dice;
 pub mod events;
 pub mod families;
 pub mod goals;
-pub mod layout;
 pub mod programs;
+pub mod sized;
 pub mod terms;
 
 pub use dice::Dice;

@@ -1,7 +1,6 @@
 //! Programs and queries.
 
 use super::goals::{goal_bytes, ARITIES, PREDICATES};
-use super::layout;
 use super::terms::Names;
 use super::Dice;
 

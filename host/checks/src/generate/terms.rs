@@ -1,6 +1,5 @@
 //! Terms, and the names that they use.
 
-use super::layout;
 use super::Dice;
 
 pub enum Term {

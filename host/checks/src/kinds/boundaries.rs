@@ -1,15 +1,14 @@
-//! Each limit of document 01 on both sides, and empty things.
+//! Each limit of SPECIFICATION 10 on both sides, and empty things.
 
 use crate::compare::{Checked, Checker};
 use crate::generate::clauses::fact_of;
 use crate::generate::families::{chain, doubling, ladder, system};
-use crate::generate::{layout, Dice};
+use crate::generate::sized::{bet_of, goal_of, term_of};
+use crate::generate::Dice;
 use layout::{
-    atom, bet_of, by, clause, conjunction, definition, disjunction, equality, event, goal_of, half, listed, nested, or, program, record, symbol,
-    term_of, unifier, variable, FAIL, TRUE,
+    atom, by, clause, clauses, conjunction, definition, disjunction, equality, event, half, nested, or, program, record, symbol, unifier, variable,
+    FAIL, IN_CONJUNCTION, RECORD_LIMIT as ROOM, TRUE,
 };
-
-const ROOM: usize = 32_768;
 
 pub fn round(checker: &mut Checker, _: &mut Dice) -> Checked<()> {
     outputs(checker)?;
@@ -58,7 +57,7 @@ fn record_lengths(checker: &mut Checker) -> Checked<()> {
         let query = record(&goal_of(length - 3));
         let full = event(1, &TRUE, &[], &[by(&goal_of(length - 10))]);
         let definitions = program(&[definition(5, 0, 0, &goal_of(length - 9))]);
-        let set = record(&listed(&[clause(5, 0, &[], &goal_of(length - 9))]));
+        let set = clauses(&[clause(5, 0, &[], &goal_of(length - 9))]);
         let call = event(1, &atom(5, &[]), &[], &[]);
         assert_eq!([query.len(), full.len(), definitions.len(), set.len()], [length; 4]);
         checker.first(&query, ROOM)?;
@@ -133,7 +132,7 @@ fn locals(checker: &mut Checker) -> Checked<()> {
     {
         let goal = equality(&variable(0), &variable(u16::from(count)));
         let definitions = program(&[definition(5, 1, count, &goal)]);
-        let under = half(0x30, 1, &atom(5, &[symbol(1, &[])]), &equality(&variable(highest), &variable(0)));
+        let under = half(IN_CONJUNCTION, 1, &atom(5, &[symbol(1, &[])]), &equality(&variable(highest), &variable(0)));
         let calls = [
             (atom(5, &[variable(highest)]), vec![]),
             (atom(5, &[symbol(1, &[])]), vec![under]),
@@ -166,11 +165,11 @@ fn canonical_locals(checker: &mut Checker) -> Checked<()> {
         let spread: Vec<Vec<u8>> = [64, 64, 64, last].iter().enumerate().map(|(i, &variables)| fact_of(i as u16 % 2, variables)).collect();
         let longer = [&facts[..], std::slice::from_ref(&long)].concat();
         for set in [facts, spread, longer] {
-            checker.canonical(&record(&listed(&set)), ROOM)?;
+            checker.canonical(&clauses(&set), ROOM)?;
         }
     }
     for variables in [63, 64, 65, 255] {
-        checker.canonical(&record(&listed(&[fact_of(3, variables)])), ROOM)?;
+        checker.canonical(&clauses(&[fact_of(3, variables)]), ROOM)?;
     }
     Ok(())
 }
@@ -182,16 +181,16 @@ fn canonical_lengths(checker: &mut Checker) -> Checked<()> {
         let variables = [0, 3, 2, 1][(length - 15) % 4];
         // term_of's variables are 1 to 3: one more clause variable stands for 0
         let head = [term, variable(0)];
-        checker.canonical(&record(&listed(&[clause(5, variables + 1, &head, &TRUE)])), ROOM)?;
+        checker.canonical(&clauses(&[clause(5, variables + 1, &head, &TRUE)]), ROOM)?;
         let head = [nested((length - 19) / 4, &symbol(2, &[])), symbol(2, &[]), variable(0)];
-        checker.canonical(&record(&listed(&[clause(5, 1, &head[..1 + length % 3], &goal_of(3))])), ROOM)?;
+        checker.canonical(&clauses(&[clause(5, 1, &head[..1 + length % 3], &goal_of(3))]), ROOM)?;
     }
     for shape in [&TRUE, &FAIL] {
         for count in [6_551, 6_552, 6_553, 6_554] {
             let set: Vec<Vec<u8>> = (0..count).map(|i| clause((count - i) as u16 * 3, 0, &[], shape)).collect();
-            checker.canonical(&record(&listed(&set)), ROOM)?;
+            checker.canonical(&clauses(&set), ROOM)?;
             let set: Vec<Vec<u8>> = (0..count).map(|_| clause(3, 0, &[], shape)).collect();
-            checker.canonical(&record(&listed(&set)), ROOM)?;
+            checker.canonical(&clauses(&set), ROOM)?;
         }
     }
     Ok(())
@@ -203,7 +202,7 @@ fn arities(checker: &mut Checker) -> Checked<()> {
         let arguments = vec![symbol(2, &[]); arity];
         let (atom, term) = (atom(5, &arguments), symbol(3, &arguments));
         let definitions = program(&[definition(5, arity as u8, 0, &TRUE)]);
-        let set = record(&listed(&[clause(5, 0, &arguments, &TRUE)]));
+        let set = clauses(&[clause(5, 0, &arguments, &TRUE)]);
         let events =
             [event(1, &atom, &[], &[]), event(1, &equality(&variable(0), &term), &[], &[]), event(1, &TRUE, std::slice::from_ref(&atom), &[])];
         let betted = [event(4, &atom, &[], &[by(&atom)]), event(2, &TRUE, &[], &[unifier(&[(1, term.clone())])])];

@@ -1,8 +1,8 @@
 //! Deep terms, joins and ancestors, up to what a record holds.
 
 use crate::compare::{Checked, Checker};
-use crate::generate::{layout, Dice};
-use layout::{atom, conjunction, definition, equality, nested, record, symbol, variable, FAIL, TRUE};
+use crate::generate::Dice;
+use layout::{atom, conjunction, definition, equality, nested, record, symbol, variable, CONJUNCTION, DISJUNCTION, FAILURE, TRUE, TRUTH};
 
 /// A depth: anything up to the most, often the most.
 fn depth(dice: &mut Dice, most: usize) -> usize {
@@ -55,10 +55,9 @@ fn terms(checker: &mut Checker, dice: &mut Dice) -> Checked<()> {
 
 /// Conjunctions and disjunctions in the left or the right half of each other.
 fn joins(checker: &mut Checker, dice: &mut Dice) -> Checked<()> {
-    let (kind, count) = (*dice.pick(&[0x13, 0x14]), depth(dice, 16_300));
-    let end = if dice.one_in(2) { TRUE } else { FAIL };
-    let goal =
-        if dice.one_in(2) { [vec![kind; count], vec![end[0]; count + 1]].concat() } else { [[kind, end[0]].repeat(count), end.to_vec()].concat() };
+    let (kind, count) = (*dice.pick(&[CONJUNCTION, DISJUNCTION]), depth(dice, 16_300));
+    let end = if dice.one_in(2) { TRUTH } else { FAILURE };
+    let goal = if dice.one_in(2) { [vec![kind; count], vec![end; count + 1]].concat() } else { [[kind, end].repeat(count), vec![end]].concat() };
     let start = checker.first(&record(&goal), 32_768)?;
     everywhere(checker, dice, &layout::program(&[]), &start.bytes)
 }
@@ -76,7 +75,7 @@ fn ancestors(checker: &mut Checker, dice: &mut Dice) -> Checked<()> {
 /// Clauses with deep heads.
 fn heads(checker: &mut Checker, dice: &mut Dice) -> Checked<()> {
     let clause = layout::clause(5, 1, &[nested(depth(dice, 8_187), &variable(0))], &TRUE);
-    let program = checker.canonical(&record(&layout::listed(&[clause])), 32_768)?;
+    let program = checker.canonical(&layout::clauses(&[clause]), 32_768)?;
     let event = layout::event(1, &atom(5, &[variable(0)]), &[], &[]);
     if program.number == 0 {
         everywhere(checker, dice, &program.bytes, &event)?;

@@ -15,7 +15,7 @@ const MOST_STEPS: usize = 2_000;
 
 pub fn round(checker: &mut Checker, dice: &mut Dice) -> Checked<()> {
     for input in GARAGES {
-        let (program, query) = input.split_at(2 + usize::from(u16::from_be_bytes([input[0], input[1]])));
+        let (program, query) = layout::split_record(input);
         let mut events = vec![checker.first(query, 32_768)?.bytes];
         for _ in 0..MOST_STEPS {
             let event = &events[events.len() - 1];

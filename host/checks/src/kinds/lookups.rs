@@ -2,7 +2,7 @@
 
 use crate::compare::{Checked, Checker};
 use crate::generate::goals::PREDICATES;
-use crate::generate::{damage, events, layout, programs, Dice};
+use crate::generate::{damage, events, programs, Dice};
 
 pub fn round(checker: &mut Checker, dice: &mut Dice) -> Checked<()> {
     let program = programs::program(dice);

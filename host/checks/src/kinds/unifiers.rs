@@ -2,7 +2,7 @@
 
 use crate::compare::{Answer, Checked, Checker};
 use crate::generate::families::{any, doubling, system};
-use crate::generate::{events, layout, terms, Dice};
+use crate::generate::{events, terms, Dice};
 
 /// Mostly small systems; one in forty up to n = 800, the longest that fits where sides are exchanged.
 pub fn round(checker: &mut Checker, dice: &mut Dice) -> Checked<()> {

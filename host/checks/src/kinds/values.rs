@@ -2,13 +2,13 @@
 
 use crate::compare::{Checked, Checker};
 use crate::generate::terms::Names;
-use crate::generate::{events, layout, room, Dice};
+use crate::generate::{events, room, sized, Dice};
 
 /// A number that stands after the kind byte of a variable somewhere in the record, or any.
 pub fn known_variable(dice: &mut Dice, event: &[u8]) -> u16 {
     let from = dice.below(event.len());
-    let found = event[from..].windows(3).find(|window| window[0] == 1);
-    found.map_or_else(|| dice.number(), |window| u16::from_be_bytes([window[1], window[2]]))
+    let found = event[from..].windows(3).find(|window| window[0] == layout::VARIABLE);
+    found.map_or_else(|| dice.number(), |window| layout::number_at(window, 1))
 }
 
 /// A bet that makes variable i into two of variable i + 1.
@@ -23,7 +23,7 @@ pub fn round(checker: &mut Checker, dice: &mut Dice) -> Checked<()> {
         _ => (0..dice.between(0, 30)).map(|_| events::bet(dice, names)).collect(),
     };
     if dice.one_in(6) {
-        bets.push(layout::unifier(&[(0, layout::term_of(dice.between(8_180, 8_200)))]));
+        bets.push(layout::unifier(&[(0, sized::term_of(dice.between(8_180, 8_200)))]));
     }
     let event = layout::event(dice.between(1, 4) as u8, &layout::TRUE, &[], &bets);
     for _ in 0..4 {

@@ -1,4 +1,5 @@
-//! What a record is: trees, their reader with questions 1 to 4, their writer.
+//! What a record is: trees, their reader with questions 1 to 4, their writer. Kinds and places are stated here a second time on purpose: the twin
+//! shares no line with the code, host code too, that it is held against.
 
 pub mod ancestors;
 pub mod bets;

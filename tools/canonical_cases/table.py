@@ -1,13 +1,9 @@
-"""The table of cases: each has a kind (w an output of 32,768 bytes, s one byte short), the number, words, the slice, and the record that is written."""
-from record_cases.layout import *
+"""The table of cases: each has words, a kind (w an output of 32,768 bytes, s one byte short), the number, the slice, and the record that is written."""
+from stored.layout import *
+from stored.table import Table
 
-cases = []
-subject = ''
-
-
-def heading(words):
-    global subject
-    subject = words
+cases = Table()
+heading = cases.heading
 
 
 def shown(result):
@@ -21,7 +17,7 @@ def shown(result):
 
 
 def refused(number, words, data, kind='w'):
-    cases.append((kind, number, subject + ': ' + words, data, b''))
+    cases.case(words, kind, number, data, b'')
 
 
 def becomes(words, clauses, definitions, size=None, read=None):
@@ -29,7 +25,7 @@ def becomes(words, clauses, definitions, size=None, read=None):
     data, result = record(listed(clauses)), record(listed(definitions))
     assert size is None or len(result) == size, (words, len(result))
     assert read is None or len(data) == read, (words, len(data))
-    cases.append(('w', 0, subject + ': ' + words, data, result))
+    cases.case(words, 'w', 0, data, result)
 
 
 def too_many(words, clauses):

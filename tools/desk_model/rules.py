@@ -1,4 +1,4 @@
-"""The 21 rules, to be held against document 01 line by line.
+"""The 21 rules, to be held against SPECIFICATION 3 line by line.
 
 A and B stand for any goal, P for an atom, T1 and T2 for terms, M for a unifier; U and S for the rest of the ancestors and of the bets.
 A side that names no ancestor or no bet leaves that stack as it is. Behind the bars stands what else must hold, forward and back:

@@ -1,4 +1,4 @@
-"""The trees of document 01. Each part knows its parts, its length in bytes and the greatest variable number in it (-1: none)."""
+"""The trees of records (SPECIFICATION 1). Each part knows its parts, its length in bytes and the greatest variable number in it (-1: none)."""
 from dataclasses import dataclass
 
 CALL, EXIT, FAIL, REDO = 1, 2, 3, 4

@@ -1,6 +1,6 @@
-"""Trees to bytes, each part laid out by record_cases/layout.py."""
+"""Trees to bytes, each part laid out by stored/layout.py."""
 from desk_model.trees import *
-from record_cases import layout
+from stored import layout
 
 LAID_OUT = {
     Var: lambda t: layout.var(t.number),

@@ -1,9 +1,9 @@
-"""The lines of document 01's bench sheet, the walk program's example and the stored record cases, put to the model."""
+"""The lines of the bench sheet (SPECIFICATION 11), the walk program's example and the stored record cases, put to the model."""
 from desk_model import canonical, gate, walk, writer
 from desk_model.services import BACK, FORWARD, first_event, run, step, variable_value
 # each of these modules adds its cases to the table
 from record_cases import table, questions, queries, events, programs, clause_sets, limits
-from record_cases.layout import *
+from stored.layout import *
 
 ROOM = 32768
 NO_DEFINITIONS = hexa('00 03 01 00 00')
@@ -108,7 +108,7 @@ def limits_of_the_bench_sheet():
 def stored_records():
     """the numbers of questions 1 to 4 that were worked out by hand for the program records_cases"""
     readers = dict(q=gate.query, e=gate.event, p=gate.program, c=gate.clauses)
-    for kind, number, words, data in table.cases:
+    for words, kind, number, data in table.cases:
         try:
             tree = readers[kind](data)
             got = 0

@@ -1,7 +1,7 @@
 """Questions 1 and 2, the order in which the questions are put, and records of another kind."""
 from record_cases.table import *
 
-heading('records of document 01')
+heading('records of the specification')
 case('p', 0, 'the program of no definitions', hexa('00 03 01 00 00'))
 case('q', 0, 'the query V0 = a', hexa('00 09 01 12 01 00 00 02 00 02 00'))
 case('e', 0, 'its first event', hexa('00 0E 01 01 12 01 00 00 02 00 02 00 00 00 00 00'))

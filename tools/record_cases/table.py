@@ -1,19 +1,15 @@
-"""The table of cases: each has a kind (q query, e event, p program, c clauses), the number worked out by hand, words, and the slice."""
-from record_cases.layout import *
+"""The table of cases: each has words, a kind (q query, e event, p program, c clauses), the number worked out by hand, and the slice."""
+from stored.layout import *
+from stored.table import Table
 
-cases = []
-subject = ''
-
-
-def heading(words):
-    global subject
-    subject = words
+cases = Table()
+heading = cases.heading
 
 
 def case(kind, number, words, data, size=None):
     """size: the length that the words promise"""
     assert size is None or len(data) == size, (words, len(data))
-    cases.append((kind, number, subject + ': ' + words, data))
+    cases.case(words, kind, number, data)
 
 
 def query(number, words, goal, size=None):

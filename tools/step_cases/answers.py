@@ -1,6 +1,7 @@
 """The model's answer to a case, and the lines that the program prints for it."""
 from desk_model import services
 from desk_model.services import BACK, FORWARD
+from stored.shown import shown
 
 ROOM = 32768
 
@@ -53,28 +54,14 @@ def agrees(answered, want):
 
 
 # ---- Printing
-def checksum(data):
-    """FNV-1a, 32 bits"""
-    h = 0x811C9DC5
-    for byte in data:
-        h = (h ^ byte) * 0x01000193 % 2 ** 32
-    return h
-
-
-def shown(data):
-    if len(data) <= 200:
-        return data.hex()
-    return f'#{len(data)}:{data[:16].hex()}:{checksum(data):08x}'
+WHOLE = 200  # a record of at most so many bytes is printed whole
 
 
 def line(values):
     """values apart by a blank, without those that are None"""
-    return ' '.join(shown(v) if isinstance(v, bytes) else str(v) for v in values if v is not None)
+    return ' '.join(shown(v, WHOLE) if isinstance(v, bytes) else str(v) for v in values if v is not None)
 
 
 def lines(kind, answered):
     return list(map(line, answered)) if kind == 'w' else [line(answered)]
 
-
-# the checksums that the function's authors publish
-assert (checksum(b''), checksum(b'a'), checksum(b'foobar')) == (0x811C9DC5, 0xE40C292C, 0xBF9CF968)

@@ -1,4 +1,4 @@
-"""The lines of document 01's bench sheet that are steps, with every byte worked out by hand."""
+"""The lines of the bench sheet (SPECIFICATION 11) that are steps, with every byte worked out by hand."""
 from step_cases.table import *
 
 heading('bench sheet')

@@ -1,23 +1,19 @@
-"""The table of cases: each has a kind, words, the fields as they stand on standard input, and the answer that was worked out by hand, or None.
+"""The table of cases: each has words, a kind, the fields as they stand on standard input, and the answer that was worked out by hand, or None.
 
 q query  f forward  b back  r run forward  s run back  w walk  l lookup  c counter
 A hand-made answer has the form that answers.py gives; a bare number stands for any answer with that number.
 """
-from record_cases.layout import *
+from stored.layout import *
+from stored.table import Table
 
 ROOM = 32768
 CALL, EXIT, FAILS, REDO = 1, 2, 3, 4
-cases = []
-subject = ''
-
-
-def heading(words):
-    global subject
-    subject = words
+cases = Table()
+heading = cases.heading
 
 
 def case(kind, words, fields, want):
-    cases.append((kind, subject + ': ' + words, fields, want))
+    cases.case(words, kind, fields, want)
 
 
 def number(n):

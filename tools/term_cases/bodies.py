@@ -10,7 +10,7 @@ V4, V5, V6, V7 = var(4), var(5), var(6), var(7)
 BENCH_P = definition(5, 1, 0, disj(eq(V0, A), eq(V0, B)))
 BENCH_Q = definition(8, 1, 1, disj(conj(eq(V0, A), TRUE), conj(eq(V0, f(V1)), atom(8, V1))))
 
-heading('definitions of document 01')
+heading('definitions of the specification')
 body('p(V) has body V = a; V = b', hexa('14 12 01 00 00 02 00 02 00 12 01 00 00 02 00 03 00'), [BENCH_P], atom(5, V0))
 body('q(V0): (V0 = a, true); (V0 = f(V1), q(V1))',
      hexa('14 13 12 01 00 00 02 00 02 00 10 13 12 01 00 00 02 00 06 01 01 00 01 15 00 08 01 01 00 01'), [BENCH_Q], atom(8, V0))

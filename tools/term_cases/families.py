@@ -23,15 +23,15 @@ heading('chains')
 n = 1000
 lower, upper = [X(k) for k in range(1, n + 1)], [X(k + 1) for k in range(1, n + 1)]
 all_to_first = [(k, X(1)) for k in range(2, n + 2)]
-equality('X1 = X2, X2 = X3, .., X1000 = X1001', all_to_first, pair_list(lower), pair_list(upper), check=False)
-equality('X2 = X1, X3 = X2, .., X1001 = X1000', all_to_first, pair_list(upper), pair_list(lower), check=False)
-equality('X1000 = X1001, .., X1 = X2', all_to_first, pair_list(lower[::-1]), pair_list(upper[::-1]), check=False)
-equality('and X1001 = a', [(k, A) for k in range(1, n + 2)], pair_list(lower + [X(n + 1)]), pair_list(upper + [A]), check=False)
-equality('and X1 = a, X1001 = b', 'none', pair_list(lower + [X(1), X(n + 1)]), pair_list(upper + [A, B]), check=False)
-equality('and X1 = f(X1001)', 'none', pair_list(lower + [X(1)]), pair_list(upper + [f(X(n + 1))]), check=False)
+equality('X1 = X2, X2 = X3, .., X1000 = X1001', all_to_first, pair_list(lower), pair_list(upper))
+equality('X2 = X1, X3 = X2, .., X1001 = X1000', all_to_first, pair_list(upper), pair_list(lower))
+equality('X1000 = X1001, .., X1 = X2', all_to_first, pair_list(lower[::-1]), pair_list(upper[::-1]))
+equality('and X1001 = a', [(k, A) for k in range(1, n + 2)], pair_list(lower + [X(n + 1)]), pair_list(upper + [A]))
+equality('and X1 = a, X1001 = b', 'none', pair_list(lower + [X(1), X(n + 1)]), pair_list(upper + [A, B]))
+equality('and X1 = f(X1001)', 'none', pair_list(lower + [X(1)]), pair_list(upper + [f(X(n + 1))]))
 equality('X1 = X2, X3 = X4, .., and then X2 = X3, X4 = X5, ..', all_to_first, row([X(k) for k in range(1, n, 2)] + [X(k) for k in range(2, n + 1, 2)]),
-         row([X(k + 1) for k in range(1, n, 2)] + [X(k + 1) for k in range(2, n + 1, 2)]), check=False)
-equality('X0 to X2000 all alone', [], row([X(k) for k in range(2001)]), row([X(k) for k in range(2001)]), check=False)
+         row([X(k + 1) for k in range(1, n, 2)] + [X(k + 1) for k in range(2, n + 1, 2)]))
+equality('X0 to X2000 all alone', [], row([X(k) for k in range(2001)]), row([X(k) for k in range(2001)]))
 
 heading('doublings: X1 = g(X0, X0), X2 = g(X1, X1), ..')
 # written out: X1 to g(X0,X0), X2 to g(g(X0,X0),g(X0,X0)), and so on
@@ -55,12 +55,12 @@ def full(n):
 left, right = doublings(11)
 equality('n = 11, 28,638 bytes', [(k, full(k)) for k in range(1, 12)], f(*left), f(*right), size=28638)
 left, right = doublings(12)
-equality('n = 12', 'long', f(*left), f(*right), check=False)
+equality('n = 12', 'long', f(*left), f(*right))
 # 797 is the most that a value of 8,192 bytes holds: 7,970 bytes of doublings and 54 symbols around them.
 left, right = doublings(797)
-equality('n = 797', 'long', row(left), row(right), check=False)
-equality('n = 797, the last first', 'long', row(left[::-1]), row(right[::-1]), check=False)
-equality('n = 797, the sides exchanged', 'long', row(right), row(left), check=False)
+equality('n = 797', 'long', row(left), row(right))
+equality('n = 797, the last first', 'long', row(left[::-1]), row(right[::-1]))
+equality('n = 797, the sides exchanged', 'long', row(right), row(left))
 
 
 def halved(n):
@@ -70,36 +70,36 @@ def halved(n):
 
 
 left, right = halved(800)
-equality('n = 800, every other one exchanged', 'long', row(left), row(right), check=False)
-equality('the same, the last first', 'long', row(left[::-1]), row(right[::-1]), check=False)
-equality('n = 800, and a = b at the end', 'none', row(left + [A]), row(right + [B]), check=False)
-equality('n = 800, and X0 = a at the end', 'long', row(left + [X(0)]), row(right + [A]), check=False)
-equality('n = 800, and X0 = g(X800, X800) at the end', 'none', row(left + [X(0)]), row(right + [g(X(800), X(800))]), check=False)
+equality('n = 800, every other one exchanged', 'long', row(left), row(right))
+equality('the same, the last first', 'long', row(left[::-1]), row(right[::-1]))
+equality('n = 800, and a = b at the end', 'none', row(left + [A]), row(right + [B]))
+equality('n = 800, and X0 = a at the end', 'long', row(left + [X(0)]), row(right + [A]))
+equality('n = 800, and X0 = g(X800, X800) at the end', 'none', row(left + [X(0)]), row(right + [g(X(800), X(800))]))
 left, right = doublings(390)
 more, most = [var(1000 + k) for k in range(1, 391)], [g(var(999 + k), var(999 + k)) for k in range(1, 391)]
-equality('X and Y, 390 each, and X390 = Y390', 'long', row(left + more + [X(390)]), row(right + most + [var(1390)]), check=False)
+equality('X and Y, 390 each, and X390 = Y390', 'long', row(left + more + [X(390)]), row(right + most + [var(1390)]))
 
 heading('the deepest unifier')
 # Every argument on the way down is a level of the writer. All but a few of the terms of both values lie on one way.
 head, tail = row([V9] * 2480 + [V1]), row([V9] * 2480)
-equality('V0 = a list of 2,480 with V1 at its end, V1 = another', [(0, row([V9] * 2480 + [tail])), (1, tail)], f(V0, tail), f(head, V1), check=False)
+equality('V0 = a list of 2,480 with V1 at its end, V1 = another', [(0, row([V9] * 2480 + [tail])), (1, tail)], f(V0, tail), f(head, V1))
 
 heading('question 8')
 whole, over = chain(2047, A), chain(2045, g(V1, V2, V3))
-equality('8,192 bytes on the right', [(0, whole)], V0, whole, size=8196, check=False)
-equality('8,192 bytes on the left', [(0, whole)], whole, V0, check=False)
-equality('8,192 bytes on both sides', [], whole, whole, check=False)
-equality('8,192 bytes on both sides, with a clash at the end', 'none', whole, chain(2047, B), check=False)
-equality('8,193 bytes on the right', 8, V0, over, check=False)
-equality('8,193 bytes on the left', 8, over, V0, check=False)
-equality('8,193 bytes and a clash', 8, A, over, check=False)
-equality('8,193 bytes and a clash, the other way', 8, over, A, check=False)
-equality('8,193 bytes on both sides', 8, over, over, check=False)
+equality('8,192 bytes on the right', [(0, whole)], V0, whole, size=8196)
+equality('8,192 bytes on the left', [(0, whole)], whole, V0)
+equality('8,192 bytes on both sides', [], whole, whole)
+equality('8,192 bytes on both sides, with a clash at the end', 'none', whole, chain(2047, B))
+equality('8,193 bytes on the right', 8, V0, over)
+equality('8,193 bytes on the left', 8, over, V0)
+equality('8,193 bytes and a clash', 8, A, over)
+equality('8,193 bytes and a clash, the other way', 8, over, A)
+equality('8,193 bytes on both sides', 8, over, over)
 halves = unifier((0, f(V1, V2)))
-equality('8,192 bytes by bets', [(3, f(chain(1000, A), chain(1045, A)))], V0, V3, [unifier((1, chain(1000, A)), (2, chain(1045, A))), halves], check=False)
-equality('8,193 bytes by bets', 8, V0, V3, [unifier((1, chain(1000, A)), (2, chain(1043, g(V9, V9, V9)))), halves], check=False)
-equality('8,193 bytes by bets on the right', 8, A, V0, [unifier((1, chain(1000, A)), (2, chain(1043, g(V9, V9, V9)))), halves], check=False)
-equality('a term of 8,193 bytes that no bet changes, in another event', 8, over, A, [unifier((9, A))], check=False)
+equality('8,192 bytes by bets', [(3, f(chain(1000, A), chain(1045, A)))], V0, V3, [unifier((1, chain(1000, A)), (2, chain(1045, A))), halves])
+equality('8,193 bytes by bets', 8, V0, V3, [unifier((1, chain(1000, A)), (2, chain(1043, g(V9, V9, V9)))), halves])
+equality('8,193 bytes by bets on the right', 8, A, V0, [unifier((1, chain(1000, A)), (2, chain(1043, g(V9, V9, V9)))), halves])
+equality('a term of 8,193 bytes that no bet changes, in another event', 8, over, A, [unifier((9, A))])
 
 heading('the output')
 
@@ -117,10 +117,10 @@ def copies(*groups):
 
 
 bindings, left, right = copies((6, chain(1364, var(0))))
-equality('2 + 6 * (2 + 5,459) = 32,768 bytes', bindings, left, right, size=32768, check=False)
+equality('2 + 6 * (2 + 5,459) = 32,768 bytes', bindings, left, right, size=32768)
 bindings, left, right = copies((7, chain(1169, var(0))))
-equality('2 + 7 * (2 + 4,679) = 32,769 bytes', bindings, left, right, size=32769, check=False)
+equality('2 + 7 * (2 + 4,679) = 32,769 bytes', bindings, left, right, size=32769)
 bindings, left, right = copies((7, chain(747, g(V0, V0, V0))), (8, chain(590, g(V0, V0))))
-equality('2 + 7 * (2 + 3,001) + 8 * (2 + 2,370) = 39,999 bytes', bindings, left, right, size=39999, check=False)
+equality('2 + 7 * (2 + 3,001) + 8 * (2 + 2,370) = 39,999 bytes', bindings, left, right, size=39999)
 bindings, left, right = copies((8, chain(1249, V0)))
-equality('2 + 8 * (2 + 4,999) = 40,010 bytes', bindings, left, right, size=40010, check=False)
+equality('2 + 8 * (2 + 4,999) = 40,010 bytes', bindings, left, right, size=40010)

@@ -1,4 +1,4 @@
-"""Equalities and values of random small terms under random bets, answered by the model."""
+"""Equalities and values of random small terms under random bets, answered by the model alone."""
 import random
 
 from term_cases.table import *
@@ -29,9 +29,9 @@ for k in range(60):
     names = chance.sample(range(1, 300), 6)
     bets = [a_bet(names) for _ in range(chance.randrange(6))]
     t, u = a_term(4, names), a_term(4, names)
-    equality(f'equality {k + 1}', model.equality(t, u, bets), t, u, bets)
+    equality(f'equality {k + 1}', None, t, u, bets)
 for k in range(30):
     names = chance.sample(range(1, 300), 4)
     bets = [a_bet(names) for _ in range(chance.randrange(1, 9))]
     v = chance.choice(names)
-    value(f'value {k + 1}', model.value(v, bets), v, bets)
+    value(f'value {k + 1}', None, v, bets)

@@ -1,35 +1,14 @@
-"""The table of cases: each has a kind (v value, u equality, b body), its fields, the answer worked out from document 01, and words."""
-from record_cases.layout import *
-from term_cases import model
+"""The table of cases: each has words, a kind (v value, u equality, b body), the answer that was worked out by hand, or None, and its fields."""
+from stored.layout import *
+from stored.table import Table
+from term_cases.answers import ROOM, printed
 
-ROOM = 32768
-cases = []
-subject = ''
-
-
-def heading(words):
-    global subject
-    subject = words
+cases = Table()
+heading = cases.heading
 
 
 def case(kind, answer, words, *fields):
-    cases.append((kind, answer, subject + ': ' + words, fields))
-
-
-# ---- Answers
-def checksum(data):
-    """32-bit FNV-1a"""
-    n = 2166136261
-    for b in data:
-        n = (n ^ b) * 16777619 % 4294967296
-    return n
-
-
-def shown(data):
-    """0 and the bytes; more than 256 as their number, the first 16 and the checksum"""
-    if len(data) <= 256:
-        return '0 ' + data.hex()
-    return f'0 #{len(data)}:{data[:16].hex()}:{checksum(data):08x}'
+    cases.case(words, kind, answer, fields)
 
 
 def pairs(*bindings):
@@ -45,30 +24,26 @@ def row(terms):
     return sym(6, *terms[:15], row(terms[15:]))
 
 
-# ---- Cases of an accepted event. With `check`, the model has to say the same.
-def value(words, answer, v, bets, room=ROOM, size=None, check=True):
+# ---- Cases of an accepted event, with an answer or without one
+def given(answer, size):
+    """as it is printed: a number, a word, or bytes, which have the size that the words promise"""
+    if answer is None or isinstance(answer, (int, str)):
+        return answer if answer is None else str(answer)
+    assert size is None or len(answer) == size, len(answer)
+    return printed(answer) if len(answer) <= ROOM else 'long'
+
+
+def value(words, answer, v, bets, room=ROOM, size=None):
     """the answer: a number, or the value's bytes"""
-    assert size is None or len(answer) == size, (words, len(answer))
-    if check:
-        assert answer == model.value(v, bets), words
-    given = str(answer) if isinstance(answer, int) else shown(answer)
-    case('v', given, words, record(event(4, TRUE, (), bets)), word(v) + word(room))
+    case('v', given(answer, size), words, record(event(4, TRUE, (), bets)), word(v) + word(room))
 
 
-def equality(words, answer, t, u, bets=(), port=1, size=None, check=True):
+def equality(words, answer, t, u, bets=(), port=1, size=None):
     """the answer: 8, 'none', 'long', or the bindings"""
-    given = answer
-    if not isinstance(answer, (int, str)):
-        data = pairs(*answer)
-        assert size is None or len(data) == size, (words, len(data))
-        given = shown(data) if len(data) <= ROOM else 'long'
-    if check:
-        assert answer == model.equality(t, u, bets), (words, model.equality(t, u, bets))
-    case('u', str(given), words, record(event(port, eq(t, u), (P,), bets)))
+    bound = answer if answer is None or isinstance(answer, (int, str)) else pairs(*answer)
+    case('u', given(bound, size), words, record(event(port, eq(t, u), (P,), bets)))
 
 
 def body(words, answer, definitions, goal, ancestors=(), bets=(), port=1, size=None):
     """the answer: 9, 'none', 'long', or the body's bytes"""
-    assert size is None or len(answer) == size, (words, len(answer))
-    given = answer if isinstance(answer, str) else str(answer) if isinstance(answer, int) else shown(answer)
-    case('b', given, words, record(listed(definitions)), record(event(port, goal, ancestors, bets)))
+    case('b', given(answer, size), words, record(listed(definitions)), record(event(port, goal, ancestors, bets)))

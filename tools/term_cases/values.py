@@ -58,18 +58,18 @@ value('V0 to V1 and V1 to V0, 2,000 times each', V0, 0, [unifier((1, V0)), unifi
 value('V0 to a, V1 to V0, then 3,998 others', A, 1, [chosen(1), by(TRUE), unifier()] * 1332 + [chosen(2)] * 2 + [unifier((0, A)), unifier((1, V0))])
 
 heading('V0 to f(V1) and V1 to f(V0) in turn')
-value('2,046 bets: 8,187 bytes', chain(2046, V0), 0, [unifier((1, f(V0))), unifier((0, f(V1)))] * 1023, size=8187, check=False)
-value('2,048 bets: 8,195 bytes', 8, 0, [unifier((1, f(V0))), unifier((0, f(V1)))] * 1024, check=False)
-value('2,000 bets that begin with V1 to f(V0)', chain(1999, V1), 0, [unifier((0, f(V1))), unifier((1, f(V0)))] * 1000, check=False)
+value('2,046 bets: 8,187 bytes', chain(2046, V0), 0, [unifier((1, f(V0))), unifier((0, f(V1)))] * 1023, size=8187)
+value('2,048 bets: 8,195 bytes', 8, 0, [unifier((1, f(V0))), unifier((0, f(V1)))] * 1024)
+value('2,000 bets that begin with V1 to f(V0)', chain(1999, V1), 0, [unifier((0, f(V1))), unifier((1, f(V0)))] * 1000)
 
 heading('question 8')
 # n symbols of arity 1 have 4n bytes, a constant 4, a symbol of three variables 13.
-value('8,192 bytes in one pair', chain(2047, A), 0, [unifier((0, chain(2047, A)))], size=8192, check=False)
-value('8,193 bytes in one pair', 8, 0, [unifier((0, chain(2045, g(V1, V2, V3))))], check=False)
+value('8,192 bytes in one pair', chain(2047, A), 0, [unifier((0, chain(2047, A)))], size=8192)
+value('8,193 bytes in one pair', 8, 0, [unifier((0, chain(2045, g(V1, V2, V3))))])
 halves = [unifier((0, f(V1, V2)))]
 value('8,192 bytes by two unifiers', f(chain(1000, A), chain(1045, A)), 0, [unifier((1, chain(1000, A)), (2, chain(1045, A)))] + halves,
-      size=8192, check=False)
-value('8,193 bytes by two unifiers', 8, 0, [unifier((1, chain(1000, A)), (2, chain(1043, g(V9, V9, V9))))] + halves, check=False)
+      size=8192)
+value('8,193 bytes by two unifiers', 8, 0, [unifier((1, chain(1000, A)), (2, chain(1043, g(V9, V9, V9))))] + halves)
 # V0 to g(V1, V1), V1 to g(V2, V2), ..: 3, 10, 24, .., 7,164, 14,332 bytes
 doubled = [unifier((k, g(var(k + 1), var(k + 1)))) for k in range(65)]
 
@@ -80,16 +80,16 @@ def tree(n, leaf):
 
 value('10 doublings', tree(10, var(10)), 0, doubled[:10][::-1], size=7164)
 value('11 doublings', 8, 0, doubled[:11][::-1])
-value('64 doublings', 8, 0, doubled[:64][::-1], check=False)
-value('64 doublings in the other order', g(V1, V1), 0, doubled[:64], check=False)
+value('64 doublings', 8, 0, doubled[:64][::-1])
+value('64 doublings in the other order', g(V1, V1), 0, doubled[:64])
 value('11 doublings, then an unbound variable', 8, 0, [unifier((500, A))] + doubled[:11][::-1])
 
 heading('question 5')
-value('32,767 bytes', 5, 0, [unifier((0, A))], room=32767, check=False)
+value('32,767 bytes', 5, 0, [unifier((0, A))], room=32767)
 value('32,768 bytes', A, 0, [unifier((0, A))], room=32768)
 value('65,535 bytes', A, 0, [unifier((0, A))], room=65535)
-value('no output', 5, 0, [], room=0, check=False)
-value('5 before 8', 5, 0, doubled[:11][::-1], room=32767, check=False)
+value('no output', 5, 0, [], room=0)
+value('5 before 8', 5, 0, doubled[:11][::-1], room=32767)
 
 heading('refused events')
 GOOD = event(1, TRUE)

@@ -1,5 +1,5 @@
 """The line that the program walk_cases prints for a text."""
-from step_cases.answers import checksum
+from stored.shown import checksum
 
 SHOWN = 80
 

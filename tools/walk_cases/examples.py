@@ -1,4 +1,4 @@
-"""The documents' own walks and the garages of examples/."""
+"""The specification's own walks and the garages of examples/."""
 import os
 
 from walk_cases.table import *
@@ -6,7 +6,7 @@ from walk_cases.table import *
 EXAMPLES = os.path.join(os.path.dirname(os.path.abspath(__file__)), '..', '..', 'examples')
 
 heading('example')
-case('document 01\'s own', EXAMPLE, EXAMPLE_TEXT)
+case('the specification\'s own', EXAMPLE, EXAMPLE_TEXT)
 # p(V) has body V=a;V=b
 CHOICE = program(definition(5, 1, 0, disj(eq(V0, A), eq(V0, B))))
 case('the bench sheet\'s p(V), V=b', CHOICE + record(conj(atom(5, V0), eq(V0, B))))

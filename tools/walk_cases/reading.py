@@ -3,7 +3,7 @@ from walk_cases.table import *
 
 heading('early end')
 for n in range(len(EXAMPLE)):
-    refused(f'document 01\'s input after {n} bytes', EXAMPLE[:n], 1 if n < len(NO_DEFINITIONS) else 11)
+    refused(f'the specification\'s input after {n} bytes', EXAMPLE[:n], 1 if n < len(NO_DEFINITIONS) else 11)
 refused('a program of version 2 before its last byte: 1 before 2', record(listed([]), version=2)[:-1], 1)
 refused('a query of version 2 before its last byte: 11 before 12', NO_DEFINITIONS + record(TRUE, version=2)[:-1], 11)
 refused('a query\'s field that names one byte more than there are', NO_DEFINITIONS + record(TRUE, length=3), 11)

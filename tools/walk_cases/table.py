@@ -1,18 +1,14 @@
 """The table of cases: each has words, a whole standard input of the walk program, and what was worked out by hand: the text, or of a long one how many
 events it has and the number of its stop line, or None."""
-from record_cases.layout import *
+from stored.layout import *
+from stored.table import Table
 
-cases = []
-subject = ''
-
-
-def heading(words):
-    global subject
-    subject = words
+cases = Table()
+heading = cases.heading
 
 
 def case(words, data, want=None):
-    cases.append((subject + ': ' + words, data, want))
+    cases.case(words, data, want)
 
 
 def agrees(text, want):
@@ -34,7 +30,7 @@ def program(*definitions):
 
 
 NO_DEFINITIONS = program()
-# document 01's own input, and what it prints
+# the specification's own input, and what it prints (SPECIFICATION 9)
 EXAMPLE_QUERY = hexa('00 09 01 12 01 00 00 02 00 02 00')
 EXAMPLE = NO_DEFINITIONS + EXAMPLE_QUERY
 EXAMPLE_TEXT = '0 call 0 0\n1 exit 0 1\nstop 6\n'

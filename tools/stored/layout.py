@@ -1,4 +1,4 @@
-"""The bytes of records, as document 01 lists them. Writes only; a count, an arity, a version or a length that is not the true one is given by name."""
+"""The bytes of records (SPECIFICATION 1). Writes only; a count, an arity, a version or a length that is not the true one is given by name."""
 
 
 def hexa(text):

@@ -19,8 +19,8 @@
  *    5  is the output at least FOURPORT_RECORD bytes?
  *    6  can the walk go on? Not forward from exit or fail without ancestors, nor back from call without ancestors and bets
  *    7  does a rule match? Of a step back also: does the event found lead on to the given one?
- *    8  is each value at most 8,192 bytes?
- *    9  is every new local at most 65,535? In a canonical program: has every definition at most 255 locals?
+ *    8  has each value at most 8,192 bytes?
+ *    9  has each local of the body a number of at most 65,535? In a canonical program: has every definition at most 255 locals?
  *   10  does the result fit FOURPORT_RECORD bytes?
  *
  * The questions are put in this order: 1 to 4, 11 to 14, 5, and then 6 to 10; the second part of 7 is put last.
@@ -86,7 +86,7 @@ uint32_t fourport_run(const uint8_t *program, size_t program_length, const uint8
 uint32_t fourport_value(const uint8_t *event, size_t event_length, uint16_t v, uint8_t *out, size_t out_length, uint32_t *written);
 
 /* The definition that the event's goal names, as a part of the program: answers its length, and `at` is where in the program it starts.
- * Both are 0 if a record is refused, the goal is no atom, or the program has no definition of it. */
+ * Both are 0 where a record is refused, where the goal is not an atom, and where the program does not define its predicate. */
 size_t fourport_lookup(const uint8_t *program, size_t program_length, const uint8_t *event, size_t event_length, size_t *at);
 
 /* How many events of each port a walk passed. The caller starts them at 0. */

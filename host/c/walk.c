@@ -1,5 +1,5 @@
 /* Walks a query forward to where it stops, one step at a time, and then back to its first event, and prints the port of each event on the way.
- * The file has a program record and then a query record, as those under examples/ have.
+ * The file has two records, the program and behind it the query, as those under examples/ have.
  *
  *   rt staticlib fourport
  *   cc -std=c99 -Wall -Wextra -Iinclude host/c/walk.c target/staticlib/libfourport.a -o target/c-walk

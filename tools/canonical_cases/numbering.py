@@ -1,4 +1,4 @@
-"""Numbering: the j-th clause's variable i becomes n + (variable counts of the same predicate's earlier clauses) + i; locals is the sum of the counts."""
+"""Numbering (SPECIFICATION 2): variable i of clause cj is renamed to n + v1 + .. + v(j-1) + i; the definition has v1 + .. + vk locals."""
 from canonical_cases.table import *
 
 heading('numbering')

@@ -6,16 +6,6 @@ cases = Table()
 heading = cases.heading
 
 
-def shown(result):
-    """as the program prints it: in hexadecimal digits, or the length and the checksum of one of more than 64 bytes"""
-    if len(result) <= 64:
-        return result.hex()
-    total = 0
-    for b in result:
-        total = (total * 31 + b) % 65521
-    return f'length {len(result)} checksum {total}'
-
-
 def refused(number, words, data, kind='w'):
     cases.case(words, kind, number, data, b'')
 

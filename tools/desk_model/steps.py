@@ -44,7 +44,7 @@ def only(made_by):
 
 
 def fitting(condition, event):
-    """question 10, which is not put for two terms that can't be unified"""
+    """question 10, not asked where an equality without a unifier is called (SPECIFICATION 7.6)"""
     if condition != 'no unifier':
         record_fits(event.length)
     return event

@@ -1,9 +1,9 @@
-"""The one unifier of two terms: idempotent, most general, of variables made equal and otherwise free the lowest stays."""
+"""The unifier of two terms (SPECIFICATION 5.1): the one most general list of pairs, no bound variable in a term, none bound to a higher one."""
 from desk_model.trees import *
 
 
 class Cyclic(Exception):
-    """a variable would equal a larger term that contains it"""
+    """a variable would have to be a proper part of its own term"""
 
 
 def unifier(left, right):

@@ -1,4 +1,4 @@
--- The last page of the canonical form: of demand 2 (SPECIFICATION 9), that clauses become the canonical form which the calculus works on, said of
+-- The last page of the canonical form: of demand 2 (SPECIFICATION 9.6), that clauses become the canonical form which the calculus works on, said of
 -- the service on bytes. The rest of demand 2 is the stepper's last page, `Demands`: its rules find a predicate's definition by `definition-of`.
 use mathlib.Core.Path.{_≡_, sym, ap, _∙_}
 use mathlib.Core.Logic.{_↔_}
@@ -10,14 +10,14 @@ use Rattle.records.specs.Format.Syntax.{Clause}
 use Rattle.records.specs.Format.Encode.{program-record}
 use Rattle.records.specs.Gate.RecordRules.{every, rising, keys}
 use Rattle.records.specs.Format.HeadLaws.{Bytes}
-use Rattle.records.specs.Gate.Gate.{tree, read-clauses, read-program}
-use Rattle.records.specs.Gate.GateLaws.{front, clauses-tree}
+use Rattle.records.specs.Gate.Gate.{tree, read-clauses, read-program, front-record}
+use Rattle.records.specs.Gate.GateLaws.{clauses-tree, tree-injective}
 use Rattle.terms.specs.Body.Body.{definition-of}
 use Rattle.canonical.specs.Form.Canonical.{predicate, clauses-of, defined-by, canonical}
 use Rattle.canonical.specs.Writing.Service.{locals-fit, canonical-record}
 use Rattle.canonical.specs.Form.LookupLaws.{canonical-of, canonical-rises}
 use Rattle.canonical.specs.Form.FormedLaws.{arities-fit}
-use Rattle.canonical.specs.Writing.ServiceLaws.{same-clauses, canonical-done, canonical-done-iff}
+use Rattle.canonical.specs.Writing.ServiceLaws.{canonical-done, canonical-done-iff}
 
 -- The record s is the program that the clauses cs become: it passes questions 1 to 4 and says their canonical form, in which definitions rise by
 -- predicate, then arity, and the definition found for p of arity n is the one that its own clauses make: their branches in the clauses' order, and
@@ -30,11 +30,11 @@ pub record Became (cs : List Clause) (s : List ℕ) : Type 0 where
 -- For every clause record s that passes questions 1 to 4, and every buffer `out`:
 module _ (s : List ℕ) (b : Bytes s) (cs : List Clause) (h : read-clauses s ≡ tree cs) (out : List ℕ) where
   -- where the service is done, it wrote the program that the clauses become;
-  pub demand-2-clauses : canonical-record s out .number ≡ 0 → Became cs (front (canonical-record s out .output))
+  pub demand-2-clauses : canonical-record s out .number ≡ 0 → Became cs (front-record (canonical-record s out .output))
   demand-2-clauses n =
       let d = canonical-done s b out n in
       record {
-        reads = d .passes ∙ ap (λ c. tree (canonical c)) (same-clauses (d .read) cs (sym (d .reads) ∙ h));
+        reads = d .passes ∙ ap (λ c. tree (canonical c)) (tree-injective (sym (d .reads) ∙ h));
         rises = canonical-rises cs (arities-fit cs (clauses-tree s b cs h .formed .1));
         found = canonical-of cs;
       }

@@ -1,9 +1,9 @@
 -- Sorting: the entries of a record's clauses, picked one after the other, are those of each predicate in turn.
 pub mod Entries
-pub mod EntryLaws
 pub mod Picking
-pub mod PickingLaws
 pub mod Groups
-pub mod GroupLaws
 pub mod Remaining
+pub mod EntryLaws
+pub mod PickingLaws
+pub mod GroupLaws
 pub mod RemainingLaws

@@ -1,11 +1,11 @@
 -- Writing: the bytes of a branch, of a definition and of a program, and the service.
 pub mod PartlyPut
 pub mod Equation
-pub mod BranchLaws
 pub mod Definition
-pub mod DefinitionLaws
 pub mod Program
-pub mod ProgramLaws
 pub mod Service
+pub mod BranchLaws
+pub mod DefinitionLaws
+pub mod ProgramLaws
 pub mod ServiceLaws
 pub mod ReplyLaws

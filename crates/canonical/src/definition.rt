@@ -1,5 +1,6 @@
 // The clauses of one predicate, a group of the sorted entries: measured, and written as the predicate's definition.
 use crate::branch::put_branch;
+use crate::order::PLACES;
 use records::ends::Found;
 use records::ends::clause_end;
 use records::heads::Signature;
@@ -56,7 +57,7 @@ pub fn group_totals(s: &[u8], group: &[usize]) -> Totals
     let mut size: usize = 0;
     let mut i = 0;
     while i < group.len() {
-        let place = group[i] % 65536;
+        let place = group[i] % PLACES;
         locals += clause_variables(s, place);
         size += clause_size(s, place);
         i += 1;
@@ -76,13 +77,13 @@ fn put_branches(out: &mut [u8], first: usize, s: &[u8], group: &[usize], arity: 
     let mut base = arity;
     let mut i = 0;
     while i + 1 < group.len() {
-        let place = group[i] % 65536;
+        let place = group[i] % PLACES;
         let branch_at = put_byte(out, at, DISJ);
         at = put_branch(out, branch_at, s, place, base);
         base += clause_variables(s, place);
         i += 1;
     }
-    let last = group[i] % 65536;
+    let last = group[i] % PLACES;
     put_branch(out, at, s, last, base)
 }
 
@@ -94,7 +95,7 @@ pub fn put_definition(out: &mut [u8], at: usize, s: &[u8], group: &[usize]) -> u
     requires { ⌜ at + length (definition-bytes (group-definition (clauses-in (now s) (now group)))) ≤ length (now out) ⌝ }
     ensures { λ r. ⌜ Put (now (out .entry)) at (definition-bytes (group-definition (clauses-in (now (s .entry)) (now (group .entry))))) (now (out .exit)) r ⌝ }
 {
-    let place = group[0] % 65536;
+    let place = group[0] % PLACES;
     let Signature::Predicate(p, k, _) = clause_head(s, place) else {
         return at;
     };

@@ -10,6 +10,13 @@ ghost use Rattle.canonical.specs.Sorting.Picking.{better, least, picked,
 ghost use Rattle.canonical.specs.Sorting.Entries.{ClausesAt, clause-entries, entry-key};
 ghost use Rattle.canonical.specs.Sorting.Groups.{group-length};
 
+// An entry is (predicate * ARITIES + arity) * PLACES + place of its clause; all are below ENTRY_LIMIT.
+const ARITIES: usize = 256;
+
+pub const PLACES: usize = 65536;
+
+const ENTRY_LIMIT: usize = 1099511627776;
+
 // The entries of the clauses of a record, as they stand.
 pub fn list_clauses(s: &[u8], table: &mut [usize])
     requires { ⌜ ClausesAt (now s) (length (now table)) ⌝ }
@@ -24,7 +31,7 @@ pub fn list_clauses(s: &[u8], table: &mut [usize])
         let Found::At(e) = clause_end(s, pos) else {
             return;
         };
-        table[i] = (p * 256 + k) * 65536 + pos;
+        table[i] = (p * ARITIES + k) * PLACES + pos;
         pos = e;
         i += 1;
     }
@@ -44,7 +51,7 @@ fn better(low: usize, best: usize, x: usize) -> usize
 fn least(table: &[usize], low: usize) -> usize
     ensures { λ r. ⌜ r ≡ least low entry-limit (now (table .entry)) ⌝ }
 {
-    let mut best: usize = 1099511627776;
+    let mut best: usize = ENTRY_LIMIT;
     let mut i = 0;
     while i < table.len() {
         best = better(low, best, table[i]);
@@ -73,10 +80,10 @@ pub fn group_end(sorted: &[usize], i: usize) -> usize
     requires { ⌜ i < length (now sorted) ⌝ }
     ensures { λ r. ⌜ r ≡ i + group-length (entry-key (getD (now (sorted .entry)) i 0)) (drop i (now (sorted .entry))) ⌝ }
 {
-    let key = sorted[i] / 65536;
+    let key = sorted[i] / PLACES;
     let mut j = i;
     while j < sorted.len() {
-        if sorted[j] / 65536 != key {
+        if sorted[j] / PLACES != key {
             return j;
         }
         j += 1;

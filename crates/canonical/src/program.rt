@@ -27,7 +27,7 @@ pub enum Survey {
     TooMany,
 }
 
-// The number for a survey (SPECIFICATION 7): question 9, then 10 for the record, which has five bytes besides the definitions; 0 where neither says no.
+// The number for a survey (SPECIFICATION 7.6, 8.9): question 9, then 10 for the record, which has five bytes besides the definitions; 0 where neither says no.
 fn survey_refusal(survey: Survey) -> u8
     ensures { λ r. ⌜ r ≡ survey-refusal survey ⌝ }
 {
@@ -36,6 +36,9 @@ fn survey_refusal(survey: Survey) -> u8
         Survey::TooMany => LOCALS,
     }
 }
+
+// The locals of a definition are counted in one byte.
+const LOCALS_LIMIT: usize = 255;
 
 // What the definitions of the sorted entries come to.
 pub fn measure_program(s: &[u8], sorted: &[usize]) -> Survey
@@ -48,7 +51,7 @@ pub fn measure_program(s: &[u8], sorted: &[usize]) -> Survey
     while i < sorted.len() {
         let j = group_end(sorted, i);
         let totals = group_totals(s, &sorted[i..j]);
-        if 255 < totals.locals {
+        if LOCALS_LIMIT < totals.locals {
             return Survey::TooMany;
         }
         count += 1;

@@ -29,7 +29,10 @@ fn put_sorted(s: &[u8], table: &mut [usize], sorted: &mut [usize], out: &mut [u8
     put_program(s, sorted, out)
 }
 
-// The same with tables that any record's entries fit: a clause has five bytes or more, so there are at most 6,552.
+// A clause has five bytes or more, so no record has more clauses.
+const MOST_CLAUSES: usize = 6552;
+
+// The same with tables that any record's entries fit.
 fn put_canonical(s: &[u8], table: &mut [usize], sorted: &mut [usize], out: &mut [u8]) -> u8
     requires { ⌜ Accepted (read-clauses (now s)) ⌝ }
     requires { ⌜ 6552 ≤ length (now table) ⌝ }
@@ -54,7 +57,7 @@ pub fn canonical(clauses: &[u8], out: &mut [u8]) -> u8
     if out.len() < RECORD_LIMIT {
         return OUTPUT;
     }
-    let mut table: [usize; 6552] = [0; 6552];
-    let mut sorted: [usize; 6552] = [0; 6552];
+    let mut table: [usize; MOST_CLAUSES] = [0; MOST_CLAUSES];
+    let mut sorted: [usize; MOST_CLAUSES] = [0; MOST_CLAUSES];
     put_canonical(clauses, &mut table, &mut sorted, out)
 }

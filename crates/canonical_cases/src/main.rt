@@ -1,49 +1,29 @@
 // Makes the programs of clause records from standard input, and prints a line for each: its ordinal from 1, the number, and, where that is 0, the
-// program's record in hexadecimal digits, or the length and the checksum of one of more than 64 bytes.
+// program's record in hexadecimal digits; of more than 64 bytes their number, the first 16 and the checksum.
 // A case is a byte (w an output of 32,768 bytes, any other byte one of 32,767), a four-byte length, high byte first, and that many bytes.
 use canonical::service::canonical;
 use case_io::input::read_field;
 use case_io::input::read_kind;
-use case_io::input::wide;
-use case_io::line::front;
 use case_io::line::print_end;
 use case_io::line::print_number;
 use case_io::line::print_record;
+use case_io::line::record_length;
 
-// Each byte is added to 31 times the sum of those before it, modulo 65,521.
-fn checksum(s: &[u8]) -> usize {
-    let mut sum: usize = 0;
-    let mut i = 0;
-    while i < s.len() {
-        sum = (sum * 31 + wide(s[i])) % 65521;
-        i += 1;
-    }
-    sum
-}
+// A record of at most so many bytes is printed whole.
+const SHOWN_WHOLE: usize = 64;
 
-fn print_program(s: &[u8]) {
-    if s.len() <= 64 {
-        print_record(s, 64);
-        return;
-    }
-    io::write_all(1, b" length");
-    print_number(s.len() as u64);
-    io::write_all(1, b" checksum");
-    print_number(checksum(s) as u64);
-}
-
-// The record that the output starts with.
-fn print_front(out: &[u8]) {
-    let n = front(out);
-    print_program(&out[..n]);
+// The program's record, which the output starts with.
+fn print_program(out: &[u8]) {
+    let n = record_length(out);
+    print_record(&out[..n], SHOWN_WHOLE);
 }
 
 fn print_case(ordinal: u64, clauses: &[u8], out: &mut [u8]) {
     let number = canonical(clauses, out);
     io::print_decimal(1, ordinal);
-    print_number(wide(number) as u64);
+    print_number(number as u64);
     if number == 0 {
-        print_front(out);
+        print_program(out);
     }
     print_end();
 }

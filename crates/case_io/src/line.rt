@@ -95,7 +95,7 @@ pub fn print_record(bytes: &[u8], most: usize)
 }
 
 // How many bytes the record has that a buffer starts with, by its length field; none where the buffer does not hold so many.
-pub fn front(buffer: &[u8]) -> usize
+pub fn record_length(buffer: &[u8]) -> usize
     ensures { λ r. ⌜ Counts r (now (buffer .entry)) ⌝ }
 {
     if buffer.len() < 2 {

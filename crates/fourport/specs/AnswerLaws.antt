@@ -16,10 +16,10 @@ use Rattle.records.specs.declared.put.Range.{Range}
 use Rattle.terms.specs.Theory.Outcome.{value-limit, value}
 use Rattle.terms.specs.Theory.OutcomeLaws.{Valued, within, beyond, valued}
 use Rattle.terms.specs.Values.ValueService.{within-limit, bets-of, value-into, value-answer}
-use Rattle.stepper.specs.Services.Lookup.{Part, range-of}
+use Rattle.stepper.specs.Services.Lookup.{ProgramPart, range-of}
 
 -- the range of a part
-module _ {r : Range} (p : Part) (e : r ≡ range-of p) where
+module _ {r : Range} (p : ProgramPart) (e : r ≡ range-of p) where
   pub range-in-order : r .from ≤ r .to
   range-in-order = rw e (omega arith)
 

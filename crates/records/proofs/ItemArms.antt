@@ -6,14 +6,14 @@ use mathlib.Core.List.{List}
 use Rattle.records.specs.Gate.RecordRules.{every}
 use Rattle.records.specs.Format.Reader.{Read}
 use Rattle.records.specs.Format.Items.{Reader}
-use Rattle.records.specs.Gate.Rows.{Ends, holds, kept-at, row-at, First, row-more, row-first, row-none, item-kept, items-kept, item-rules}
+use Rattle.records.specs.Gate.Rows.{Ends, holds, kept-at, row-at, RowFirst, row-more, row-first, row-none, item-kept, items-kept, item-rules}
 use Rattle.records.specs.Ends.ItemEnds.{item-reader, item-end, items-end}
 use Rattle.records.specs.declared.ends.Found.{Found}
 use Rattle.records.specs.declared.ends.Found.the-variants.{At, Nothing}
 use Rattle.records.specs.declared.ends.Item.{Item}
 
 -- the rules of the first of a row, and of the rest
-every-next : {A : Type 0} (rules : A → Bool) (r : Reader A) (s : List ℕ) (n at e : ℕ) → First r s n at e → every rules (row-at r n s at) ≡ (kept-at rules r s at && every rules (row-at r (n - 1) s e))
+every-next : {A : Type 0} (rules : A → Bool) (r : Reader A) (s : List ℕ) (n at e : ℕ) → RowFirst r s n at e → every rules (row-at r n s at) ≡ (kept-at rules r s at && every rules (row-at r (n - 1) s e))
 unfolding kept-at
 every-next rules r s n at e d =
     ap (every rules) (d .row) ∙ ap (λ (o : Read _). holds rules o && every rules (row-at r (n - 1) s e)) (sym (d .is))

@@ -3,15 +3,16 @@ use Prim.Native.Nat.{ℕ, _+_, _-_, _*_, _≤_, _<_}
 use native.Mathlib.Numerals.{add-one}
 use native.Mathlib.Omega.{arith}
 use mathlib.Core.Path.{_≡_, refl, sym, ap, _∙_}
-use mathlib.Core.Bool.{Bool, true, false, not, _&&_, true≢false}
+use mathlib.Core.Bool.{Bool, true, false, not, _&&_}
 use mathlib.Core.List.{List, [], _∷_, _++_}
 use lib.Dec.{leb}
 use lib.ListN.{drop, replicate}
 use Rattle.records.specs.Format.Syntax.{Binding, Definition}
 use Rattle.records.specs.Format.Syntax.Definition.{definition}
 use Rattle.records.specs.Format.Formed.{All, BindingFormed}
-use Rattle.records.specs.Gate.RecordRules.{every, bound, free, rising, rising-from, key, keys, unifier-rules, definition-rules, clause-rules}
-use Rattle.records.specs.Gate.Bools.{every-append, rising-next, rising-not}
+use Rattle.records.specs.Gate.RecordRules.{every, bound, free, rising-from, key, keys, unifier-rules, definition-rules, clause-rules}
+use Rattle.records.specs.Format.Never.{never}
+use Rattle.records.specs.Gate.BoolLaws.{every-append, rising-next, rising-not}
 use Rattle.records.specs.Format.Heads.{word-at, definition-head, definition-head-at, clause-head-at}
 use Rattle.records.specs.Format.HeadLaws.{Known, bytes-all, bytes-drop}
 use Rattle.records.specs.Format.Reader.{Read, Parts, also, read}
@@ -95,7 +96,7 @@ definition-key s at {h} {p} {k} {m} {n} {d} is q e =
     go (read (drop 4 (drop at s)) 0 1) (rw x at e)
   where
     go : (o : Read Parts) → also (λ w. definition p k m (first-goal w)) 4 o ≡ found d n → key d ≡ p * 256 + k
-    go unread z = absurd (true≢false cc)
+    go unread z = never cc
     go (found w j) z = let y : definition p k m (first-goal w) ≡ d = cc in rw (← y)
 
 keys-next : (s : List ℕ) (n at : ℕ) {h : Signature} {p k m : ℕ} {f : Found} {e : ℕ} → 0 < n → Ends (end-of (many read-definition n) s at) → h ≡ definition-head-at s at → h ≡ Predicate p k m
@@ -118,7 +119,7 @@ ranks-next Definitions s n at {x = x} {e = e} z w is q ends g = go (definition-h
     go : (i : Signature) → definition-head-at s at ≡ i → signature-rank i ≡ Number x
         → (keys (row-at read-definition n s at) ≡ x ∷ keys (row-at read-definition (n - 1) s e)) × Ends (end-of (many read-definition (n - 1)) s e)
     go (Predicate p k m) a b = let y : p * 256 + k ≡ x = cc in rw (← y) (keys-next s n at z w (sym a) refl ends g)
-    go NoPredicate a b = absurd (true≢false cc)
+    go NoPredicate a b = never cc
 
 pub no-rank : {P : Type 0} (row : Ranked) (s : List ℕ) (n at : ℕ) {h : Word} → 0 < n → Ends (ranks-end row n s at) → h ≡ rank-at row s at → h ≡ Short → P
 unfolding rank-at ranks-end
@@ -126,7 +127,7 @@ no-rank Pairs s n at z w is q = no-pair s n at z w is q
 no-rank {P} Definitions s n at z w is q = go (definition-head-at s at) refl (sym is ∙ q)
   where
     go : (i : Signature) → definition-head-at s at ≡ i → signature-rank i ≡ Short → P
-    go (Predicate p k m) a b = absurd (true≢false cc)
+    go (Predicate p k m) a b = never cc
     go NoPredicate a b = no-key s n at z w (sym a) refl
 
 pub no-ranked : {P : Type 0} (row : Ranked) (s : List ℕ) (n at : ℕ) {f : Found} → 0 < n → Ends (ranks-end row n s at) → f ≡ ranked-end row s at → f ≡ Nothing → P
@@ -140,7 +141,7 @@ rank-room Definitions s at known {x = x} is q = go (definition-head-at s at) ref
   where
     go : (i : Signature) → definition-head-at s at ≡ i → signature-rank i ≡ Number x → x < 16777216
     go (Predicate p k m) a b = let y : p * 256 + k ≡ x = cc in omega (arith, y, definition-room s at known (sym a) (Predicate p k m) refl)
-    go NoPredicate a b = absurd (true≢false cc)
+    go NoPredicate a b = never cc
 
 -- one number of a row that is to rise
 rises : {l k : List ℕ} {low x : ℕ} → l ≡ x ∷ k → low ≤ x → rising-from low l ≡ rising-from (x + 1) k
@@ -226,10 +227,10 @@ module _ (s : List ℕ) (at n : ℕ) (known : Known s) (w : Ends (end-of (many r
 
 -- no unifier
 pub or-other : {k : ℕ} (n : ℕ) → Or k ≡ Unifier n → ⊥
-or-other n e = true≢false cc
+or-other n e = never cc
 
 pub by-other : (n : ℕ) → By ≡ Unifier n → ⊥
-by-other n e = true≢false cc
+by-other n e = never cc
 
 pub none-other : (n : ℕ) → NoBet ≡ Unifier n → ⊥
-none-other n e = true≢false cc
+none-other n e = never cc

@@ -10,15 +10,15 @@ use Rattle.records.specs.declared.heads.TermHead.{TermHead}
 use Rattle.records.specs.declared.heads.TermHead.the-variants.{Variable, Symbol, NoTerm}
 use Rattle.records.specs.declared.heads.GoalHead.{GoalHead}
 use Rattle.records.specs.declared.heads.GoalHead.the-variants.{Truth, Failure, Equal, Conj, Disj, Atom, NoGoal}
-use Rattle.records.specs.declared.traverse.Step.{Step}
-use Rattle.records.specs.declared.traverse.Step.the-variants.{Variable as Met, Other, Done}
+use Rattle.records.specs.declared.traverse.NodeStep.{NodeStep}
+use Rattle.records.specs.declared.traverse.NodeStep.the-variants.{Variable as Met, Other, Done}
 
-abbrev pub term-step : ℕ → ℕ → ℕ → TermHead → Step
+abbrev pub term-step : ℕ → ℕ → ℕ → TermHead → NodeStep
 term-step p t g (Variable v) = Met v (record { pos = p + 3; terms = t - 1; goals = g })
 term-step p t g (Symbol f k) = Other (record { pos = p + 4; terms = k + (t - 1); goals = g })
 term-step p t g NoTerm = Done
 
-abbrev pub goal-step : ℕ → ℕ → GoalHead → Step
+abbrev pub goal-step : ℕ → ℕ → GoalHead → NodeStep
 goal-step p g Truth = after-goal p 1 0 0 g
 goal-step p g Failure = after-goal p 1 0 0 g
 goal-step p g Equal = after-goal p 1 2 0 g
@@ -60,5 +60,5 @@ module _ (s : List ℕ) (p : ℕ) where
   pub goals-only : (t g : ℕ) → t ≡ 0 → On (traverse s p t g) → On (traverse s p 0 g)
   goals-only t g e h = rw e at h
 
-  pub goals-step : {r : Step} (t g : ℕ) → t ≡ 0 → r ≡ next-step s p 0 g → r ≡ next-step s p t g
+  pub goals-step : {r : NodeStep} (t g : ℕ) → t ≡ 0 → r ≡ next-step s p 0 g → r ≡ next-step s p t g
   goals-step t g e q = rw e q

@@ -2,11 +2,12 @@
 pub mod Syntax
 pub mod Encode
 pub mod Formed
-pub mod Written
 pub mod Heads
-pub mod HeadLaws
 pub mod Reader
-pub mod ReaderLaws
 pub mod Items
+pub mod Never
+pub mod HeadLaws
+pub mod ReaderLaws
 pub mod ItemLaws
 pub mod Exact
+pub mod WrittenLaws

@@ -60,32 +60,32 @@ pub fn args_end(s: &[u8], at: usize, k: usize) -> Found
 }
 
 // What follows a goal's own head and terms: from where on, and how many goals the head announced.
-pub enum Onward {
+pub enum GoalHeadEnd {
     On(usize, usize),
     Off,
 }
 
-fn announced(f: Found) -> Onward
+fn announced(f: Found) -> GoalHeadEnd
     ensures { λ r. ⌜ r ≡ announced f ⌝ }
 {
     match f {
-        Found::At(e) => Onward::On(e, 0),
-        Found::Nothing => Onward::Off,
+        Found::At(e) => GoalHeadEnd::On(e, 0),
+        Found::Nothing => GoalHeadEnd::Off,
     }
 }
 
 // One goal's head, and the terms that follow it.
-fn next_goal(s: &[u8], at: usize) -> Onward
+fn next_goal(s: &[u8], at: usize) -> GoalHeadEnd
     ensures { λ r. ⌜ r ≡ next-goal (now (s .entry)) at ⌝ }
 {
     match goal_head(s, at) {
-        GoalHead::Truth => Onward::On(at + 1, 0),
-        GoalHead::Failure => Onward::On(at + 1, 0),
+        GoalHead::Truth => GoalHeadEnd::On(at + 1, 0),
+        GoalHead::Failure => GoalHeadEnd::On(at + 1, 0),
         GoalHead::Equal => announced(args_end(s, at + 1, 2)),
-        GoalHead::Conj => Onward::On(at + 1, 2),
-        GoalHead::Disj => Onward::On(at + 1, 2),
+        GoalHead::Conj => GoalHeadEnd::On(at + 1, 2),
+        GoalHead::Disj => GoalHeadEnd::On(at + 1, 2),
         GoalHead::Atom(_, k) => announced(args_end(s, at + 4, k)),
-        GoalHead::NoGoal => Onward::Off,
+        GoalHead::NoGoal => GoalHeadEnd::Off,
     }
 }
 
@@ -98,11 +98,11 @@ pub fn goals_end(s: &[u8], at: usize, g: usize) -> Found
     let mut left = g;
     while 0 < left {
         match next_goal(s, pos) {
-            Onward::On(e, more) => {
+            GoalHeadEnd::On(e, more) => {
                 pos = e;
                 left = more + (left - 1);
             }
-            Onward::Off => {
+            GoalHeadEnd::Off => {
                 return Found::Nothing;
             }
         }

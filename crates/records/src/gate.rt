@@ -221,7 +221,7 @@ pub fn clauses_verdict(s: &[u8]) -> Verdict
     }
 }
 
-// The number (SPECIFICATION 7) for a program or a clause record.
+// The number (SPECIFICATION 7.2) for a program or a clause record.
 pub fn program_number(v: Verdict) -> u8
     ensures { λ r. ⌜ r ≡ program-number v ⌝ }
 {
@@ -234,7 +234,7 @@ pub fn program_number(v: Verdict) -> u8
     }
 }
 
-// The number (SPECIFICATION 7) for a query or an event.
+// The number (SPECIFICATION 7.2) for a query or an event.
 pub fn event_number(v: Verdict) -> u8
     ensures { λ r. ⌜ r ≡ event-number v ⌝ }
 {

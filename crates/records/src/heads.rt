@@ -1,4 +1,5 @@
 // The first bytes of what stands at a position: its kind and numbers.
+use crate::kinds::ARITY_LIMIT;
 use crate::kinds::*;
 ghost use mathlib.Core.Path.{_≡_};
 ghost use Prim.Native.Nat.{_+_, _-_, _≤_, _<_};
@@ -92,7 +93,7 @@ pub fn term_head(s: &[u8], at: usize) -> TermHead
         return TermHead::NoTerm;
     }
     let k = wide(s[at + 3]);
-    if k <= 16 {
+    if k <= ARITY_LIMIT {
         return TermHead::Symbol(n, k);
     }
     TermHead::NoTerm
@@ -107,7 +108,7 @@ fn atom_head(s: &[u8], at: usize) -> GoalHead
     }
     let p = two_bytes(s, at);
     let k = wide(s[at + 2]);
-    if k <= 16 {
+    if k <= ARITY_LIMIT {
         return GoalHead::Atom(p, k);
     }
     GoalHead::NoGoal
@@ -227,7 +228,7 @@ pub fn definition_head(s: &[u8], at: usize) -> Signature
     let p = two_bytes(s, at);
     let k = wide(s[at + 2]);
     let n = wide(s[at + 3]);
-    if k <= 16 {
+    if k <= ARITY_LIMIT {
         return Signature::Predicate(p, k, n);
     }
     Signature::NoPredicate

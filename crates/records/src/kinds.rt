@@ -1,6 +1,10 @@
-// The bytes and sizes that SPECIFICATION 1 fixes: the limit and the version of every record, ports, tags, and the kinds of terms, goals,
-// ancestors and bets. An ancestor that is an atom has the atom's kind.
+// The bytes and sizes that SPECIFICATION 1 and 10 fix: the limits of records, of values and of arities, the version of every record, ports, tags,
+// and the kinds of terms, goals, ancestors and bets. An ancestor that is an atom has the atom's kind.
 pub const RECORD_LIMIT: usize = 32768;
+
+pub const VALUE_LIMIT: usize = 8192;
+
+pub const ARITY_LIMIT: usize = 16;
 
 pub const VERSION: u8 = 1;
 

@@ -96,11 +96,14 @@ fn put_body(out: &mut [u8], at: usize, p: Plan, source: &[u8]) -> usize
     put_stack(out, bets_at, p.bets, source)
 }
 
-// A length, or 32,769 where it is more: no record is that long. Each part's length is limited, so that no sum wraps.
+// No record is that long.
+const BEYOND: usize = RECORD_LIMIT + 1;
+
+// A length, or BEYOND where it is more. Each part's length is limited, so that no sum wraps.
 fn limit(n: usize) -> usize
     ensures { λ r. ⌜ r ≡ limited n ⌝ }
 {
-    if n < 32769 { n } else { 32769 }
+    if n < BEYOND { n } else { BEYOND }
 }
 
 // How many bytes a range has; none where its places are out of order.

@@ -16,7 +16,7 @@ use crate::sets::is_marked;
 use crate::sets::mark;
 use crate::sets::with_variable;
 use crate::traverse::Cursor;
-use crate::traverse::Step;
+use crate::traverse::NodeStep;
 use crate::traverse::next_node;
 use crate::traverse::variables_top;
 ghost use mathlib.Core.Path.{_≡_};
@@ -42,17 +42,17 @@ fn meets_exactly(s: &[u8], start: Cursor, v: usize) -> bool
     let mut set: u64 = 0;
     loop {
         match next_node(s, c) {
-            Step::Variable(x, d) => {
+            NodeStep::Variable(x, d) => {
                 if v <= x {
                     return false;
                 }
                 set = with_variable(set, x);
                 c = d;
             }
-            Step::Other(d) => {
+            NodeStep::Other(d) => {
                 c = d;
             }
-            Step::Done => {
+            NodeStep::Done => {
                 return is_full(set, v);
             }
         }
@@ -72,16 +72,16 @@ fn avoids(s: &[u8], at: usize, marks: &[u64]) -> bool
     };
     loop {
         match next_node(s, c) {
-            Step::Variable(x, d) => {
+            NodeStep::Variable(x, d) => {
                 if is_marked(marks, x) {
                     return false;
                 }
                 c = d;
             }
-            Step::Other(d) => {
+            NodeStep::Other(d) => {
                 c = d;
             }
-            Step::Done => {
+            NodeStep::Done => {
                 return true;
             }
         }

@@ -16,19 +16,19 @@ pub struct Cursor {
 }
 
 // A variable or another node, with the place after it, or nothing more to come.
-pub enum Step {
+pub enum NodeStep {
     Variable(usize, Cursor),
     Other(Cursor),
     Done,
 }
 
-fn next_term(s: &[u8], pos: usize, terms: usize, goals: usize) -> Step
+fn next_term(s: &[u8], pos: usize, terms: usize, goals: usize) -> NodeStep
     requires { ⌜ 0 < terms ⌝ }
     requires { ⌜ On (traverse (now s) pos terms goals) ⌝ }
     ensures { λ r. ⌜ r ≡ next-step (now (s .entry)) pos terms goals ⌝ }
 {
     match term_head(s, pos) {
-        TermHead::Variable(v) => Step::Variable(
+        TermHead::Variable(v) => NodeStep::Variable(
             v,
             Cursor {
                 pos: pos + 3,
@@ -36,30 +36,30 @@ fn next_term(s: &[u8], pos: usize, terms: usize, goals: usize) -> Step
                 goals,
             },
         ),
-        TermHead::Symbol(_, k) => Step::Other(Cursor {
+        TermHead::Symbol(_, k) => NodeStep::Other(Cursor {
             pos: pos + 4,
             terms: k + (terms - 1),
             goals,
         }),
-        TermHead::NoTerm => Step::Done,
+        TermHead::NoTerm => NodeStep::Done,
     }
 }
 
 // After a goal's head of so many bytes, with the terms and goals that it announces.
-fn after_goal(pos: usize, size: usize, terms: usize, more: usize, goals: usize) -> Step
+fn after_goal(pos: usize, size: usize, terms: usize, more: usize, goals: usize) -> NodeStep
     requires { ⌜ pos + size < 2 ^ 64 ⌝ }
     requires { ⌜ more + (goals - 1) < 2 ^ 64 ⌝ }
     requires { ⌜ 0 < goals ⌝ }
     ensures { λ r. ⌜ r ≡ after-goal pos size terms more goals ⌝ }
 {
-    Step::Other(Cursor {
+    NodeStep::Other(Cursor {
         pos: pos + size,
         terms,
         goals: more + (goals - 1),
     })
 }
 
-fn next_goal(s: &[u8], pos: usize, goals: usize) -> Step
+fn next_goal(s: &[u8], pos: usize, goals: usize) -> NodeStep
     requires { ⌜ 0 < goals ⌝ }
     requires { ⌜ On (traverse (now s) pos 0 goals) ⌝ }
     ensures { λ r. ⌜ r ≡ next-step (now (s .entry)) pos 0 goals ⌝ }
@@ -71,12 +71,12 @@ fn next_goal(s: &[u8], pos: usize, goals: usize) -> Step
         GoalHead::Conj => after_goal(pos, 1, 0, 2, goals),
         GoalHead::Disj => after_goal(pos, 1, 0, 2, goals),
         GoalHead::Atom(_, k) => after_goal(pos, 4, k, 0, goals),
-        GoalHead::NoGoal => Step::Done,
+        GoalHead::NoGoal => NodeStep::Done,
     }
 }
 
 // One node of a traversal.
-pub fn next_node(s: &[u8], c: Cursor) -> Step
+pub fn next_node(s: &[u8], c: Cursor) -> NodeStep
     requires { ⌜ On (traverse (now s) (c .pos) (c .terms) (c .goals)) ⌝ }
     ensures { λ r. ⌜ r ≡ next-step (now (s .entry)) (c .pos) (c .terms) (c .goals) ⌝ }
 {
@@ -89,7 +89,7 @@ pub fn next_node(s: &[u8], c: Cursor) -> Step
     if 0 < goals {
         return next_goal(s, pos, goals);
     }
-    Step::Done
+    NodeStep::Done
 }
 
 // One more than the greatest variable of a traversal, or 0, and where the traversal ends.
@@ -113,14 +113,14 @@ pub fn variables_top(s: &[u8], start: Cursor) -> Top
     let mut m: usize = 0;
     loop {
         match next_node(s, c) {
-            Step::Variable(v, d) => {
+            NodeStep::Variable(v, d) => {
                 m = raise(m, v);
                 c = d;
             }
-            Step::Other(d) => {
+            NodeStep::Other(d) => {
                 c = d;
             }
-            Step::Done => {
+            NodeStep::Done => {
                 return Top { top: m, end: c.pos };
             }
         }

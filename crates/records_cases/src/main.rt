@@ -5,24 +5,22 @@ use case_io::input::read_kind;
 use case_io::line::print_end;
 use case_io::line::print_number;
 use case_io::line::print_start;
-use records::gate::clauses_verdict;
-use records::gate::event_number;
-use records::gate::event_verdict;
-use records::gate::program_number;
-use records::gate::program_verdict;
-use records::gate::query_verdict;
+use records::door::clauses_door;
+use records::door::event_door;
+use records::door::program_door;
+use records::door::query_door;
 ghost use mathlib.Core.Path.{_≡_};
 ghost use Rattle.records_cases.specs.Case.{case-number};
 
-// What questions 1 to 4 say of the slice, as a record of that kind (SPECIFICATION 7).
+// What questions 1 to 4 say of the slice, as a record of that kind (SPECIFICATION 7.2).
 fn number_of(kind: u8, s: &[u8]) -> u8
     ensures { λ r. ⌜ r ≡ case-number kind (now (s .entry)) ⌝ }
 {
     match kind {
-        b'q' => event_number(query_verdict(s)),
-        b'e' => event_number(event_verdict(s)),
-        b'p' => program_number(program_verdict(s)),
-        _ => program_number(clauses_verdict(s)),
+        b'q' => query_door(s),
+        b'e' => event_door(s),
+        b'p' => program_door(s),
+        _ => clauses_door(s),
     }
 }
 

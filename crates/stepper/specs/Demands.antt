@@ -1,4 +1,4 @@
--- The last page: demands 2 and 3 (the terms of release 1), of the desk's services on bytes, with its readers, its unifier and its bodies.
+-- The last page: demands 2 and 3 (SPECIFICATION 9.6, 9.7), of the desk's services on bytes, with its readers, its unifier and its bodies.
 -- A `Program` is bytes that pass questions 1 to 4. A `Start` is a query for which the query service gave the first event with 0. A `Move` is a
 -- direction and a lent buffer of any length and content. `served c q ms` is a list of steps ms under the program c from q's first event: the record
 -- at which it ends, and how many steps forward and how many back were accepted; each step gets the record that the last accepted one gave.
@@ -44,7 +44,7 @@ module _ (c : Program layers) where
     refused = forward-refused layers lawful c s b e h out n;
   }
 
-  -- with a most general unifier found exactly when one exists;
+  -- in which the unifier is the most general one where there is any, and none is found where there is none;
   pub demand-2-unifier : (s : List Bet) (l r : Term) → Meant s l r (rules-of c .unify s l r)
   demand-2-unifier s l r = unified-meant s l r
 
@@ -70,9 +70,9 @@ module _ (c : Program layers) where
 
   -- (That clauses become the canonical form which the rules work on is the last page of the crate `canonical`, `Demand`.)
 
-  -- Demand 3. For every two lists of steps forward and back, in any mixture and refused ones included, under one program and each from the first
-  -- event of a query: the events d and e that they end at are equal in port, goal, ancestor stack and bet stack exactly when the two queries are
-  -- equal and the accepted steps forward less the accepted steps back come to the same number in both.
+  -- Demand 3. Take two lists of steps under one program, of any moves forward and back, accepted or refused, each from its query's first event.
+  -- The events d and e at which they end are one event if and only if the queries are equal and so are the net numbers: accepted steps forward,
+  -- less those back.
   pub demand-3 : (p q : Start layers) (ms ns : List Move)
       → (d : Event) × (e : Event)
       × (read-event (served c p ms .event) ≡ tree d) × (read-event (served c q ns .event) ≡ tree e)

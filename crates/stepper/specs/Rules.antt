@@ -12,5 +12,5 @@ pub mod RefusalLaws
 pub mod SourceLaws
 pub mod BackRefusalLaws
 pub mod BackLaws
-pub mod Limits
+pub mod AdmittedLaws
 pub mod FormedLaws

@@ -1,9 +1,9 @@
 -- Walks: lists of steps, what holds of every event reached, and the demands on events and on bytes.
 pub mod Walk
-pub mod WalkLaws
 pub mod Legal
-pub mod Inverse
 pub mod Reached
+pub mod WalkLaws
+pub mod Inverse
 pub mod ReachedLaws
 pub mod TreeDemands
 pub mod ByteDemands

@@ -1,4 +1,4 @@
-// Steps back: which rule an event has the right side of, and the plan of its left side. The rules are numbered in the order of (SPECIFICATION 3).
+// Steps back: which rule an event has the right side of, and the plan of its left side. Rules are numbered as in SPECIFICATION 3.3.
 // Fail of an equality has the number 17 and fail of an atom 20: whether they come from call, is for the unifier and the definition to say.
 use crate::layouts::atom_left;
 use crate::layouts::atom_left_by;

@@ -19,16 +19,19 @@ pub struct Counts {
 }
 
 // 0, or the number that refuses the event, and the counts afterwards.
-pub struct Counted {
+pub struct CountAnswer {
     pub number: u8,
     pub counts: Counts,
 }
 
-// One more, up to 4,294,967,295.
+// A count does not go beyond this.
+const GREATEST_COUNT: u32 = 4294967295;
+
+// One more, up to the greatest count.
 fn one_more(n: u32) -> u32
     ensures { λ r. ⌜ r ≡ one-more n ⌝ }
 {
-    if n < 4294967295 { n + 1 } else { n }
+    if n < GREATEST_COUNT { n + 1 } else { n }
 }
 
 // The counts with one more at a port, 1 to 4.
@@ -64,16 +67,16 @@ fn with_port(counts: Counts, port: u8) -> Counts
 }
 
 // The counter by value: 11 to 14 of the event, or its port is added.
-pub fn count(counts: Counts, event: &[u8]) -> Counted
+pub fn count(counts: Counts, event: &[u8]) -> CountAnswer
     ensures { λ r. ⌜ reply-of r ≡ count-record (now (event .entry)) (counts-of counts) ⌝ }
 {
     let number = event_door(event);
     if number != DONE {
-        return Counted { number, counts };
+        return CountAnswer { number, counts };
     }
     let places = event_places(event);
     let next = with_port(counts, places.port);
-    Counted {
+    CountAnswer {
         number: DONE,
         counts: next,
     }

@@ -10,7 +10,7 @@ ghost use Prim.Native.Nat.{_≤_};
 ghost use lib.ListN.{length};
 ghost use Rattle.records.specs.Format.Syntax.{Event};
 ghost use Rattle.records.specs.Writing.Plan.{PlanInside};
-ghost use Rattle.stepper.specs.Rules.Machine.{Answer, gives};
+ghost use Rattle.stepper.specs.Rules.Machine.{StepOutcome, gives};
 ghost use Rattle.stepper.specs.Rules.Rules.{limited-by};
 ghost use Rattle.stepper.specs.Services.Services.{record-limit};
 ghost use Rattle.stepper.specs.Plans.Made.{Plans};
@@ -65,7 +65,7 @@ pub fn emit_event(out: &mut [u8], p: Plan, event: &[u8]) -> StepAnswer
 pub fn emit_unless(number: u8, event: &[u8], p: Plan, out: &mut [u8]) -> StepAnswer
     requires { ⌜ (number ≡ 0 → PlanInside p (now event)) ⌝ }
     requires { ⌜ 32768 ≤ length (now out) ⌝ }
-    ensures { λ r. ⌜ ((a : Answer) → Determines number p (now (event .entry)) a → Stepped a (now (out .entry)) r (now (out .exit))) ⌝ }
+    ensures { λ r. ⌜ ((a : StepOutcome) → Determines number p (now (event .entry)) a → Stepped a (now (out .entry)) r (now (out .exit))) ⌝ }
 {
     if number != DONE {
         return refusal(number);

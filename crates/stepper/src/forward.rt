@@ -1,4 +1,4 @@
-// Steps forward: which rule an event has the left side of, and the plan of that rule. The rules are numbered in the order of (SPECIFICATION 3).
+// Steps forward: which rule an event has the left side of, and the plan of that rule. Rules are numbered as in SPECIFICATION 3.3.
 // Whether the goal is the half that its tag selects is not looked at here.
 use crate::layouts::atom_left;
 use crate::layouts::atom_left_by;

@@ -57,7 +57,8 @@ pub fn lookup_range(program: &[u8], event: &[u8]) -> Range
     named_range(program, event)
 }
 
-// The definition, empty exactly where a record is refused, the goal is no atom, or no definition exists.
+// The definition's part of the program: empty where there is none, because a question said no, the goal is another kind of goal, or the program has
+// no such definition, and nowhere else.
 pub fn lookup<'p, 'e>(program: &'p [u8], event: &'e [u8]) -> &'p [u8]
     ensures { λ r. ⌜ LookedUp r (program .entry) (now (event .entry)) ⌝ }
 {

@@ -1,4 +1,4 @@
-// The numbers of the rules, in their order (SPECIFICATION 3) and named as in the definitions; 0 where there is none. A call rule of an equality or of an
+// The numbers of the rules, in their order (SPECIFICATION 3.3) and named as in the definitions; 0 where there is none. A call rule of an equality or of an
 // atom has one number for both of its right sides.
 pub const NO_RULE: u8 = 0;
 

@@ -24,9 +24,9 @@ ghost use Rattle.stepper.specs.Rules.Rules.{step};
 ghost use Rattle.stepper.specs.Services.Services.{machine};
 ghost use Rattle.stepper.specs.Services.Desk.{layers};
 ghost use Rattle.records.specs.Ends.Places.{EndsOf};
-ghost use Rattle.stepper.specs.Step.Stepped.{Stepped, Passed};
+ghost use Rattle.stepper.specs.Step.Stepped.{Stepped, BothPassed};
 ghost use Rattle.stepper.specs.Run.Run.{mark, is-full, less-room, direction, told-mark, mark-numbers, with-mark, port-flag, aimed-at, stop-at, room-of, stopped-run, stopped-case, run, asked, plain-order, refused-run, run-record, RanTo, RunReplied};
-ghost use Rattle.stepper.specs.Run.RunLoop.{Standing, Holds};
+ghost use Rattle.stepper.specs.Run.RunLoop.{RunStands, RunHolds};
 
 // Events of these ports that have so many ancestors.
 pub struct RunAim {
@@ -115,11 +115,14 @@ fn stop_at(order: RunOrder, mark: RunMark) -> RunStop
     RunStop::Spent
 }
 
+// A log has so many numbers for a mark.
+pub const MARK_NUMBERS: usize = 3;
+
 // Whether a log has no room for a mark behind `taken` marks.
 fn is_full(logged: bool, length: usize, taken: usize) -> bool
     ensures { λ r. ⌜ r ≡ is-full (less-room taken (room-of logged length)) ⌝ }
 {
-    logged && length / 3 <= taken
+    logged && length / MARK_NUMBERS <= taken
 }
 
 fn put_mark(log: &mut [usize], at: usize, mark: RunMark) -> usize
@@ -138,16 +141,16 @@ fn log_mark(log: &mut [usize], logged: bool, taken: usize, mark: RunMark)
     ensures { λ r. ⌜ now (log .exit) ≡ with-mark logged (now (log .entry)) taken mark ⌝ }
 {
     if logged {
-        put_mark(log, 3 * taken, mark);
+        put_mark(log, MARK_NUMBERS * taken, mark);
     }
 }
 
 // One step in a direction.
 fn step_on(program: &[u8], event: &[u8], ends: PartEnds, back: bool, out: &mut [u8]) -> StepAnswer
-    requires { ⌜ Passed (now program) (now event) ⌝ }
+    requires { ⌜ BothPassed (now program) (now event) ⌝ }
     requires { ⌜ EndsOf (now event) ends ⌝ }
     requires { ⌜ 32768 ≤ length (now out) ⌝ }
-    ensures { λ r. ⌜ ((w : Passed (now (program .entry)) (now (event .entry))) → Stepped (step (machine layers (w .definitions)) (direction back) (w .event)) (now (out .entry)) r (now (out .exit))) ⌝ }
+    ensures { λ r. ⌜ ((w : BothPassed (now (program .entry)) (now (event .entry))) → Stepped (step (machine layers (w .definitions)) (direction back) (w .event)) (now (out .entry)) r (now (out .exit))) ⌝ }
 {
     if back {
         source_event(program, event, ends, out)
@@ -180,11 +183,11 @@ fn run_turn(
     last: RunAnswer,
     log: &mut [usize],
 ) -> RunAnswer
-    requires { ⌜ Standing (now program) order last (now here) (now log) ⌝ }
+    requires { ⌜ RunStands (now program) order last (now here) (now log) ⌝ }
     requires { ⌜ last .taken < 4294967295 ⌝ }
     requires { ⌜ 32768 ≤ length (now here) ⌝ }
     requires { ⌜ 32768 ≤ length (now there) ⌝ }
-    ensures { λ r. ⌜ ((g : Standing (now (program .entry)) order last (now (here .entry)) (now (log .entry))) → Holds g (last .taken + 1) r (now (here .exit)) (now (log .exit))) ⌝ }
+    ensures { λ r. ⌜ ((g : RunStands (now (program .entry)) order last (now (here .entry)) (now (log .entry))) → RunHolds g (last .taken + 1) r (now (here .exit)) (now (log .exit))) ⌝ }
 {
     let taken = last.taken as usize;
     if is_full(order.logged, log.len(), taken) {
@@ -231,11 +234,11 @@ fn run_on(
     steps: u32,
     log: &mut [usize],
 ) -> RunAnswer
-    requires { ⌜ Standing (now program) order first (now here) (now log) ⌝ }
+    requires { ⌜ RunStands (now program) order first (now here) (now log) ⌝ }
     requires { ⌜ first .taken ≤ steps ⌝ }
     requires { ⌜ 32768 ≤ length (now here) ⌝ }
     requires { ⌜ 32768 ≤ length (now there) ⌝ }
-    ensures { λ r. ⌜ ((g : Standing (now (program .entry)) order first (now (here .entry)) (now (log .entry))) → Holds g steps r (now (here .exit)) (now (log .exit))) ⌝ }
+    ensures { λ r. ⌜ ((g : RunStands (now (program .entry)) order first (now (here .entry)) (now (log .entry))) → RunHolds g steps r (now (here .exit)) (now (log .exit))) ⌝ }
 {
     let mut last = first;
     while last.taken < steps {
@@ -257,9 +260,9 @@ pub fn run_from(
     log: &mut [usize],
     out: &mut [u8],
 ) -> RunAnswer
-    requires { ⌜ Passed (now program) (now event) ⌝ }
+    requires { ⌜ BothPassed (now program) (now event) ⌝ }
     requires { ⌜ 32768 ≤ length (now out) ⌝ }
-    ensures { λ r. ⌜ ((w : Passed (now (program .entry)) (now (event .entry))) → RanTo (run (machine layers (w .definitions)) (asked order (now (log .entry))) steps (w .event)) (order .logged) (now (log .entry)) (now (out .entry)) r (now (log .exit)) (now (out .exit))) ⌝ }
+    ensures { λ r. ⌜ ((w : BothPassed (now (program .entry)) (now (event .entry))) → RanTo (run (machine layers (w .definitions)) (asked order (now (log .entry))) steps (w .event)) (order .logged) (now (log .entry)) (now (out .entry)) r (now (log .exit)) (now (out .exit))) ⌝ }
 {
     let mut here: [u8; RECORD_LIMIT] = [0; RECORD_LIMIT];
     let mut there: [u8; RECORD_LIMIT] = [0; RECORD_LIMIT];

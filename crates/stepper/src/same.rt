@@ -1,6 +1,7 @@
 // The last question 7 of a step back, where it is a comparison: is the unifier on the bets the equality's, is the goal the atom's body?
 use crate::view::View;
 use records::compare::same_range;
+use records::kinds::RECORD_LIMIT;
 use records::put::Range;
 use records::questions::DONE;
 use records::questions::MATCHES;
@@ -39,7 +40,7 @@ pub fn same_unifier(event: &[u8], v: View) -> u8
     requires { ⌜ UnifierViewed (now event) v ⌝ }
     ensures { λ r. ⌜ ((w : UnifierViewed (now (event .entry)) v) → r ≡ unifier-number (unified-under (w .bets) (w .left) (w .right)) (w .bindings)) ⌝ }
 {
-    let mut unifier: [u8; 32768] = [0; 32768];
+    let mut unifier: [u8; RECORD_LIMIT] = [0; RECORD_LIMIT];
     let left = Range {
         from: v.goal.content,
         to: v.goal.middle,
@@ -80,7 +81,7 @@ pub fn same_body(program: &[u8], event: &[u8], v: View) -> u8
     requires { ⌜ BodyViewed (now event) v ⌝ }
     ensures { λ r. ⌜ ((d : ProgramRead (now (program .entry))) (w : BodyViewed (now (event .entry)) v) → r ≡ body-number (body (d .definitions) (w .predicate) (w .terms) (w .ancestors) (w .bets)) (w .goal)) ⌝ }
 {
-    let mut buffer: [u8; 32768] = [0; 32768];
+    let mut buffer: [u8; RECORD_LIMIT] = [0; RECORD_LIMIT];
     let goal = Range {
         from: v.goal.from,
         to: v.goal.to,

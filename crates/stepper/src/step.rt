@@ -27,7 +27,7 @@ ghost use Rattle.stepper.specs.Services.Services.{machine};
 ghost use Rattle.stepper.specs.Services.Desk.{layers};
 ghost use Rattle.stepper.specs.Plans.Dispatch.{no-rule-number, no-source-number};
 ghost use Rattle.records.specs.Ends.Places.{EndsOf};
-ghost use Rattle.stepper.specs.Step.Stepped.{Stepped, Passed};
+ghost use Rattle.stepper.specs.Step.Stepped.{Stepped, BothPassed};
 
 // The number where no rule has the event as its left side: 6 from exit and fail, else 7.
 fn no_rule(v: View) -> u8
@@ -53,10 +53,10 @@ fn no_source(v: View) -> u8
 
 // One step forward.
 pub fn next_event(program: &[u8], event: &[u8], ends: PartEnds, out: &mut [u8]) -> StepAnswer
-    requires { ⌜ Passed (now program) (now event) ⌝ }
+    requires { ⌜ BothPassed (now program) (now event) ⌝ }
     requires { ⌜ EndsOf (now event) ends ⌝ }
     requires { ⌜ 32768 ≤ length (now out) ⌝ }
-    ensures { λ r. ⌜ ((w : Passed (now (program .entry)) (now (event .entry))) → Stepped (step-forward (machine layers (w .definitions)) (w .event)) (now (out .entry)) r (now (out .exit))) ⌝ }
+    ensures { λ r. ⌜ ((w : BothPassed (now (program .entry)) (now (event .entry))) → Stepped (step-forward (machine layers (w .definitions)) (w .event)) (now (out .entry)) r (now (out .exit))) ⌝ }
 {
     let v = event_view(event, ends);
     let n = forward_rule(v);
@@ -75,10 +75,10 @@ pub fn next_event(program: &[u8], event: &[u8], ends: PartEnds, out: &mut [u8]) 
 
 // One step back.
 pub fn source_event(program: &[u8], event: &[u8], ends: PartEnds, out: &mut [u8]) -> StepAnswer
-    requires { ⌜ Passed (now program) (now event) ⌝ }
+    requires { ⌜ BothPassed (now program) (now event) ⌝ }
     requires { ⌜ EndsOf (now event) ends ⌝ }
     requires { ⌜ 32768 ≤ length (now out) ⌝ }
-    ensures { λ r. ⌜ ((w : Passed (now (program .entry)) (now (event .entry))) → Stepped (step-back (machine layers (w .definitions)) (w .event)) (now (out .entry)) r (now (out .exit))) ⌝ }
+    ensures { λ r. ⌜ ((w : BothPassed (now (program .entry)) (now (event .entry))) → Stepped (step-back (machine layers (w .definitions)) (w .event)) (now (out .entry)) r (now (out .exit))) ⌝ }
 {
     let v = event_view(event, ends);
     let n = back_rule(v);

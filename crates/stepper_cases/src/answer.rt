@@ -1,15 +1,15 @@
 // What is printed of a service's answer.
 use case_io::input::wide;
-use case_io::line::front;
 use case_io::line::print_number;
 use case_io::line::print_record;
+use case_io::line::record_length;
 
 // A record of at most so many bytes is printed whole.
 const WHOLE: usize = 200;
 
 // The record that a buffer starts with.
 pub fn print_front(buffer: &[u8]) {
-    let n = front(buffer);
+    let n = record_length(buffer);
     print_record(&buffer[..n], WHOLE);
 }
 

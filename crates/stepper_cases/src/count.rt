@@ -4,7 +4,7 @@ use case_io::input::wide;
 use case_io::line::print_end;
 use case_io::line::print_number;
 use case_io::line::print_start;
-use stepper::counts::Counted;
+use stepper::counts::CountAnswer;
 use stepper::counts::Counts;
 use stepper::counts::count;
 
@@ -15,7 +15,7 @@ fn print_counts(counts: Counts) {
     print_number(counts.redos as u64);
 }
 
-fn print_count(ordinal: u64, counted: Counted) {
+fn print_count(ordinal: u64, counted: CountAnswer) {
     print_start(ordinal, b'c');
     print_number(wide(counted.number) as u64);
     print_counts(counted.counts);

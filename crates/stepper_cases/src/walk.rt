@@ -2,21 +2,21 @@
 use crate::answer::print_answer;
 use crate::step::step;
 use case_io::input::read_number_field;
-use case_io::line::front;
 use case_io::line::print_end;
 use case_io::line::print_start;
 use case_io::line::print_word;
+use case_io::line::record_length;
 use stepper::first::first_event;
 ghost use Prim.Native.Nat.{_≤_};
 
 // The number of a step, and the output that was lent to it.
-struct Stepped {
+struct StepTried {
     number: u8,
     out: [u8; 32768],
 }
 
 // How many steps were accepted, and a buffer that starts with the event that they lead to.
-struct Reached {
+struct WalkEnd {
     taken: u64,
     event: [u8; 32768],
 }
@@ -30,16 +30,16 @@ fn print_walked(ordinal: u64, mark: u8, number: u8, out: &[u8]) {
 }
 
 // One step from the event that a buffer starts with, and its line.
-fn walk_step(ordinal: u64, back: bool, program: &[u8], event: [u8; 32768]) -> Stepped {
+fn walk_step(ordinal: u64, back: bool, program: &[u8], event: [u8; 32768]) -> StepTried {
     let mut out = [0u8; 32768];
-    let n = front(&event);
+    let n = record_length(&event);
     let number = step(back, program, &event[..n], &mut out);
     print_walked(ordinal, if back { b'<' } else { b'>' }, number, &out);
-    Stepped { number, out }
+    StepTried { number, out }
 }
 
 // Steps in a direction until one is refused, at most so many.
-fn walk_on(ordinal: u64, back: bool, program: &[u8], from: [u8; 32768], most: u64) -> Reached
+fn walk_on(ordinal: u64, back: bool, program: &[u8], from: [u8; 32768], most: u64) -> WalkEnd
     ensures { λ r. ⌜ r .taken ≤ most ⌝ }
 {
     let mut event = from;
@@ -52,7 +52,7 @@ fn walk_on(ordinal: u64, back: bool, program: &[u8], from: [u8; 32768], most: u6
         event = stepped.out;
         taken += 1;
     }
-    Reached { taken, event }
+    WalkEnd { taken, event }
 }
 
 // After so many steps forward as many lead back to the first event, so the limit of the steps back takes nothing away.

@@ -10,11 +10,11 @@ pub mod VariablesLaws
 pub mod TestLaws
 pub mod FormedLaws
 pub mod MguLaws
-pub mod MguRules
+pub mod MguRuleLaws
 pub mod MostGeneralLaws
 pub mod BindingsLaws
 pub mod DifferenceLaws
 pub mod UnifyLaws
-pub mod UnifyFormed
+pub mod UnifyFormedLaws
 pub mod OutcomeLaws
 pub mod Examples

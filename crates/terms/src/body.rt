@@ -7,6 +7,7 @@ use crate::definitions::Lookup;
 use crate::definitions::Place;
 use crate::definitions::find_definition;
 use crate::numbering::write_nodes;
+use crate::tables::ARGUMENT_PLACES;
 use crate::variables::Frame;
 use crate::variables::next_variable;
 use records::heads::GoalHead;
@@ -15,7 +16,7 @@ use records::questions::DONE;
 use records::questions::FITS;
 use records::questions::LOCALS;
 use records::traverse::Cursor;
-use records::traverse::Step;
+use records::traverse::NodeStep;
 use records::traverse::next_node;
 ghost use mathlib.Core.Path.{_≡_};
 ghost use Prim.Native.Nat.{ℕ, _+_, _-_, _<_, _≤_, _^_, min};
@@ -36,7 +37,7 @@ pub enum BodyAnswer {
     TooLong,
 }
 
-// The number (SPECIFICATION 7) for an answer, 0 where no question says no.
+// The number (SPECIFICATION 7.6) for an answer, 0 where no question says no.
 pub fn body_refusal(answer: BodyAnswer) -> u8
     ensures { λ r. ⌜ r ≡ body-refusal answer ⌝ }
 {
@@ -83,15 +84,15 @@ fn body_length(program: &[u8], goal: usize, table: &[usize], k: usize, room: usi
     let mut n = 0;
     while n <= room {
         match next_node(program, c) {
-            Step::Variable(v, d) => {
+            NodeStep::Variable(v, d) => {
                 n = added(n, numbered_length(table, k, v), room);
                 c = d;
             }
-            Step::Other(d) => {
+            NodeStep::Other(d) => {
                 n = added(n, d.pos - c.pos, room);
                 c = d;
             }
-            Step::Done => return n,
+            NodeStep::Done => return n,
         }
     }
     n
@@ -125,12 +126,15 @@ fn numbered_body(
     BodyAnswer::Defined(n)
 }
 
+// How many numbers there are for variables.
+const NUMBERS: usize = 65536;
+
 // Question 9: would one of the locals from m on be above 65,535?
 fn locals_beyond(m: usize, locals: usize) -> bool
     requires { ⌜ m + locals < 2 ^ 64 ⌝ }
     ensures { λ r. ⌜ r ≡ locals-beyond m locals ⌝ }
 {
-    0 < locals && 65536 < m + locals
+    0 < locals && NUMBERS < m + locals
 }
 
 // The body by the definition at a place.
@@ -155,7 +159,7 @@ fn body_with(
         at: frame.goal + 4,
         arity: k,
     };
-    let mut table: [usize; 17] = [0; 17];
+    let mut table: [usize; ARGUMENT_PLACES] = [0; ARGUMENT_PLACES];
     list_arguments(event, args, &mut table);
     numbered_body(program, place.goal, event, &table, k, m, out)
 }

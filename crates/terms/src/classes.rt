@@ -16,7 +16,7 @@ ghost use Rattle.terms.specs.Classes.ClassState.{
   NodesCompared,
   Visited,
   Ended,
-  First,
+  FirstOfVariable,
   Firsts,
 };
 
@@ -157,7 +157,7 @@ pub fn close(
 // The first node of node i's variable; i itself where it is no variable.
 fn first(kind: &[usize], number: &[usize], next: &[usize], i: usize) -> usize
     requires { ⌜ (i < length (now kind)) × (length (now number) ≡ length (now kind)) ⌝ }
-    ensures { λ r. ⌜ First (nodes (now (kind .entry)) (now (number .entry)) (now (next .entry))) i r ⌝ }
+    ensures { λ r. ⌜ FirstOfVariable (nodes (now (kind .entry)) (now (number .entry)) (now (next .entry))) i r ⌝ }
 {
     if kind[i] != VARIABLE_NODE {
         return i;

@@ -11,7 +11,7 @@ ghost use lib.Dec.{eqb};
 ghost use Rattle.terms.specs.Body.Definitions.{ProgramAt, DefinitionAt, DefinitionsAt, EntryOf, find-definition};
 
 // What a definition starts with, and where it ends.
-pub struct Entry {
+pub struct DefinitionHead {
     pub predicate: usize,
     pub arity: usize,
     pub locals: usize,
@@ -32,10 +32,10 @@ pub enum Lookup {
     Present(Place),
 }
 
-fn no_entry(at: usize) -> Entry
+fn no_entry(at: usize) -> DefinitionHead
     ensures { λ r. ⌜ r .end ≡ at ⌝ }
 {
-    Entry {
+    DefinitionHead {
         predicate: 0,
         arity: 0,
         locals: 0,
@@ -44,13 +44,13 @@ fn no_entry(at: usize) -> Entry
 }
 
 // The definition that stands at `at`.
-fn entry_at(program: &[u8], at: usize) -> Entry
+fn entry_at(program: &[u8], at: usize) -> DefinitionHead
     requires { ⌜ DefinitionAt (now program) at ⌝ }
     ensures { λ r. ⌜ ((d : DefinitionAt (now (program .entry)) at) → EntryOf d r) ⌝ }
 {
     match definition_head(program, at) {
         Signature::Predicate(p, k, n) => match definition_end(program, at) {
-            Found::At(e) => Entry {
+            Found::At(e) => DefinitionHead {
                 predicate: p,
                 arity: k,
                 locals: n,
@@ -63,7 +63,7 @@ fn entry_at(program: &[u8], at: usize) -> Entry
 }
 
 // Whether it defines the predicate p of arity k.
-fn defines(d: Entry, p: usize, k: usize) -> bool
+fn defines(d: DefinitionHead, p: usize, k: usize) -> bool
     ensures { λ r. ⌜ r ≡ (eqb p (d .predicate) && eqb k (d .arity)) ⌝ }
 {
     p == d.predicate && k == d.arity

@@ -1,9 +1,16 @@
 // An equality under a bet stack: the unifier of the values of its two terms, from the bytes of an event to the bytes of a bet.
 use crate::apply::apply_bets;
 use crate::substitute::Sized;
+use crate::tables::MOST_NODES;
+use crate::tables::MOST_PAIRS;
+use crate::tables::SHORT_EVENT;
+use crate::tables::SHORT_NODES;
+use crate::tables::SHORT_PAIRS;
+use crate::tables::SHORT_VALUES;
 use crate::unifier::put_unifier;
 use crate::unifier::unify_values;
 use records::kinds::RECORD_LIMIT;
+use records::kinds::VALUE_LIMIT;
 use records::put::Range;
 use records::questions::DONE;
 use records::questions::FITS;
@@ -12,7 +19,7 @@ ghost use mathlib.Core.Path.{_≡_};
 ghost use Prim.Native.Nat.{_+_, _*_, _≤_};
 ghost use lib.ListN.{length};
 ghost use Rattle.terms.specs.Values.Applied.{TermAt};
-ghost use Rattle.terms.specs.Standing.BetRow.{Bets};
+ghost use Rattle.terms.specs.Standing.BetRow.{RuledBets};
 ghost use mathlib.Core.Option.{some};
 ghost use Rattle.terms.specs.Theory.Outcome.{value-under, outcome-of};
 ghost use Rattle.terms.specs.Unifier.UnifierAnswer.{Unifiable};
@@ -26,7 +33,7 @@ pub enum UnifierAnswer {
     TooLong,
 }
 
-// The number (SPECIFICATION 7) for an answer, 0 where no question says no.
+// The number (SPECIFICATION 7.6) for an answer, 0 where no question says no.
 pub fn unifier_refusal(answer: UnifierAnswer) -> u8
     ensures { λ r. ⌜ r ≡ unifier-refusal answer ⌝ }
 {
@@ -72,11 +79,11 @@ fn unify_short(a: &[u8], b: &[u8], out: &mut [u8]) -> UnifierAnswer
     requires { ⌜ length (now a) + length (now b) ≤ 384 ⌝ }
     ensures { λ r. ⌜ ValuesAnswered (now (a .entry)) (now (b .entry)) (now (out .entry)) (now (out .exit)) r ⌝ }
 {
-    let mut kind: [usize; 128] = [0; 128];
-    let mut number: [usize; 128] = [0; 128];
-    let mut next: [usize; 128] = [0; 128];
-    let mut rep: [usize; 128] = [0; 128];
-    let mut size: [usize; 128] = [0; 128];
+    let mut kind: [usize; SHORT_NODES] = [0; SHORT_NODES];
+    let mut number: [usize; SHORT_NODES] = [0; SHORT_NODES];
+    let mut next: [usize; SHORT_NODES] = [0; SHORT_NODES];
+    let mut rep: [usize; SHORT_NODES] = [0; SHORT_NODES];
+    let mut size: [usize; SHORT_NODES] = [0; SHORT_NODES];
     unifier_in(
         a,
         b,
@@ -94,11 +101,11 @@ fn unify_long(a: &[u8], b: &[u8], out: &mut [u8]) -> UnifierAnswer
     requires { ⌜ OneValue (now a) × OneValue (now b) ⌝ }
     ensures { λ r. ⌜ ValuesAnswered (now (a .entry)) (now (b .entry)) (now (out .entry)) (now (out .exit)) r ⌝ }
 {
-    let mut kind: [usize; 5462] = [0; 5462];
-    let mut number: [usize; 5462] = [0; 5462];
-    let mut next: [usize; 5462] = [0; 5462];
-    let mut rep: [usize; 5462] = [0; 5462];
-    let mut size: [usize; 5462] = [0; 5462];
+    let mut kind: [usize; MOST_NODES] = [0; MOST_NODES];
+    let mut number: [usize; MOST_NODES] = [0; MOST_NODES];
+    let mut next: [usize; MOST_NODES] = [0; MOST_NODES];
+    let mut rep: [usize; MOST_NODES] = [0; MOST_NODES];
+    let mut size: [usize; MOST_NODES] = [0; MOST_NODES];
     unifier_in(
         a,
         b,
@@ -115,7 +122,7 @@ fn write_unifier(a: &[u8], b: &[u8], out: &mut [u8]) -> UnifierAnswer
     requires { ⌜ OneValue (now a) × OneValue (now b) ⌝ }
     ensures { λ r. ⌜ ValuesAnswered (now (a .entry)) (now (b .entry)) (now (out .entry)) (now (out .exit)) r ⌝ }
 {
-    if a.len() + b.len() <= 384 {
+    if a.len() + b.len() <= SHORT_VALUES {
         unify_short(a, b, out)
     } else {
         unify_long(a, b, out)
@@ -133,14 +140,14 @@ fn unifier_with(
     firsts: &mut [usize],
     out: &mut [u8],
 ) -> UnifierAnswer
-    requires { ⌜ Bets (now event) bets n ⌝ }
+    requires { ⌜ RuledBets (now event) bets n ⌝ }
     requires { ⌜ TermAt (now event) (right .from) (right .to) ⌝ }
     requires { ⌜ length (now event) ≤ 5 * length (now places) ⌝ }
     requires { ⌜ length (now firsts) ≡ length (now places) ⌝ }
     requires { ⌜ OneValue (now a) ⌝ }
-    ensures { λ r. ⌜ ((p : Bets (now (event .entry)) bets n) (v : OneValue (now (a .entry))) (t : TermAt (now (event .entry)) (right .from) (right .to)) → UnifierAnswered (now (out .entry)) (now (out .exit)) (outcome-of (some (v .value .term)) (value-under (p .bets) (t .term))) r) ⌝ }
+    ensures { λ r. ⌜ ((p : RuledBets (now (event .entry)) bets n) (v : OneValue (now (a .entry))) (t : TermAt (now (event .entry)) (right .from) (right .to)) → UnifierAnswered (now (out .entry)) (now (out .exit)) (outcome-of (some (v .value .term)) (value-under (p .row .items) (t .term))) r) ⌝ }
 {
-    let mut b: [u8; 8192] = [0; 8192];
+    let mut b: [u8; VALUE_LIMIT] = [0; VALUE_LIMIT];
     let Sized::Fits(m) = apply_bets(event, bets, n, event, right.from, places, firsts, &mut b)
     else {
         return UnifierAnswer::TooLarge;
@@ -164,7 +171,7 @@ fn unifier_by(
     requires { ⌜ length (now firsts) ≡ length (now places) ⌝ }
     ensures { λ r. ⌜ UnifierUnder (now (event .entry)) bets n left right (now (out .entry)) (now (out .exit)) r ⌝ }
 {
-    let mut a: [u8; 8192] = [0; 8192];
+    let mut a: [u8; VALUE_LIMIT] = [0; VALUE_LIMIT];
     let Sized::Fits(k) = apply_bets(event, bets, n, event, left.from, places, firsts, &mut a) else {
         return UnifierAnswer::TooLarge;
     };
@@ -184,8 +191,8 @@ fn unifier_of_short(
     requires { ⌜ length (now event) ≤ 2048 ⌝ }
     ensures { λ r. ⌜ UnifierUnder (now (event .entry)) bets n left right (now (out .entry)) (now (out .exit)) r ⌝ }
 {
-    let mut places: [usize; 410] = [0; 410];
-    let mut firsts: [usize; 410] = [0; 410];
+    let mut places: [usize; SHORT_PAIRS] = [0; SHORT_PAIRS];
+    let mut firsts: [usize; SHORT_PAIRS] = [0; SHORT_PAIRS];
     unifier_by(event, bets, n, left, right, &mut places, &mut firsts, out)
 }
 
@@ -202,8 +209,8 @@ fn unifier_of_long(
     requires { ⌜ length (now event) ≤ 32768 ⌝ }
     ensures { λ r. ⌜ UnifierUnder (now (event .entry)) bets n left right (now (out .entry)) (now (out .exit)) r ⌝ }
 {
-    let mut places: [usize; 6554] = [0; 6554];
-    let mut firsts: [usize; 6554] = [0; 6554];
+    let mut places: [usize; MOST_PAIRS] = [0; MOST_PAIRS];
+    let mut firsts: [usize; MOST_PAIRS] = [0; MOST_PAIRS];
     unifier_by(event, bets, n, left, right, &mut places, &mut firsts, out)
 }
 
@@ -220,7 +227,7 @@ pub fn unifier_under(
     requires { ⌜ length (now event) ≤ 32768 ⌝ }
     ensures { λ r. ⌜ UnifierUnder (now (event .entry)) bets n left right (now (out .entry)) (now (out .exit)) r ⌝ }
 {
-    if event.len() <= 2048 {
+    if event.len() <= SHORT_EVENT {
         unifier_of_short(event, bets, n, left, right, out)
     } else {
         unifier_of_long(event, bets, n, left, right, out)

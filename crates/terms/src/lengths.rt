@@ -7,12 +7,19 @@ ghost use Rattle.terms.specs.Classes.Nodes.{nodes, Table};
 ghost use Rattle.terms.specs.Classes.ClassState.{State};
 ghost use Rattle.terms.specs.Classes.Lengths.{length-cap, Weighable, Weighed, Offered, Measuring, Blank, Checked};
 
-// a + b, but at most 40,000.
+// A length that is not told exactly: more than any output has room for.
+const LENGTH_CAP: usize = 40000;
+
+// a + b, but at most LENGTH_CAP.
 pub fn capped(a: usize, b: usize) -> usize
     requires { ⌜ (a ≤ length-cap) × (b ≤ length-cap) ⌝ }
     ensures { λ r. ⌜ r ≡ min length-cap (a + b) ⌝ }
 {
-    if a + b < 40000 { a + b } else { 40000 }
+    if a + b < LENGTH_CAP {
+        a + b
+    } else {
+        LENGTH_CAP
+    }
 }
 
 // The length of r's term from the lengths of its children's classes; 0 where one is not known yet.

@@ -12,6 +12,7 @@ pub mod numbering; // numbering.rt: what a traversal goes over, its variables nu
 pub mod pairs; // pairs.rt: the pairs of a bet stack, listed
 pub mod solve; // solve.rt: whether two terms have a unifier
 pub mod substitute; // substitute.rt: a term under the pairs of a bet stack
+pub mod tables; // tables.rt: how large tables on the stack are
 pub mod unifier; // unifier.rt: the unifier of two values, from bytes to bytes
 pub mod value; // value.rt: the value of a variable
 pub mod variables; // variables.rt: the first new variable

@@ -86,7 +86,7 @@ fn link(kind: &[usize], next: &mut [usize])
 }
 
 // Where the nodes of the second term start, and how many nodes there are.
-pub struct Places {
+pub struct NodeCounts {
     pub middle: usize,
     pub count: usize,
 }
@@ -98,12 +98,12 @@ pub fn lay(
     kind: &mut [usize],
     number: &mut [usize],
     next: &mut [usize],
-) -> Places
+) -> NodeCounts
     requires { ⌜ Layable (now a) (now b) (now kind) (now number) (now next) ⌝ }
     ensures { λ r. ⌜ Lays (now (a .entry)) (now (b .entry)) (now (kind .exit)) (now (number .exit)) (now (next .exit)) r ⌝ }
 {
     let middle = load(a, kind, number, 0);
     let count = load(b, kind, number, middle);
     link(&kind[..count], &mut next[..count]);
-    Places { middle, count }
+    NodeCounts { middle, count }
 }

@@ -6,7 +6,7 @@ use records::put::put_byte;
 use records::put::put_range;
 use records::put::put_word;
 use records::traverse::Cursor;
-use records::traverse::Step;
+use records::traverse::NodeStep;
 use records::traverse::next_node;
 ghost use Prim.Native.Nat.{_+_, _<_, _≤_, _^_};
 ghost use lib.ListN.{length};
@@ -75,11 +75,11 @@ pub fn write_nodes(
     let mut at = first;
     loop {
         match next_node(s, c) {
-            Step::Variable(v, d) => {
+            NodeStep::Variable(v, d) => {
                 at = write_numbered(out, at, event, table, k, m, v);
                 c = d;
             }
-            Step::Other(d) => {
+            NodeStep::Other(d) => {
                 let range = Range {
                     from: c.pos,
                     to: d.pos,
@@ -87,7 +87,7 @@ pub fn write_nodes(
                 at = put_range(out, at, s, range);
                 c = d;
             }
-            Step::Done => {
+            NodeStep::Done => {
                 return Progress { at, pos: c.pos };
             }
         }

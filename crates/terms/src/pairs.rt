@@ -8,7 +8,7 @@ ghost use mathlib.Core.Path.{_≡_};
 ghost use Prim.Native.Nat.{_+_, _*_, _≤_};
 ghost use lib.ListN.{length};
 ghost use Rattle.records.specs.Format.Heads.{bet-head-at};
-ghost use Rattle.terms.specs.Standing.BetRow.{Bets, bet-pairs, head-pairs};
+ghost use Rattle.terms.specs.Standing.BetRow.{RuledBets, bet-pairs, head-pairs};
 ghost use Rattle.terms.specs.Values.Entries.{PairsEntered, PairsListed};
 ghost use Rattle.terms.specs.Standing.Frames.{PairsAt, BetAt};
 
@@ -78,10 +78,10 @@ pub fn list_bets(
     places: &mut [usize],
     firsts: &mut [usize],
 ) -> usize
-    requires { ⌜ Bets (now event) at n ⌝ }
+    requires { ⌜ RuledBets (now event) at n ⌝ }
     requires { ⌜ length (now event) ≤ 5 * length (now places) ⌝ }
     requires { ⌜ length (now firsts) ≡ length (now places) ⌝ }
-    ensures { λ r. ⌜ ((p : Bets (now (event .entry)) at n) → PairsListed (p .bets) (now (event .entry)) (now (places .exit)) (now (firsts .exit)) r) ⌝ }
+    ensures { λ r. ⌜ ((p : RuledBets (now (event .entry)) at n) → PairsListed (p .row .items) (now (event .entry)) (now (places .exit)) (now (firsts .exit)) r) ⌝ }
 {
     let mut pos = at;
     let mut left = n;

@@ -3,7 +3,7 @@ ghost use mathlib.Core.Path.{_≡_};
 ghost use Prim.Native.Nat.{_<_};
 ghost use lib.ListN.{length};
 ghost use Rattle.terms.specs.Classes.Nodes.{nodes, Table};
-ghost use Rattle.terms.specs.Classes.Lengths.{Blank, Solved};
+ghost use Rattle.terms.specs.Classes.Lengths.{Blank, SolvedTables};
 use crate::classes::begin;
 use crate::classes::close;
 use crate::lengths::complete;
@@ -21,7 +21,7 @@ pub fn solve(
     requires { ⌜ Table (nodes (now kind) (now number) (now next)) ⌝ }
     requires { ⌜ (length (now rep) ≡ length (now next)) × (s < length (now next)) × (t < length (now next)) ⌝ }
     requires { ⌜ Blank (nodes (now kind) (now number) (now next)) (now size) ⌝ }
-    ensures { λ r. ⌜ Solved (nodes (now (kind .entry)) (now (number .entry)) (now (next .entry))) s t (now (rep .exit)) (now (size .exit)) r ⌝ }
+    ensures { λ r. ⌜ SolvedTables (nodes (now (kind .entry)) (now (number .entry)) (now (next .entry))) s t (now (rep .exit)) (now (size .exit)) r ⌝ }
 {
     begin(kind, number, next, rep, s, t);
     if !close(kind, number, next, rep, s, t) {

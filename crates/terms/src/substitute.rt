@@ -5,7 +5,7 @@ use records::heads::word_at;
 use records::put::Range;
 use records::put::put_range;
 use records::traverse::Cursor;
-use records::traverse::Step;
+use records::traverse::NodeStep;
 use records::traverse::next_node;
 ghost use mathlib.Core.List.{List};
 ghost use Prim.Native.Nat.{ℕ, _≤_};
@@ -104,7 +104,7 @@ pub fn put_under(
     loop {
         let pos = c.pos;
         match next_node(s, c) {
-            Step::Variable(v, d) => {
+            NodeStep::Variable(v, d) => {
                 let end = d.pos;
                 let piece = Range { from: pos, to: end };
                 let Sized::Fits(m) = put_variable(
@@ -122,7 +122,7 @@ pub fn put_under(
                 len += m;
                 c = d;
             }
-            Step::Other(d) => {
+            NodeStep::Other(d) => {
                 let end = d.pos;
                 let piece = Range { from: pos, to: end };
                 let Sized::Fits(m) = put_piece(&mut out[len..], s, piece) else {
@@ -131,7 +131,7 @@ pub fn put_under(
                 len += m;
                 c = d;
             }
-            Step::Done => return Sized::Fits(len),
+            NodeStep::Done => return Sized::Fits(len),
         }
     }
 }

@@ -117,7 +117,7 @@ fn put_pair(
 }
 
 // The place after the pairs, and how many there are.
-pub struct Pairs {
+pub struct PairsWritten {
     pub end: usize,
     pub count: usize,
 }
@@ -131,7 +131,7 @@ fn put_pairs(
     size: &[usize],
     out: &mut [u8],
     at: usize,
-) -> Pairs
+) -> PairsWritten
     requires { ⌜ ClassTable (nodes (now kind) (now number) (now next)) (now rep) (now size) ⌝ }
     requires { ⌜ PairsFit (nodes (now kind) (now number) (now next)) (now rep) (now out) at ⌝ }
     ensures { λ r. ⌜ PairsPut (nodes (now (kind .entry)) (now (number .entry)) (now (next .entry))) (now (rep .entry)) (now (out .entry)) at (now (out .exit)) r ⌝ }
@@ -142,7 +142,7 @@ fn put_pairs(
     loop {
         let i = least(kind, number, next, rep, lo);
         if i >= next.len() {
-            return Pairs { end, count };
+            return PairsWritten { end, count };
         }
         end = put_pair(kind, number, next, rep, size, out, end, i);
         count += 1;
@@ -189,7 +189,7 @@ fn clear(size: &mut [usize])
 }
 
 // Whether there is a unifier; the number of nodes that its tables have; the length of its count and pairs, up to 40,000.
-pub struct Outcome {
+pub struct UnifierFound {
     pub found: bool,
     pub nodes: usize,
     pub length: usize,
@@ -203,21 +203,21 @@ fn decide(
     rep: &mut [usize],
     size: &mut [usize],
     middle: usize,
-) -> Outcome
+) -> UnifierFound
     requires { ⌜ Decidable (nodes (now kind) (now number) (now next)) (now rep) (now size) middle ⌝ }
     ensures { λ r. ⌜ Decides (nodes (now (kind .entry)) (now (number .entry)) (now (next .entry))) middle (now (rep .exit)) (now (size .exit)) r ⌝ }
 {
     let nodes = next.len();
     clear(size);
     if !solve(kind, number, next, rep, size, 0, middle) {
-        return Outcome {
+        return UnifierFound {
             found: false,
             nodes,
             length: 0,
         };
     }
     let length = unifier_length(kind, number, next, rep, size);
-    Outcome {
+    UnifierFound {
         found: true,
         nodes,
         length,
@@ -233,7 +233,7 @@ pub fn unify_values(
     next: &mut [usize],
     rep: &mut [usize],
     size: &mut [usize],
-) -> Outcome
+) -> UnifierFound
     requires { ⌜ Unifiable (now a) (now b) (now kind) (now number) (now next) (now rep) (now size) ⌝ }
     ensures { λ r. ⌜ Unifications (now (a .entry)) (now (b .entry)) (now (kind .exit)) (now (number .exit)) (now (next .exit)) (now (rep .exit)) (now (size .exit)) r ⌝ }
 {

@@ -1,8 +1,10 @@
 // The value service: S(v), what the bet stack of an event makes of a variable.
 use crate::apply::apply_bets;
 use crate::substitute::Sized;
+use crate::tables::MOST_PAIRS;
 use records::door::event_door;
 use records::kinds::RECORD_LIMIT;
+use records::kinds::VALUE_LIMIT;
 use records::kinds::VARIABLE;
 use records::places::event_places;
 use records::put::Range;
@@ -17,7 +19,7 @@ ghost use lib.ListN.{length};
 ghost use Rattle.records.specs.Gate.Gate.{read-event};
 ghost use Rattle.records.specs.Format.Syntax.Term.{var};
 ghost use Rattle.terms.specs.Values.Answered.{value-refusal, Answered, Buffers};
-ghost use Rattle.terms.specs.Standing.BetRow.{Bets};
+ghost use Rattle.terms.specs.Standing.BetRow.{RuledBets};
 ghost use Rattle.terms.specs.Theory.Outcome.{value};
 ghost use Rattle.records.specs.Format.Encode.{term-bytes};
 ghost use Rattle.records.specs.Gate.Reply.{Receipted};
@@ -33,15 +35,15 @@ pub fn variable_value(
     firsts: &mut [usize],
     out: &mut [u8],
 ) -> Sized
-    requires { ⌜ Bets (now event) at n ⌝ }
+    requires { ⌜ RuledBets (now event) at n ⌝ }
     requires { ⌜ Buffers (now event) (now places) (now firsts) (now out) ⌝ }
-    ensures { λ r. ⌜ ((p : Bets (now (event .entry)) at n) → Answered (p .bets) (var v) (now (out .exit)) r) ⌝ }
+    ensures { λ r. ⌜ ((p : RuledBets (now (event .entry)) at n) → Answered (p .row .items) (var v) (now (out .exit)) r) ⌝ }
 {
     let term: [u8; 3] = [VARIABLE, (v / 256) as u8, (v % 256) as u8];
     apply_bets(event, at, n, &term, 0, places, firsts, out)
 }
 
-// The number (SPECIFICATION 7) for a value's answer, 0 where question 8 does not say no.
+// The number (SPECIFICATION 7.6) for a value's answer, 0 where question 8 does not say no.
 fn value_refusal(answer: Sized) -> u8
     ensures { λ r. ⌜ r ≡ value-refusal answer ⌝ }
 {
@@ -53,9 +55,9 @@ fn value_refusal(answer: Sized) -> u8
 
 // Questions 5 and 8, and then S(v) as bare term bytes at the start of the output.
 pub fn put_value(event: &[u8], at: usize, n: usize, v: u16, out: &mut [u8]) -> Receipt
-    requires { ⌜ Bets (now event) at n ⌝ }
+    requires { ⌜ RuledBets (now event) at n ⌝ }
     requires { ⌜ length (now event) ≤ 32768 ⌝ }
-    ensures { λ r. ⌜ ((p : Bets (now (event .entry)) at n) → Receipted term-bytes (value-into (length (now (out .entry))) (value (p .bets) v)) (now (out .entry)) r (now (out .exit))) ⌝ }
+    ensures { λ r. ⌜ ((p : RuledBets (now (event .entry)) at n) → Receipted term-bytes (value-into (length (now (out .entry))) (value (p .row .items) v)) (now (out .entry)) r (now (out .exit))) ⌝ }
 {
     if out.len() < RECORD_LIMIT {
         return Receipt {
@@ -63,9 +65,9 @@ pub fn put_value(event: &[u8], at: usize, n: usize, v: u16, out: &mut [u8]) -> R
             length: 0,
         };
     }
-    let mut places: [usize; 6554] = [0; 6554];
-    let mut firsts: [usize; 6554] = [0; 6554];
-    let mut value: [u8; 8192] = [0; 8192];
+    let mut places: [usize; MOST_PAIRS] = [0; MOST_PAIRS];
+    let mut firsts: [usize; MOST_PAIRS] = [0; MOST_PAIRS];
+    let mut value: [u8; VALUE_LIMIT] = [0; VALUE_LIMIT];
     let answer = variable_value(event, at, n, v, &mut places, &mut firsts, &mut value);
     let Sized::Fits(m) = answer else {
         return Receipt {

@@ -28,13 +28,13 @@ pub struct Frame {
 }
 
 // One of an event's two stacks.
-pub enum Stack {
+pub enum StackKind {
     Ancestors,
     Bets,
 }
 
 // What is read of a member of a stack: one more than the greatest variable up to `end`, and how many pairs follow there.
-pub struct Piece {
+pub struct MemberTop {
     pub top: usize,
     pub end: usize,
     pub pairs: usize,
@@ -108,10 +108,10 @@ fn pair_top(event: &[u8], at: usize) -> Top
     }
 }
 
-fn whole(t: Top) -> Piece
+fn whole(t: Top) -> MemberTop
     ensures { λ r. ⌜ (r .top ≡ t .top) × (r .end ≡ t .end) × (r .pairs ≡ 0) ⌝ }
 {
-    Piece {
+    MemberTop {
         top: t.top,
         end: t.end,
         pairs: 0,
@@ -119,17 +119,17 @@ fn whole(t: Top) -> Piece
 }
 
 // A bet: of a unifier, what stands before its pairs.
-fn bet_top(event: &[u8], at: usize) -> Piece
+fn bet_top(event: &[u8], at: usize) -> MemberTop
     requires { ⌜ BetAt (now event) at ⌝ }
     ensures { λ r. ⌜ ((b : BetAt (now (event .entry)) at) → PieceOf (now (event .entry)) (bet-variables (b .item)) (b .end) r) ⌝ }
 {
     match bet_head(event, at) {
-        BetHead::Unifier(n) => Piece {
+        BetHead::Unifier(n) => MemberTop {
             top: 0,
             end: at + 3,
             pairs: n,
         },
-        BetHead::Or(_) => Piece {
+        BetHead::Or(_) => MemberTop {
             top: 0,
             end: at + 2,
             pairs: 0,
@@ -142,7 +142,7 @@ fn bet_top(event: &[u8], at: usize) -> Piece
                 goals: 1,
             },
         )),
-        BetHead::NoBet => Piece {
+        BetHead::NoBet => MemberTop {
             top: 0,
             end: at,
             pairs: 0,
@@ -150,18 +150,18 @@ fn bet_top(event: &[u8], at: usize) -> Piece
     }
 }
 
-fn member_top(event: &[u8], at: usize, stack: Stack) -> Piece
+fn member_top(event: &[u8], at: usize, stack: StackKind) -> MemberTop
     requires { ⌜ MemberAt stack (now event) at ⌝ }
     ensures { λ r. ⌜ ((a : MemberAt stack (now (event .entry)) at) → PieceOf (now (event .entry)) (member-variables stack (a .item)) (a .end) r) ⌝ }
 {
     match stack {
-        Stack::Ancestors => whole(ancestor_top(event, at)),
-        Stack::Bets => bet_top(event, at),
+        StackKind::Ancestors => whole(ancestor_top(event, at)),
+        StackKind::Bets => bet_top(event, at),
     }
 }
 
 // The greater of m and one more than the greatest variable of a stack of n members.
-fn stack_top(event: &[u8], at: usize, stack: Stack, n: usize, m: usize) -> usize
+fn stack_top(event: &[u8], at: usize, stack: StackKind, n: usize, m: usize) -> usize
     requires { ⌜ StackAt stack (now event) at n ⌝ }
     ensures { λ r. ⌜ ((u : StackAt stack (now (event .entry)) at n) → r ≡ max m (above (members-variables stack (u .items)))) ⌝ }
 {
@@ -201,5 +201,11 @@ pub fn next_variable(event: &[u8], frame: Frame) -> usize
             goals: 1,
         },
     );
-    stack_top(event, frame.ancestors, Stack::Ancestors, frame.depth, t.top)
+    stack_top(
+        event,
+        frame.ancestors,
+        StackKind::Ancestors,
+        frame.depth,
+        t.top,
+    )
 }

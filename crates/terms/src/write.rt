@@ -9,7 +9,7 @@ ghost use Prim.Native.Nat.{_≤_, _<_};
 ghost use lib.ListN.{length};
 ghost use Rattle.records.specs.Writing.Patched.{Put};
 ghost use Rattle.terms.specs.Classes.Nodes.{nodes};
-ghost use Rattle.terms.specs.Unifier.ClassTerms.{head-bytes, ClassTable, Fits, Rest, Wrote, Wrotes};
+ghost use Rattle.terms.specs.Unifier.ClassTerms.{head-bytes, ClassTable, ClassFits, ChildrenLeft, Wrote, Wrotes};
 
 // A node's own bytes.
 fn put_head(out: &mut [u8], kind: usize, number: usize) -> usize
@@ -36,7 +36,7 @@ pub fn write_term(
     r: usize,
 )
     requires { ⌜ ClassTable (nodes (now kind) (now number) (now next)) (now rep) (now size) ⌝ }
-    requires { ⌜ Fits (nodes (now kind) (now number) (now next)) (now size) (now out) r ⌝ }
+    requires { ⌜ ClassFits (nodes (now kind) (now number) (now next)) (now size) (now out) r ⌝ }
     ensures { λ _. ⌜ Wrote (nodes (now (kind .entry)) (now (number .entry)) (now (next .entry))) (now (rep .entry)) (now (size .entry)) r (now (out .entry)) (now (out .exit)) ⌝ }
 {
     let k = kind[r];
@@ -73,7 +73,7 @@ fn write_args(
     left: usize,
 )
     requires { ⌜ ClassTable (nodes (now kind) (now number) (now next)) (now rep) (now size) ⌝ }
-    requires { ⌜ Rest (nodes (now kind) (now number) (now next)) (now rep) (now size) (now out) p end left ⌝ }
+    requires { ⌜ ChildrenLeft (nodes (now kind) (now number) (now next)) (now rep) (now size) (now out) p end left ⌝ }
     ensures { λ _. ⌜ Wrotes (nodes (now (kind .entry)) (now (number .entry)) (now (next .entry))) (now (rep .entry)) p end left (now (out .entry)) (now (out .exit)) ⌝ }
 {
     if p >= end {

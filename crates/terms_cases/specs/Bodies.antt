@@ -13,7 +13,7 @@ use Rattle.terms.specs.Body.Body.{Body, body}
 use Rattle.terms.specs.Body.BodyBytes.{BodyAnswered}
 use Rattle.terms.specs.declared.body.BodyAnswer.{BodyAnswer}
 use Rattle.terms_cases.specs.declared.body.BodyCase.{BodyCase}
-use Rattle.terms_cases.specs.declared.body.BodyCase.the-variants.{Refused, NoAtom, Answered as TheAnswer}
+use Rattle.terms_cases.specs.declared.body.BodyCase.the-variants.{Refused, NoAtom, Body as TheAnswer}
 
 -- a question refuses a record, the event's goal is no atom, or this is the atom's body
 pub data AtomBody : Type 0 where

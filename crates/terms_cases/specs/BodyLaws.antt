@@ -1,4 +1,4 @@
--- Laws of a case of kind b, in the order of the code: a record is refused, the goal is no atom, the program and the frame are found, the body.
+-- Laws of a case of kind b, in the order of the code: a record that is refused, a goal that is no atom, program and frame found, and the body.
 use mathlib.Core.Path.{_≡_, refl, ap}
 use mathlib.Core.List.{List}
 use native.Mathlib.Omega.{arith}
@@ -8,7 +8,7 @@ use Rattle.records.specs.Format.Syntax.Goal.{truth, failure, equal, conj, disj,
 use Rattle.records.specs.Format.Syntax.Event.{event}
 use Rattle.records.specs.Format.Heads.{goal-head-at}
 use Rattle.records.specs.Format.HeadLaws.{Known}
-use Rattle.records.specs.Gate.Gate.{Reading, Accepted, verdict, program-number, event-number, read-event}
+use Rattle.records.specs.Gate.Gate.{Reading, Accepted, read-event}
 use Rattle.records.specs.Gate.Gate.Reading.{tree}
 use Rattle.records.specs.Ends.Places.{event-places}
 use Rattle.records.specs.Ends.Stands.{head-of-goal}
@@ -23,7 +23,7 @@ use Rattle.terms.specs.declared.variables.Frame.{Frame}
 use Rattle.terms.specs.declared.body.BodyAnswer.{BodyAnswer}
 use Rattle.terms_cases.specs.Kinds.{kind-byte}
 use Rattle.terms_cases.specs.Bodies.{other, goal-body, body-case, AtomGoal, atom-event, BodyReplied}
-use Rattle.terms_cases.specs.declared.body.BodyCase.the-variants.{Refused, NoAtom, Answered as TheAnswer}
+use Rattle.terms_cases.specs.declared.body.BodyCase.the-variants.{Refused, NoAtom, Body as TheAnswer}
 
 -- the program is refused, or the event
 pub program-replied : {before : List ℕ} {k : ℕ} (r : Reading (List Definition)) (e : Reading Event) → k ≡ answer-number (program-door r) → (k ≡ 0 → ⊥)

@@ -13,7 +13,7 @@ use Rattle.terms.specs.Theory.Outcome.{Unified, unified-under}
 use Rattle.terms.specs.Unifier.Equality.{UnifierAnswered}
 use Rattle.terms.specs.declared.equality.UnifierAnswer.{UnifierAnswer}
 use Rattle.terms_cases.specs.declared.unify.Unifying.{Unifying}
-use Rattle.terms_cases.specs.declared.unify.Unifying.the-variants.{Refused, NoEquality, Answered as TheAnswer}
+use Rattle.terms_cases.specs.declared.unify.Unifying.the-variants.{Refused, NoEquality, Unifier as TheAnswer}
 
 -- a question refuses the event, its goal is no equality, or this is the equality's outcome
 pub data Equality : Type 0 where

@@ -4,13 +4,14 @@ use mathlib.Core.List.{List}
 use native.Mathlib.Omega.{arith}
 use Prim.Native.Nat.{ℕ, _+_, _≤_}
 use lib.ListN.{length}
+use Rattle.records.specs.Format.Never.{never}
 use Rattle.records.specs.Format.Syntax.{Goal, Ancestor, Bet, Port, Event}
 use Rattle.records.specs.Format.Syntax.Goal.{truth, failure, equal, conj, disj, atom}
 use Rattle.records.specs.Format.Syntax.Event.{event}
 use Rattle.records.specs.Format.Encode.{term-bytes}
 use Rattle.records.specs.Format.Heads.{goal-head-at}
 use Rattle.records.specs.Format.HeadLaws.{Known, bytes-all}
-use Rattle.records.specs.Gate.Gate.{Reading, Accepted, verdict, event-number, read-event}
+use Rattle.records.specs.Gate.Gate.{Reading, Accepted, read-event}
 use Rattle.records.specs.Gate.Gate.Reading.{tree}
 use Rattle.records.specs.Gate.GateLaws.{event-tree}
 use Rattle.records.specs.Ends.Places.{goal-end, event-places}
@@ -23,13 +24,13 @@ use Rattle.terms.specs.Standing.AcceptedLaws.{goal-told, left-ends}
 use Rattle.records.specs.Gate.Reply.{answer-number}
 use Rattle.records.specs.Gate.Door.{event-door}
 use Rattle.terms.specs.Values.Applied.{TermAt}
-use Rattle.terms.specs.Standing.BetRow.{Bets}
+use Rattle.terms.specs.Standing.BetRow.{RuledBets}
 use Rattle.terms.specs.Theory.Outcome.{unified-under}
 use Rattle.terms.specs.Unifier.Equality.{UnifierAnswered}
 use Rattle.terms.specs.declared.equality.UnifierAnswer.{UnifierAnswer}
 use Rattle.terms_cases.specs.Kinds.{kind-byte}
 use Rattle.terms_cases.specs.Equalities.{other, goal-equality, equality-of, EqualityAt, equality-event, EqualityReplied}
-use Rattle.terms_cases.specs.declared.unify.Unifying.the-variants.{Refused, NoEquality, Answered as TheAnswer}
+use Rattle.terms_cases.specs.declared.unify.Unifying.the-variants.{Refused, NoEquality, Unifier as TheAnswer}
 
 -- the event is refused
 pub refused-replied : {before : List ℕ} {k : ℕ} (r : Reading Event) → k ≡ answer-number (event-door r) → (k ≡ 0 → ⊥) → EqualityReplied (equality-of r) before before (Refused k)
@@ -88,7 +89,7 @@ module _ {s : List ℕ} (known : Known s) (q : EqualityAt s) {places : Places} (
   unfolding event-places
   goal-to = rw i refl
 
-  abbrev pub bets-there : Bets s (places .bets .from) (places .bets .count)
+  abbrev pub bets-there : RuledBets s (places .bets .from) (places .bets .count)
   bets-there = bets-moved bets-from bets-count (accepted-bets s known (equal (q .left) (q .right)) (q .read))
 
   module _ {middle : ℕ} (m : end-at s 5 1 0 ≡ At middle) where
@@ -109,7 +110,7 @@ module _ {s : List ℕ} (known : Known s) (q : EqualityAt s) {places : Places} (
   left-lost h = lost (sym (left-ends s known (q .left) (q .right) (q .read)) ∙ h)
     where
       lost : {P : Type 0} {e : ℕ} → At e ≡ Nothing → P
-      lost e = absurd (let z : _≡_ {A = ℕ} 0 1 = cc in omega arith)
+      lost e = never cc
 
 -- the unifier of its sides is the answer for the event
 pub unifier-replied : {s : List ℕ} (q : EqualityAt s) {before after : List ℕ} {a : UnifierAnswer} → UnifierAnswered before after (unified-under (q .bets) (q .left) (q .right)) a

@@ -18,7 +18,7 @@ ghost use Rattle.terms_cases.specs.Bodies.{AtomGoal, BodyReplied, body-c
 pub enum BodyCase {
     Refused(u8),
     NoAtom,
-    Answered(BodyAnswer),
+    Body(BodyAnswer),
 }
 
 // The body of the atom that the event's goal is.
@@ -59,5 +59,5 @@ pub fn body_case(program: &[u8], event: &[u8], out: &mut [u8]) -> BodyCase
     if goal_kind(goal_head(event, 4)) != ATOM {
         return BodyCase::NoAtom;
     }
-    BodyCase::Answered(atom_goal(program, event, out))
+    BodyCase::Body(atom_goal(program, event, out))
 }

@@ -42,7 +42,7 @@ pub fn print_unifier(answer: Unifying, out: &[u8]) {
     match answer {
         Unifying::Refused(number) => print_number(wide(number) as u64),
         Unifying::NoEquality => print_word(b"other"),
-        Unifying::Answered(unifier) => print_unifier_answer(unifier, out),
+        Unifying::Unifier(unifier) => print_unifier_answer(unifier, out),
     }
 }
 
@@ -59,6 +59,6 @@ pub fn print_body(answer: BodyCase, out: &[u8]) {
     match answer {
         BodyCase::Refused(number) => print_number(wide(number) as u64),
         BodyCase::NoAtom => print_word(b"other"),
-        BodyCase::Answered(body) => print_body_answer(body, out),
+        BodyCase::Body(body) => print_body_answer(body, out),
     }
 }

@@ -16,7 +16,7 @@ ghost use Rattle.terms_cases.specs.Equalities.{EqualityAt, EqualityRepli
 pub enum Unifying {
     Refused(u8),
     NoEquality,
-    Answered(UnifierAnswer),
+    Unifier(UnifierAnswer),
 }
 
 // The unifier of the sides of the equality that the event's goal is.
@@ -38,7 +38,7 @@ fn unify_goal(event: &[u8], out: &mut [u8]) -> Unifying
         from: middle,
         to: goal.to,
     };
-    Unifying::Answered(unifier_under(event, bets.from, bets.count, left, right, out))
+    Unifying::Unifier(unifier_under(event, bets.from, bets.count, left, right, out))
 }
 
 // What the event's equality comes to, for every slice.

@@ -1,11 +1,11 @@
 -- A record is read by two calls, of which the second leaves the length field as it is; and how long it is at most.
 use mathlib.Core.Path.{_≡_, refl, sym, ap, _∙_}
-use mathlib.Core.Bool.{true≢false}
 use mathlib.Core.List.{List}
 use Prim.Native.Nat.{ℕ, _+_, _≤_}
 use native.Mathlib.Omega.{arith}
 use lib.ListN.{take}
 use lib.Seq.{take-take}
+use Rattle.records.specs.Format.Never.{never}
 use Rattle.records.specs.Format.Syntax.{Definition}
 use Rattle.records.specs.Gate.Question.{Asked, Question}
 use Rattle.records.specs.Gate.Gate.{Reading, tree, read-program}
@@ -43,7 +43,7 @@ module _ {program before : List ℕ} {n : ℕ} (is : n ≡ answer-number (progra
     where
       go : (o : Reading (List Definition)) → read-program program ≡ o → {q : Question} → program-door o ≡ Answer.refused q → QueryRead program before 0 before
       go (Reading.refused a) h e = record { unread = λ q h. (refl, refl); record-read = λ a. absurd (rw h at a) }
-      go (tree P) h e = absurd (true≢false cc)
+      go (tree P) h e = never cc
 
   pub query-told : {after : List ℕ} {r : ℕ} → n ≡ 0 → RecordRead after r → QueryRead program before r after
   query-told z w =
@@ -51,4 +51,4 @@ module _ {program before : List ℕ} {n : ℕ} (is : n ≡ answer-number (progra
       record { unread = λ q h. absurd (differ (p .0) q (sym (p .1) ∙ h)); record-read = λ a. w }
     where
       differ : {A : Type 0} (x : A) (q : Asked) → tree x ≡ Reading.refused q → ⊥
-      differ x q e = true≢false cc
+      differ x q e = never cc

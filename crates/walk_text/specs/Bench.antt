@@ -1,4 +1,4 @@
--- The bench sheet (SPECIFICATION 11), the lines marked P, as one table, in the sheet's order: each is computed from the definitions that the services'
+-- The bench sheet's proved lines (SPECIFICATION 11.1 to 11.12) as one table, in the sheet's order: each is computed from the definitions that the services'
 -- contracts cite. `out` is any buffer that passes question 5.
 use mathlib.Core.Path.{_≡_}
 use mathlib.Core.List.{List, [], _∷_, _++_}
@@ -83,7 +83,7 @@ abbrev run-of-Q : ℕ → List ℕ → RunReply
 run-of-Q n out = run-of forward n (program-record (definition 7 1 0 B ∷ [])) (event-record (first-event Q)) out
 
 module _ (out : List ℕ) (room : 32768 ≤ length out) where
-  -- that query's first event is 00 0E 01 01 12 01 00 00 02 00 02 00 00 00 00 00
+  -- 11.1: the bytes of a query's first event
   pub first-bytes : first-of (0x00 ∷ 0x09 ∷ 0x01 ∷ 0x12 ∷ 0x01 ∷ 0x00 ∷ 0x00 ∷ 0x02 ∷ 0x00 ∷ 0x02 ∷ 0x00 ∷ []) out
       ≡ record {
         number = 0;
@@ -92,7 +92,7 @@ module _ (out : List ℕ) (room : 32768 ≤ length out) where
   unfolding first-of
   first-bytes = rw (le-leb 32768 (length out) room)
 
-  -- the next is 00 17 01 02 12 01 00 00 02 00 02 00 00 00 00 01 20 00 01 00 00 02 00 02 00
+  -- 11.2: the bytes of the event after it
   pub next-bytes : step-of forward (0x00 ∷ 0x03 ∷ 0x01 ∷ 0x00 ∷ 0x00 ∷ [])
       (0x00 ∷ 0x0E ∷ 0x01 ∷ 0x01 ∷ 0x12 ∷ 0x01 ∷ 0x00 ∷ 0x00 ∷ 0x02 ∷ 0x00 ∷ 0x02 ∷ 0x00 ∷ 0x00 ∷ 0x00 ∷ 0x00 ∷ 0x00 ∷ []) out
       ≡ record {
@@ -103,54 +103,54 @@ module _ (out : List ℕ) (room : 32768 ≤ length out) where
   unfolding step-of
   next-bytes = rw (le-leb 32768 (length out) room)
 
-  -- p(V), V=b: event 8 is fail V=b
+  -- 11.4: of p(V),V=b event 8 is the fail of V=b
   pub event-8 : run-of-Q 8 out
       ≡ ran 0 8 (event fail (equal X b) (in-conj second p (equal X b) ∷ []) (by B ∷ or first ∷ unifier (bind 0 a ∷ []) ∷ [])) out
   unfolding run-of
   event-8 = rw (le-leb 32768 (length out) room)
 
-  -- event 12 is fail V=a with no bets
+  -- 11.5: at event 12 V=a fails, and no bet is left
   pub event-12 : run-of-Q 12 out
       ≡ ran 0 12 (event fail (equal X a) (in-disj first (equal X a) (equal X b) ∷ called 7 (cons X nil) ∷ in-conj first p (equal X b) ∷ []) []) out
   unfolding run-of
   event-12 = rw (le-leb 32768 (length out) room)
 
-  -- it takes 19 steps: event 19 is exit with four bets, top first: empty unifier, BY, OR 2, V/b; a twentieth is refused by 6
+  -- 11.3 and 11.6: 19 steps lead to the exit of the query with its four bets, and 6 refuses a twentieth
   pub event-19 : run-of-Q 20 out ≡ ran 6 19 (event exit Q [] (unifier [] ∷ by B ∷ or second ∷ unifier (bind 0 b ∷ []) ∷ [])) out
   unfolding run-of
   event-19 = rw (le-leb 32768 (length out) room)
 
-  -- V0=f(V0) fails
+  -- 11.7: a variable and a term around it
   pub variable-inside : stepped (equal (var 0) (f₁ (var 0))) out ≡ gave (event fail (equal (var 0) (f₁ (var 0))) [] []) out
   unfolding step-of
   variable-inside = rw (le-leb 32768 (length out) room)
 
-  -- V3=V7 binds 7 to 3
+  -- 11.8: of two variables the higher is bound
   pub lowest-stays : stepped (equal (var 3) (var 7)) out ≡ gave (event exit (equal (var 3) (var 7)) [] (unifier (bind 7 (var 3) ∷ []) ∷ [])) out
   unfolding step-of
   lowest-stays = rw (le-leb 32768 (length out) room)
 
-  -- f(V0,V0)=f(V1,a) binds 0 and 1 to a
+  -- 11.9: two variables, each bound to a
   pub both-bound : stepped (equal (f₂ (var 0) (var 0)) (f₂ (var 1) a)) out
       ≡ gave (event exit (equal (f₂ (var 0) (var 0)) (f₂ (var 1) a)) [] (unifier (bind 0 a ∷ bind 1 a ∷ []) ∷ [])) out
   unfolding step-of
   both-bound = rw (le-leb 32768 (length out) room)
 
-  -- an undefined atom goes call, fail
+  -- 11.10: an atom without a definition
   pub undefined-fails : stepped (atom 7 nil) out ≡ gave (event fail (atom 7 nil) [] []) out
   unfolding step-of
   undefined-fails = rw (le-leb 32768 (length out) room)
 
-  -- redo true with empty stacks, stepped forward, gives fail true
+  -- 11.11: redo of true, forward,
   pub redo-true : step-of forward (program-record []) (event-record (event redo truth [] [])) out ≡ gave (event fail truth [] []) out
   unfolding step-of
   redo-true = rw (le-leb 32768 (length out) room)
 
-  -- the same redo event, stepped back, gets 7
+  -- and back
   pub redo-true-back : step-of back (program-record []) (event-record (event redo truth [] [])) out ≡ record { number = 7; output = out }
   unfolding step-of
   redo-true-back = rw (le-leb 32768 (length out) room)
 
-  -- q(a). q(f(Z)) :- q(Z). becomes (X0=a, true) ; (X0=f(V1), q(V1)), one local
+  -- 11.12: the two clauses of q as one definition with one local
   pub clauses-joined : canonical-bytes (clauses-record q-clauses) out ≡ record { number = 0; output = written (program-record (definition 7 1 1 q-body ∷ [])) out }
   clauses-joined = bench-bytes out room

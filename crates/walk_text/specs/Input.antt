@@ -1,5 +1,5 @@
--- The records of the walk program's input, each found by its length field (SPECIFICATION 8). What is taken of an input that
--- ends early, or whose length field is over 32,766, is a no to question 1.
+-- The records of the walk program's input, each found by its length field (SPECIFICATION 8.10). Of an input that ends within a record, and where a
+-- length field says more than a record has, what is taken is refused by question 1.
 use mathlib.Core.Bool.{cond}
 use mathlib.Core.List.{List, [], _∷_}
 use Prim.Native.Nat.{ℕ, _+_}

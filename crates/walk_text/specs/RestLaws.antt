@@ -1,6 +1,6 @@
 -- What a page gives of a text: the stop line alone, the first line, the lines of a run's log, and what is left where the records are refused or accepted.
 use mathlib.Core.Path.{_≡_, refl, sym, ap, _∙_, subst}
-use mathlib.Core.Bool.{true, false, true≢false}
+use mathlib.Core.Bool.{true, false}
 use mathlib.Core.List.{List, [], _++_, append-nil, append-assoc}
 use mathlib.Core.Option.{some, Option·some-injective}
 use Prim.Native.Nat.{ℕ, suc, _+_, _-_, _*_, _/_, _≤_, _<_, min}
@@ -10,21 +10,22 @@ use native.Mathlib.Decide.{decLe}
 use native.Mathlib.Omega.{arith}
 use lib.ListN.{length, take, length-take}
 use lib.Seq.{take-all}
+use Rattle.records.specs.Format.Never.{never}
 use Rattle.records.specs.Format.Syntax.{Goal, Event, Definition}
 use Rattle.records.specs.Gate.Question.{question-number}
 use Rattle.records.specs.Gate.Gate.{tree, read-program, read-event}
 use Rattle.records.specs.Writing.Patched.{Put, part-patched, length-patched, put-none, put-then, put-length}
 use Rattle.records.specs.Gate.Reply.{through, answer-number, reply-with, Replied}
 use Rattle.records.specs.Gate.ReplyLaws.{number-refuses}
-use Rattle.records.specs.Gate.Door.{program-door, door, Passed}
+use Rattle.records.specs.Gate.Door.{program-door, door, BothPassed}
 use Rattle.records.specs.Gate.DoorLaws.{door-both}
-use Rattle.stepper.specs.Rules.Machine.{Machine, Answer, refused, gives}
+use Rattle.stepper.specs.Rules.Machine.{Machine, StepOutcome, refused, gives}
 use Rattle.stepper.specs.Rules.Rules.{first-event}
 use Rattle.stepper.specs.Services.Services.{machine, first-answer, first-record}
 use Rattle.stepper.specs.Services.Desk.{layers}
 use Rattle.stepper.specs.Run.Run.{spent, met, full, by, RunEnd, run, stop-number, asked, stop-case, log-numbers, RanTo}
 use Rattle.stepper.specs.Run.Run.{Order, Stop}
-use Rattle.stepper.specs.Run.RunLaws.{Told, run-log-length, run-told, run-within, run-log-within}
+use Rattle.stepper.specs.Run.RunLaws.{StopTold, run-log-length, run-told, run-within, run-log-within}
 use Rattle.stepper.specs.Run.RunLoop.{numbers-length}
 use Rattle.stepper.specs.declared.run.RunAnswer.{RunAnswer}
 use Rattle.walk_text.specs.Line.{line-bytes, mark-lines, log-lines, stop-bytes}
@@ -51,7 +52,7 @@ unfolding left-text
 gives-last {whole = whole} most put h = record { bytes = whole; put = put; inside = h; text-is = sym (append-nil whole); fewer = λ p. p }
 
 -- what is left of a walk, under an accepted program, from an accepted event on
-walk-left : {program : List ℕ} (rest : Rest) {len : ℕ} → len ≡ min (rest .length) 32768 → (w : Passed program (take len (rest .event)))
+walk-left : {program : List ℕ} (rest : Rest) {len : ℕ} → len ≡ min (rest .length) 32768 → (w : BothPassed program (take len (rest .event)))
     → lines-left program rest ≡ rest-of-text (machine layers (w .definitions)) (steps-made rest) (w .event)
 unfolding lines-left through
 walk-left {program} rest l w = rw (← l, door-both (read-program program) (read-event (take _ (rest .event))) (w .program-reads) (w .reads))
@@ -65,20 +66,20 @@ take-least n l h = go (decLe n 32768)
     go (no k) = let e : min n 32768 ≡ 32768 = omega arith in let a : length l ≤ n = omega arith in let b : length l ≤ 32768 = omega arith in rw (e, take-all n l a, take-all 32768 l b) refl
 
 is-filled : (s : Stop) → full-case (stop-case s) ≡ true → s ≡ full
-is-filled spent h = absurd (true≢false (sym h))
-is-filled met h = absurd (true≢false (sym h))
+is-filled spent h = never (sym h)
+is-filled met h = never (sym h)
 is-filled full h = refl
-is-filled (by q) h = absurd (true≢false (sym h))
+is-filled (by q) h = never (sym h)
 
 not-filled : (M : Machine) (s : Stop) → full-case (stop-case s) ≡ false → (n at : ℕ) (e : Event) → after-stop M s n at e ≡ stop-bytes (stop-number s)
 unfolding after-stop
 not-filled M spent h n at e = refl
 not-filled M met h n at e = refl
-not-filled M full h n at e = absurd (true≢false h)
+not-filled M full h n at e = never h
 not-filled M (by q) h n at e = refl
 
 -- the page of a run that was lent a log of 960 marks
-module _ {program s : List ℕ} (w : Passed program s) (first : ℕ) (limit : first ≤ step-limit) {log log′ out out′ : List ℕ} {r : RunAnswer} (size : length log ≡ 2880)
+module _ {program s : List ℕ} (w : BothPassed program s) (first : ℕ) (limit : first ≤ step-limit) {log log′ out out′ : List ℕ} {r : RunAnswer} (size : length log ≡ 2880)
     (ran : RanTo (run (machine layers (w .definitions)) (asked walk-order log) (step-limit - first) (w .event)) true log out r log′ out′) where
   abbrev M : Machine
   M = machine layers (w .definitions)
@@ -135,8 +136,8 @@ module _ {program s : List ℕ} (w : Passed program s) (first : ℕ) (limit : fi
       let rest : Rest = record { stage = Walking; step = first + r .taken; length = r .length; event = out′ } in
       let t = ran .tells .taken-is in
       let filled : end .why ≡ full = is-filled (end .why) (rw (ran .tells .stop-is) at f) in
-      let all : end .taken ≡ 960 = Option·some-injective _ _ (sym (subst (Told M o (step-limit - first) end) filled (run-told M o (step-limit - first) (w .event))) ∙ room) in
-      let on : Passed program (take (min (r .length) 32768) out′) = record {
+      let all : end .taken ≡ 960 = Option·some-injective _ _ (sym (subst (StopTold M o (step-limit - first) end) filled (run-told M o (step-limit - first) (w .event))) ∙ room) in
+      let on : BothPassed program (take (min (r .length) 32768) out′) = record {
         definitions = w .definitions;
         program-reads = w .program-reads;
         event = end .event;
@@ -176,7 +177,7 @@ gate-text program rest {len} {n} l is z =
 
 -- a walk that goes on from a record that is accepted
 pub gives-later : {program query before after : List ℕ} {page : Page} (rest : Rest) {len first : ℕ} → len ≡ min (rest .length) 32768 → first ≡ steps-made rest
-    → (w : Passed program (take len (rest .event)))
+    → (w : BothPassed program (take len (rest .event)))
     → PageOf program query (rest-of-text (machine layers (w .definitions)) first (w .event)) (suc (step-limit - first)) before 0 page after
     → PageOf program query (lines-left program rest) (suc (step-limit - steps-made rest)) before 0 page after
 gives-later rest l f w g = rw (walk-left rest l w, ← f) g
@@ -188,7 +189,7 @@ module _ (program query : List ℕ) (P : List Definition) (reads : read-program 
   unfolding text through program-door first-record reply-with
   first-text {n} out room r z = go (first-answer layers query 32768) refl
     where
-      go : (a : Answer) → first-answer layers query 32768 ≡ a → text program query ≡ stop-bytes n
+      go : (a : StepOutcome) → first-answer layers query 32768 ≡ a → text program query ≡ stop-bytes n
       go (refused q) x = let k : n ≡ question-number q = r .number-is ∙ rw (room, x) refl in rw (reads, x, k) refl
       go (gives c) x = absurd (z (r .number-is ∙ rw (room, x) refl))
 
@@ -235,13 +236,13 @@ pages-more rest d = go (rest .stage) d
     go : (s : Stage) → done s ≡ false → 0 < by-stage s (suc step-limit) (suc (step-limit - steps-made rest)) 0
     go Start h = omega arith
     go Walking h = omega arith
-    go Done h = absurd (true≢false h)
+    go Done h = never h
 
 pub nothing-left : (program query : List ℕ) (rest : Rest) → done (rest .stage) ≡ true → left-text program query rest ≡ []
 unfolding left-text
 nothing-left program query rest d = go (rest .stage) (text program query) (lines-left program rest) d
   where
     go : (s : Stage) (a b : List ℕ) → done s ≡ true → by-stage s a b [] ≡ []
-    go Start a b h = absurd (true≢false (sym h))
-    go Walking a b h = absurd (true≢false (sym h))
+    go Start a b h = never (sym h)
+    go Walking a b h = never (sym h)
     go Done a b h = refl

@@ -8,7 +8,7 @@ use Rattle.records.specs.Gate.Question.{Question, question-number}
 use Rattle.records.specs.Gate.Reply.{through}
 use Rattle.records.specs.Gate.Door.{program-door}
 use Rattle.records.specs.Gate.Gate.{read-program}
-use Rattle.stepper.specs.Rules.Machine.{Machine, Answer, refused, gives}
+use Rattle.stepper.specs.Rules.Machine.{Machine, StepOutcome, refused, gives}
 use Rattle.stepper.specs.Rules.Rules.{step-forward}
 use Rattle.stepper.specs.Services.Services.{machine, first-answer}
 use Rattle.stepper.specs.Services.Desk.{layers}
@@ -20,7 +20,7 @@ abbrev pub step-limit : ℕ
 step-limit = 100000
 
 -- the stop line with the number of the question that refuses a step, or what is printed of the event that the step gives
-abbrev pub answer-text : Answer → (Event → List ℕ) → List ℕ
+abbrev pub answer-text : StepOutcome → (Event → List ℕ) → List ℕ
 answer-text (refused q) text = stop-bytes (question-number q)
 answer-text (gives c) text = text c
 
@@ -49,6 +49,6 @@ text program query =
     through refused-text (program-door (read-program program)) (λ P.
     answer-text (first-answer layers query 32768) (text-from (machine layers P) 0))
 
--- the text of an input: a program record and then a query record are taken, and nothing after them
+-- the text of an input: what is taken of it as the program's record, then as the query's, and nothing behind that
 unfoldable pub printed : (input : List ℕ) → List ℕ
 printed input = text (taken input) (taken (drop (length (taken input)) input))

@@ -1,7 +1,7 @@
 -- Laws of the text: what follows an event's line is the lines of a run's log, and then the stop line or what follows the event reached; and how a walk
 -- starts, from the first event, whose record has five bytes more than the query's.
 use mathlib.Core.Path.{_≡_, refl, sym, ap, _∙_}
-use mathlib.Core.Bool.{false, true≢false}
+use mathlib.Core.Bool.{false}
 use mathlib.Core.List.{List, _++_, append-assoc}
 use mathlib.Core.Option.{none}
 use Prim.Native.Nat.{ℕ, zero, suc, _+_, _-_, _≤_}
@@ -9,6 +9,7 @@ use native.Mathlib.Nat.{add-zero}
 use native.Mathlib.Omega.{arith}
 use lib.ListN.{length, take, drop, length-append}
 use lib.Seq.{take-at}
+use Rattle.records.specs.Format.Never.{never}
 use Rattle.records.specs.Format.Syntax.{Goal, Event, Definition}
 use Rattle.records.specs.Format.Encode.{goal-bytes, event-bytes, record-of, event-record}
 use Rattle.records.specs.Format.HeadLaws.{Known, bytes-all}
@@ -27,7 +28,7 @@ use Rattle.stepper.specs.Services.Services.{Start, record-limit, reply, first-a
 use Rattle.stepper.specs.Services.ServiceLaws.{Recordable, limit-fits, done-reads, start-record}
 use Rattle.stepper.specs.Services.Desk.{layers, lawful}
 use Rattle.records.specs.Gate.Reply.{through, reply-with, Replied}
-use Rattle.stepper.specs.Step.Stepped.{Passed}
+use Rattle.stepper.specs.Step.Stepped.{BothPassed}
 use Rattle.stepper.specs.Run.Run.{mark, meets, Order, Stop, spent, met, full, by, RunEnd, past, run, stop-number}
 use Rattle.stepper.specs.Run.RunLaws.{Course, no-count, no-room, no-step, last-step, one-step, course}
 use Rattle.walk_text.specs.Line.{mark-line, line-bytes, mark-lines, stop-bytes}
@@ -66,7 +67,7 @@ module _ (M : Machine) where
   text-goes (no-count {e = e}) d a at = after-last at e
   text-goes (no-room {n = n} {e = e} f) d a at = let m : suc n - 0 ≡ suc n = omega arith in rw (m, add-zero at) refl
   text-goes (no-step {n = n} {e = e} q f h) d a at = after-refused at e n q (rw d at h)
-  text-goes (last-step c f h m) d a at = absurd (true≢false (sym (rw a at m)))
+  text-goes (last-step c f h m) d a at = never (sym (rw a at m))
   text-goes (one-step {n = n} {e = e} {r = r} c f h m k) d a at =
       let x : suc n - suc (r .taken) ≡ n - r .taken = omega arith in
       let y : at + suc (r .taken) ≡ suc at + r .taken = omega arith in
@@ -126,5 +127,5 @@ begun query out known r z =
 
 -- under an accepted program the walk can go on from there
 abbrev pub begun-passed : {program query here : List ℕ} {room : ℕ} (P : List Definition) → read-program program ≡ tree P → Begun query room here
-    → Passed program (take (length query + 5) here)
+    → BothPassed program (take (length query + 5) here)
 begun-passed P h b = record { definitions = P; program-reads = h; event = first-event (b .goal); reads = b .reads }

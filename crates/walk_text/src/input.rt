@@ -1,12 +1,13 @@
 // The records of an input: how many bytes belong to one, by its length field.
 use records::heads::Word;
 use records::heads::word_at;
+use records::kinds::RECORD_LIMIT;
 ghost use mathlib.Core.Path.{_≡_};
 ghost use lib.ListN.{length};
 ghost use Rattle.walk_text.specs.Input.{bytes-named, taken};
 
 // No record's length field names more bytes.
-const LONGEST: usize = 32766;
+const LONGEST: usize = RECORD_LIMIT - 2;
 
 // How many bytes follow a length field. None where its two bytes are not there, or name more than a record has.
 pub fn named(field: &[u8]) -> usize

@@ -17,7 +17,7 @@ ghost use mathlib.Core.List.{List};
 ghost use Prim.Native.Nat.{ℕ, suc, _-_, _≤_, min};
 ghost use Rattle.stepper.specs.Services.Services.{machine};
 ghost use Rattle.stepper.specs.Services.Desk.{layers};
-ghost use Rattle.records.specs.Gate.Door.{Passed};
+ghost use Rattle.records.specs.Gate.Door.{BothPassed};
 ghost use Rattle.walk_text.specs.Line.{stop-bytes};
 ghost use Rattle.walk_text.specs.Text.{step-limit, rest-of-text, text};
 ghost use Rattle.walk_text.specs.Rest.{done, lines-left, steps-made, PageOf, Paged, walk-order, full-case};
@@ -135,10 +135,10 @@ fn is_full(stop: RunStop) -> bool
 // The page that follows the line of an accepted event, at which the walk stands after `first` steps, from a place on: the lines of a run's log, and the
 // stop line where the walk ends.
 fn walk_page(program: &[u8], event: &[u8], first: usize, at: usize, page: &mut [u8; PAGE]) -> Page
-    requires { ⌜ Passed (now program) (now event) ⌝ }
+    requires { ⌜ BothPassed (now program) (now event) ⌝ }
     requires { ⌜ first ≤ step-limit ⌝ }
     requires { ⌜ at ≤ 11 ⌝ }
-    ensures { λ r. ⌜ ((w : Passed (now (program .entry)) (now (event .entry))) (query : List ℕ) → PageOf (now (program .entry)) query (rest-of-text (machine layers (w .definitions)) first (w .event)) (suc (step-limit - first)) (now (page .entry)) at r (now (page .exit))) ⌝ }
+    ensures { λ r. ⌜ ((w : BothPassed (now (program .entry)) (now (event .entry))) (query : List ℕ) → PageOf (now (program .entry)) query (rest-of-text (machine layers (w .definitions)) first (w .event)) (suc (step-limit - first)) (now (page .entry)) at r (now (page .exit))) ⌝ }
 {
     let mut log: [usize; LOG] = [0; LOG];
     let mut out: [u8; RECORD_LIMIT] = [0; RECORD_LIMIT];

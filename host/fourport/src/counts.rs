@@ -2,7 +2,7 @@
 
 use crate::{raw, Event, Refusal};
 
-/// How many events of each port a walk passed. A count at 4,294,967,295 stays.
+/// How many events of each port a walk passed. No count grows beyond 4,294,967,295 (SPECIFICATION 8.8).
 ///
 /// ```
 /// use fourport::{Counts, Event, Query};

@@ -1,7 +1,7 @@
 //! The desk's services over byte slices, with an output lent by the caller: any bytes, any length. Nothing is allocated.
 //!
-//! The result is the number of SPECIFICATION 7, 0 for done; a refusal leaves the output untouched, and bytes after a written record stay as they were. A
-//! written record's length is its first two bytes, big-endian, and 2.
+//! The result is the number of SPECIFICATION 7, 0 for done. With any other number the output stays as it was, except after a run that 6 to 10
+//! stopped; so do the bytes behind what is written (SPECIFICATION 7.8). A written record's length is its first two bytes, big-endian, and 2.
 
 use crate::{sys, Counts};
 
@@ -78,8 +78,8 @@ pub fn value(event: &[u8], v: u16, out: &mut [u8], written: &mut u32) -> u32 {
     sys::value(event, v, out, written)
 }
 
-/// The definition that the event's goal names: the length of the part, and in `at` its place in the program. Both are 0 exactly when a record is
-/// refused, the goal is no atom, or no definition exists.
+/// The definition of the predicate that the event's goal names: the length of the part, and in `at` its place in the program. Both are 0 where a
+/// record is refused, where the goal is not an atom, and where the program does not define its predicate, and nowhere else (SPECIFICATION 8.7).
 ///
 /// ```
 /// let (program, event) = ([0, 8, 1, 0, 1, 0, 5, 0, 0, 0x10], [0, 10, 1, 1, 0x15, 0, 5, 0, 0, 0, 0, 0]);

@@ -22,25 +22,26 @@ pub enum Which {
 /// ```
 #[derive(Clone, Copy, Debug, PartialEq, Eq, Hash)]
 pub enum Refusal {
-    /// 1 or 11: is the slice 3 to 32,768 bytes, its length field naming the rest?
+    /// 1 or 11: has the slice 3 to 32,768 bytes, and does its length field say how many stand behind it?
     Frame(Which),
-    /// 2 or 12: is the version 1?
+    /// 2 or 12: is byte 2, the version, a 1?
     Version(Which),
-    /// 3 or 13: does the grammar read the body to its last byte, each byte in range?
+    /// 3 or 13: is the body, from its first to its last byte, of the kind that was asked for (SPECIFICATION 1.2 to 1.9)?
     Grammar(Which),
-    /// 4 or 14: are the order, variable and pair rules kept?
+    /// 4 or 14: are the record rules kept: the order of definitions, the variables, the pairs of unifiers (SPECIFICATION 1.10)?
     Rules(Which),
-    /// 5: is the output at least 32,768 bytes? The typed services always lend that many.
+    /// 5: has the lent output at least 32,768 bytes? The typed services always lend that many.
     Room,
-    /// 6: is a walk still possible? No: forward from exit or fail with no ancestors; back from call with both stacks empty.
+    /// 6: can the walk go on in this direction? Not forward from exit or fail without ancestors, nor back from call with neither ancestors nor bets.
     Walk,
-    /// 7: does a rule's left side (back: right side) match? Back: also, does the candidate step forward to the given event?
+    /// 7: does the event match the left side of a rule, or for a step back the right side? A step back also asks, after 10: does the candidate,
+    /// stepped forward, give the event (SPECIFICATION 7.7)?
     Match,
-    /// 8: is each of S(T1), S(T2), or the value wanted, at most 8,192 bytes?
+    /// 8: have S(T1) and S(T2), or the one value asked for, at most 8,192 bytes each?
     Value,
-    /// 9: is every new local at most 65,535 (canonical form: locals at most 255)?
+    /// 9: has each local of the body a number of at most 65,535? For the canonical form: has each definition at most 255 locals?
     Locals,
-    /// 10: does the result fit 32,768 bytes?
+    /// 10: has the record of the result at most 32,768 bytes?
     Fit,
     /// A number that the specification does not have. The desk gives none; this is here so that nothing has to panic.
     Unknown(u32),
@@ -120,20 +121,20 @@ impl Refusal {
     ///
     /// ```
     /// # use fourport::Refusal;
-    /// assert_eq!(Refusal::Walk.question(), "is a walk still possible?");
+    /// assert_eq!(Refusal::Walk.question(), "can the walk go on?");
     /// ```
     pub fn question(self) -> &'static str {
         match self {
-            Refusal::Frame(_) => "is the slice 3 to 32,768 bytes, its length field naming the rest?",
+            Refusal::Frame(_) => "has the slice 3 to 32,768 bytes, and does its length field say how many follow?",
             Refusal::Version(_) => "is the version 1?",
-            Refusal::Grammar(_) => "does the grammar read the body to its last byte, each byte in range?",
-            Refusal::Rules(_) => "are the order, variable and pair rules kept?",
-            Refusal::Room => "is the output at least 32,768 bytes?",
-            Refusal::Walk => "is a walk still possible?",
-            Refusal::Match => "does a rule's left side (back: right side) match?",
-            Refusal::Value => "is each of S(T1), S(T2), or the value wanted, at most 8,192 bytes?",
-            Refusal::Locals => "is every new local at most 65,535 (canonical form: locals at most 255)?",
-            Refusal::Fit => "does the result fit 32,768 bytes?",
+            Refusal::Grammar(_) => "is the body, from its first byte to its last, of the kind asked for?",
+            Refusal::Rules(_) => "does it keep the record rules: order, variables, pairs?",
+            Refusal::Room => "has the output at least 32,768 bytes?",
+            Refusal::Walk => "can the walk go on?",
+            Refusal::Match => "does a rule match?",
+            Refusal::Value => "has each value at most 8,192 bytes?",
+            Refusal::Locals => "has each new local a number of at most 65,535, or in a canonical form each definition at most 255 locals?",
+            Refusal::Fit => "has the result at most 32,768 bytes?",
             Refusal::Unknown(_) => "a question that the specification does not have",
         }
     }

@@ -102,7 +102,7 @@ fn numbers_and_words() {
     }
     assert_eq!(Refusal::from_number(15).map(Refusal::number), Some(15));
     let error: Box<dyn std::error::Error> = Box::new(Refusal::Fit);
-    assert_eq!(error.to_string(), "no to question 10: does the result fit 32,768 bytes?");
+    assert_eq!(error.to_string(), "no to question 10: has the result at most 32,768 bytes?");
 }
 
 /// The deepest terms that records and values hold, on a thread of `STACK` bytes.

@@ -29,7 +29,7 @@ pub fn canonical(clauses: &[Clause]) -> Result<Program, Refusal> {
     Ok(program)
 }
 
-/// The branches in the clauses' order, joined by disjunction to the right.
+/// The branches of the clauses, one after the other, under disjunctions nested on the right (SPECIFICATION 2).
 fn definition_goal(arity: usize, clauses: &[&Clause]) -> GoalRef {
     let mut before = arity as u16;
     let mut branches = Vec::with_capacity(clauses.len());
@@ -40,7 +40,7 @@ fn definition_goal(arity: usize, clauses: &[&Clause]) -> GoalRef {
     joined(branches, GoalShape::Disjunction)
 }
 
-/// X1=T1, .., Xn=Tn, G joined by conjunction to the right; the clause's variable i becomes `before` + i.
+/// The equalities of the head and then the body, under conjunctions nested on the right; variable i of the clause is renamed to `before` + i.
 fn branch(clause: &Clause, before: u16) -> GoalRef {
     let renamed =
         |term: &TermRef| rebuild::term(term, 0, u32::MAX, |variable, _| Image::Is(Term::variable(before + variable))).unwrap_or_else(|| term.clone());

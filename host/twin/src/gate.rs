@@ -1,4 +1,4 @@
-//! The gate's questions, their numbers, and the limits they speak of.
+//! The gate's questions (SPECIFICATION 7), their numbers, and the limits they speak of.
 
 /// The longest record, and the least output that question 5 lets pass.
 pub const RECORD_LIMIT: usize = 32_768;
@@ -9,25 +9,26 @@ pub const LOCALS_LIMIT: u32 = 255;
 
 #[derive(Clone, Copy, Debug, PartialEq, Eq)]
 pub enum Question {
-    /// is the slice 3 to 32,768 bytes, its length field naming the rest?
+    /// has the slice 3 to 32,768 bytes, and does its length field say how many stand behind it?
     Frame = 1,
-    /// is the version 1?
+    /// is byte 2, the version, a 1?
     Version = 2,
-    /// does the grammar read the body to its last byte, each byte in range?
+    /// is the body, from its first to its last byte, of the kind that was asked for?
     Grammar = 3,
-    /// are the order, variable and pair rules kept?
+    /// are the record rules of SPECIFICATION 1.10 kept?
     Rules = 4,
-    /// is the output at least 32,768 bytes?
+    /// has the lent output at least 32,768 bytes?
     Room = 5,
-    /// is a walk still possible?
+    /// can the walk go on in this direction?
     Walk = 6,
-    /// does a rule's left side (back: right side) match?
+    /// forward, does the event match the left side of a rule? Back, has it a row in SPECIFICATION 6.1, and does the candidate, stepped forward,
+    /// give the event?
     Match = 7,
-    /// is each of S(T1), S(T2), or the value wanted, at most 8,192 bytes?
+    /// have S(T1) and S(T2), or the one value asked for, at most 8,192 bytes each?
     Value = 8,
-    /// is every new local at most 65,535 (canonical form: locals at most 255)?
+    /// has each local of the body a number of at most 65,535? For the canonical form: has each definition at most 255 locals?
     Locals = 9,
-    /// does the result fit 32,768 bytes?
+    /// has the record of the result at most 32,768 bytes?
     Fit = 10,
 }
 

@@ -238,7 +238,7 @@ fn failed(program: &Program, event: &Event) -> Result<Change, Refusal> {
         GoalShape::Conjunction(a, _) => change(Fail, a, under(First, goal), Keep),
         // fail A;B ← fail B under 2
         GoalShape::Disjunction(_, b) => change(Fail, b, under(Second, goal), Keep),
-        // fail P ← call P if P has no definition, else fail of P's body, numbered as at call P with the same stacks, under P
+        // fail P ← call P if P has no definition, else fail B under P, where B is the body that P has under U (SPECIFICATION 6.1)
         GoalShape::Atom(..) => match body_of(program, goal, event.above())? {
             None => change(Call, goal, Keep, Keep),
             Some(body) => change(Fail, &body, Put(Ancestor::Atom(goal.clone())), Keep),

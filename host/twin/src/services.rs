@@ -14,7 +14,7 @@ pub struct Reply {
     pub bytes: Vec<u8>,
 }
 
-/// A run's number, the steps taken, and the event reached, which is empty after refusals 1 to 5 and 11 to 14.
+/// A run's number, the steps made, and the record of the event it came to: no bytes where 1 to 5 or 11 to 14 refuse (SPECIFICATION 8.5).
 #[derive(Clone, Debug, PartialEq, Eq)]
 pub struct RunReply {
     pub number: u8,
@@ -109,8 +109,8 @@ pub fn value(event: &[u8], variable: u16, out_len: usize) -> Reply {
     })())
 }
 
-/// The definition that the event's goal names, as a part of the lent program; empty when a record is refused, the goal is no atom, or no
-/// definition exists.
+/// The definition of the predicate that the event's goal names, as a part of the program's own bytes. It is empty where a record is refused, where
+/// the goal is not an atom, and where the program does not define its predicate (SPECIFICATION 8.7).
 pub fn lookup<'p>(program: &'p [u8], event: &[u8]) -> &'p [u8] {
     place(program, event).map_or(&[], |place| &program[place])
 }

@@ -30,7 +30,8 @@ fn walked(input: &[u8], text: &mut String) -> Result<(), Refusal> {
     Ok(())
 }
 
-/// The record at the start of the input, and what comes after it. Input that ends early, or a length field over 32,766, is a no to question 1.
+/// The record at the start of the input, and what stands behind it. Question 1 refuses a record that the input does not hold whole, and one whose
+/// length field says more than 32,766 (SPECIFICATION 8.10).
 fn record(input: &[u8]) -> Result<(&[u8], &[u8]), Question> {
     let field = input.get(..2).ok_or(Question::Frame)?;
     let length = 2 + usize::from(field[0]) * 256 + usize::from(field[1]);

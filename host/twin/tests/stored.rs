@@ -228,12 +228,7 @@ fn canonical() {
     let mut lines = Vec::new();
     while let Some(kind) = cases.kind() {
         let Reply { number, bytes } = services::canonical(&cases.field(), if kind == 'w' { RECORD_LIMIT } else { RECORD_LIMIT - 1 });
-        let checksum = bytes.iter().fold(0, |sum, &byte| (sum * 31 + u32::from(byte)) % 65_521);
-        let program = match (number, bytes.len()) {
-            (0, 0..=64) => format!(" {}", hexa(&bytes)),
-            (0, length) => format!(" length {length} checksum {checksum}"),
-            _ => String::new(),
-        };
+        let program = if number == 0 { format!(" {}", shown(&bytes, 64)) } else { String::new() };
         lines.push(format!("{} {number}{program}", lines.len() + 1));
     }
     compare("canonical_cases", &lines);

@@ -1,4 +1,4 @@
--- The bench line of the canonical form (SPECIFICATION 11), and small programs beside it, computed from the definitions.
+-- The bench line of the canonical form (SPECIFICATION 11.12, 11.16), and small programs beside it, computed from the definitions.
 use mathlib.Core.Path.{_≡_, refl}
 use mathlib.Core.List.{List, [], _∷_, _++_}
 use native.Mathlib.Decide.{ℕ-discrete, decLt}
@@ -34,12 +34,12 @@ q-clauses = clause 7 0 (cons a nil) truth ∷ (clause 7 1 (cons (f (var 0)) nil)
 abbrev pub q-body : Goal
 q-body = disj (conj (equal (var 0) a) truth) (conj (equal (var 0) (f (var 1))) (q (var 1)))
 
--- q(a). q(f(Z)) :- q(Z). becomes (X0=a, true) ; (X0=f(V1), q(V1)), one local
+-- SPECIFICATION 11.12: the definition of q, with one local
 pub bench-line : canonical q-clauses ≡ definition 7 1 1 q-body ∷ []
 unfolding canonical
 bench-line = refl
 
--- no clauses give a program of no definitions
+-- nothing comes of nothing
 pub no-clauses : canonical [] ≡ []
 unfolding canonical
 no-clauses = refl

@@ -14,11 +14,11 @@ use Rattle.records.specs.Format.Syntax.Goal.{truth, failure, equal, conj, disj,
 use Rattle.records.specs.Format.Syntax.Clause.{clause}
 use Rattle.records.specs.Format.Formed.{TermFormed, TermsFormed, GoalFormed, All, Counted, DefinitionFormed, ClauseFormed}
 use Rattle.records.specs.Gate.RecordRules.{term-variables, terms-variables, goal-variables, every, member, numbers, exactly, definition-rules, program-rules, clause-rules, clauses-rules}
-use Rattle.records.specs.Gate.Bools.{and-both, every-append}
+use Rattle.records.specs.Gate.BoolLaws.{and-both, every-append}
 use Rattle.terms.specs.Theory.Substitution.{substitute, substitute-all}
 use Rattle.terms.specs.Theory.FormedLaws.{substitute-formed}
-use Rattle.terms.specs.Theory.VariablesLaws.{occurs-listed}
-use Rattle.terms.specs.Theory.TestLaws.{all-listed}
+use Rattle.terms.specs.Theory.VariablesLaws.{occurs-among}
+use Rattle.terms.specs.Theory.TestLaws.{all-among}
 use Rattle.terms.specs.Body.Body.{substitute-goal}
 use Rattle.terms.specs.Body.BodyLaws.{substitute-goal-formed}
 use Rattle.canonical.specs.Form.Canonical.{Predicate, predicate, predicate-of, predicates, clauses-of, numbered-from, branch-from, locals-of, branches, defined-by, if-any, definitions, canonical}
@@ -80,7 +80,7 @@ module _ (k v m : ℕ) (room : k + v ≤ m) (small : m ≤ 65536) where
   -- a branch whose head variables are numbered from x on
   branch-below : (x : ℕ) (ts : Terms) (g : Goal) → x + arity ts ≤ m → ClauseParts v ts g → GoalBelow m (branch-from x (numbered-from k) ts g)
   branch-below x nil g n c = (
-    substitute-goal-formed (numbered-from k) g (all-listed (λ i. k + i < 65536) (goal-variables g) (below-formed (goal-variables g) (c .goal-below))) (c .goal),
+    substitute-goal-formed (numbered-from k) g (all-among (λ i. k + i < 65536) (goal-variables g) (below-formed (goal-variables g) (c .goal-below))) (c .goal),
     numbered-goal-below k v m room g (c .goal-below),
   )
   branch-below x (cons t ts) g n c =
@@ -89,7 +89,7 @@ module _ (k v m : ℕ) (room : k + v ≤ m) (small : m ≤ 65536) where
       (record { terms = c .terms .1; goal = c .goal; terms-below = w .1; goal-below = c .goal-below }) in
       let at : TermFormed (substitute (numbered-from k) t) =
       substitute-formed (numbered-from k) t
-      (λ i o. all-listed (λ j. k + j < 65536) (term-variables t) (below-formed (term-variables t) (w .0)) i (occurs-listed i t o)) (c .terms .0) in
+      (λ i o. all-among (λ j. k + j < 65536) (term-variables t) (below-formed (term-variables t) (w .0)) i (occurs-among i t o)) (c .terms .0) in
       let under : below m (term-variables (substitute (numbered-from k) t) ++ goal-variables (branch-from (suc x) (numbered-from k) ts g)) ≡ true =
       rw (every-append, numbered-term-below k v m room t (w .0), rest .1) in
       (((omega arith, at), rest .0), rw (lt-ltb x m (omega arith)) under)

@@ -10,17 +10,17 @@ use lib.ListN.{length}
 use borrow.Author.Tests.{eq-eqb, ne-eqb, eqb-true, eqb-false, lt-ltb, le-ltb, ltb-true, ltb-false}
 use Rattle.records.specs.Format.Syntax.{Clause}
 use Rattle.records.specs.Format.Formed.{All}
-use Rattle.records.specs.Gate.Bools.{and-both}
-use Rattle.terms.specs.Theory.Variables.{Listed}
+use Rattle.records.specs.Gate.BoolLaws.{and-both}
+use Rattle.terms.specs.Theory.Variables.{Among}
 use Rattle.canonical.specs.Form.Canonical.{Predicate, predicate, predicate-of, same-predicate, predicate-before, placed, predicates, clauses-of}
 
 -- the number by which a program's definitions rise
 abbrev pub rank : Predicate → ℕ
 rank (predicate p n) = p * 256 + n
 
-abbrev pub ranks : List Predicate → List ℕ
-ranks [] = []
-ranks (x ∷ l) = rank x ∷ ranks l
+abbrev pub predicate-ranks : List Predicate → List ℕ
+predicate-ranks [] = []
+predicate-ranks (x ∷ l) = rank x ∷ predicate-ranks l
 
 -- an arity that fits a byte
 abbrev pub ArityFits : Predicate → Type 0
@@ -95,33 +95,33 @@ predicates-rise (c ∷ cs) h =
     placed-rises 0 (predicate-of c) (predicates cs) (omega arith) (h .0) (all-predicates ArityFits cs (h .1)) (predicates-rise cs (h .1))
 
 -- the rank of each clause's predicate is among theirs
-placed-there : (x : Predicate) (l : List Predicate) → Listed (rank x) (ranks (placed x l))
+placed-there : (x : Predicate) (l : List Predicate) → Among (rank x) (predicate-ranks (placed x l))
 placed-there x [] = inl refl
 placed-there x (y ∷ l) = go (predicate-before x y) (same-predicate x y) refl (placed-there x l)
   where
-    go : (a b : Bool) → same-predicate x y ≡ b → Listed (rank x) (ranks (placed x l))
-        → Listed (rank x) (ranks (cond a (x ∷ (y ∷ l)) (cond b (y ∷ l) (y ∷ placed x l))))
+    go : (a b : Bool) → same-predicate x y ≡ b → Among (rank x) (predicate-ranks (placed x l))
+        → Among (rank x) (predicate-ranks (cond a (x ∷ (y ∷ l)) (cond b (y ∷ l) (y ∷ placed x l))))
     go true b e i = inl refl
     go false true e i = inl (ap rank (same-equal x y e))
     go false false e i = inr i
 
-placed-still : (k : ℕ) (x : Predicate) (l : List Predicate) → Listed k (ranks l) → Listed k (ranks (placed x l))
+placed-still : (k : ℕ) (x : Predicate) (l : List Predicate) → Among k (predicate-ranks l) → Among k (predicate-ranks (placed x l))
 placed-still k x [] m = absurd m
 placed-still k x (y ∷ l) m = go (predicate-before x y) (same-predicate x y) m (placed-still k x l)
   where
-    go : (a b : Bool) → Listed k (ranks (y ∷ l)) → (Listed k (ranks l) → Listed k (ranks (placed x l)))
-        → Listed k (ranks (cond a (x ∷ (y ∷ l)) (cond b (y ∷ l) (y ∷ placed x l))))
+    go : (a b : Bool) → Among k (predicate-ranks (y ∷ l)) → (Among k (predicate-ranks l) → Among k (predicate-ranks (placed x l)))
+        → Among k (predicate-ranks (cond a (x ∷ (y ∷ l)) (cond b (y ∷ l) (y ∷ placed x l))))
     go true b i later = inr i
     go false true i later = i
     go false false (inl i) later = inl i
     go false false (inr i) later = inr (later i)
 
-pub all-ranked : (cs : List Clause) → All (λ c. Listed (rank (predicate-of c)) (ranks (predicates cs))) cs
+pub all-ranked : (cs : List Clause) → All (λ c. Among (rank (predicate-of c)) (predicate-ranks (predicates cs))) cs
 all-ranked [] = tt
 all-ranked (c ∷ cs) = (placed-there (predicate-of c) (predicates cs), still cs (all-ranked cs))
   where
-    still : (ds : List Clause) → All (λ d. Listed (rank (predicate-of d)) (ranks (predicates cs))) ds
-        → All (λ d. Listed (rank (predicate-of d)) (ranks (placed (predicate-of c) (predicates cs)))) ds
+    still : (ds : List Clause) → All (λ d. Among (rank (predicate-of d)) (predicate-ranks (predicates cs))) ds
+        → All (λ d. Among (rank (predicate-of d)) (predicate-ranks (placed (predicate-of c) (predicates cs)))) ds
     still [] h = tt
     still (d ∷ ds) h = (placed-still (rank (predicate-of d)) (predicate-of c) (predicates cs) (h .0), still ds (h .1))
 
@@ -149,9 +149,9 @@ or-swap true true c = refl
 or-swap true false c = refl
 or-swap false b c = refl
 
-listed-placed : (x y : Predicate) (l : List Predicate) → listed x (placed y l) ≡ (same-predicate x y || listed x l)
-listed-placed x y [] = refl
-listed-placed x y (z ∷ l) = go (predicate-before y z) (same-predicate y z) refl (listed-placed x y l)
+among-placed : (x y : Predicate) (l : List Predicate) → listed x (placed y l) ≡ (same-predicate x y || listed x l)
+among-placed x y [] = refl
+among-placed x y (z ∷ l) = go (predicate-before y z) (same-predicate y z) refl (among-placed x y l)
   where
     go : (a b : Bool) → same-predicate y z ≡ b → listed x (placed y l) ≡ (same-predicate x y || listed x l)
         → listed x (cond a (y ∷ (z ∷ l)) (cond b (z ∷ l) (z ∷ placed y l))) ≡ (same-predicate x y || (same-predicate x z || listed x l))
@@ -162,7 +162,7 @@ listed-placed x y (z ∷ l) = go (predicate-before y z) (same-predicate y z) ref
 -- a predicate that does not stand there has no clauses
 pub unlisted-none : (x : Predicate) (cs : List Clause) → listed x (predicates cs) ≡ false → clauses-of x cs ≡ []
 unlisted-none x [] h = refl
-unlisted-none x (c ∷ cs) h = go (same-predicate x (predicate-of c)) (sym (listed-placed x (predicate-of c) (predicates cs)) ∙ h) (unlisted-none x cs)
+unlisted-none x (c ∷ cs) h = go (same-predicate x (predicate-of c)) (sym (among-placed x (predicate-of c) (predicates cs)) ∙ h) (unlisted-none x cs)
   where
     go : (b : Bool) → (b || listed x (predicates cs)) ≡ false → (listed x (predicates cs) ≡ false → clauses-of x cs ≡ [])
         → cond b (c ∷ clauses-of x cs) (clauses-of x cs) ≡ []

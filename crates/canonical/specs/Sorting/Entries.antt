@@ -1,7 +1,7 @@
 -- The clauses of a record where they stand, and their entries: an entry is one number that rises with predicate, arity and place.
 use mathlib.Core.Path.{_≡_}
 use mathlib.Core.List.{List, [], _∷_}
-use Prim.Native.Nat.{ℕ, _+_, _*_, _/_, _%_, _≤_}
+use Prim.Native.Nat.{ℕ, _+_, _*_, _/_, _≤_, _%_}
 use lib.ListN.{length, drop, getD}
 use Rattle.records.specs.Format.Syntax.{Clause, arity}
 use Rattle.records.specs.Format.Syntax.Terms.{nil}

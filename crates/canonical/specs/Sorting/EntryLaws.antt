@@ -1,6 +1,5 @@
 -- Laws of clauses and their entries: what the code reads of a clause, the listing of a record's entries, and what follows one in a list of entries.
 use mathlib.Core.Path.{_≡_, refl, sym, ap, _∙_}
-use mathlib.Core.Bool.{true≢false}
 use mathlib.Core.List.{List, [], _∷_, _++_, append-assoc, append-nil}
 use Prim.Native.Nat.{ℕ, zero, suc, _+_, _-_, _*_, _≤_, _<_}
 use native.Mathlib.Numerals.{add-one}
@@ -8,6 +7,7 @@ use native.Mathlib.Omega.{arith}
 use lib.ListN.{length, take, drop, getD, set, length-append, length-set}
 use lib.Seq.{drop-cons, take-suc-set, take-all}
 use borrow.Author.Tests.{le-leb}
+use Rattle.records.specs.Format.Never.{never}
 use Rattle.records.specs.Format.Syntax.{Clause, arity}
 use Rattle.records.specs.Format.Syntax.Clause.{clause}
 use Rattle.records.specs.Format.Encode.{each, clause-bytes, terms-bytes, goal-bytes}
@@ -72,7 +72,7 @@ module _ {s : List ℕ} {at : ℕ} (w : ClauseAt s at) where
     head-unread q =
         let y : NoPredicate ≡ Predicate (predicate-number (clause-at s at)) (arity-of (clause-at s at)) (variable-count (clause-at s at)) =
         sym q ∙ is ∙ head-stands (clause-at s at) (w .formed) (w .stands) in
-        absurd (true≢false cc)
+        never cc
 
   -- and its end
   module _ {f : Found} (is : f ≡ end-of read-clause s at) where
@@ -84,7 +84,7 @@ module _ {s : List ℕ} {at : ℕ} (w : ClauseAt s at) where
     pub end-unread : {P : Type 0} → f ≡ Nothing → P
     end-unread q =
         let y : Nothing ≡ At (w .end) = sym q ∙ is ∙ stands-ends clause-exact (clause-at s at) (w .formed) (w .stands) in
-        absurd (true≢false cc)
+        never cc
 
   -- it lies within the record, and its branch is as long as the code says
   pub clause-within : (at + 4 ≤ w .end) × (w .end ≤ length s) × (5 * arity-of (clause-at s at) + (w .end - at - 3) ≡ suc (branch-size (clause-at s at)))

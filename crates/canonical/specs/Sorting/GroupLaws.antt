@@ -15,11 +15,11 @@ use Rattle.records.specs.Format.Syntax.Clause.{clause}
 use Rattle.records.specs.Format.Encode.{each, clause-bytes}
 use Rattle.records.specs.Format.Formed.{All, ClauseFormed}
 use Rattle.records.specs.Ends.Stands.{Stands, stands-first, stands-second, stands-within}
-use Rattle.terms.specs.Theory.Variables.{Listed}
-use Rattle.terms.specs.Theory.VariablesLaws.{listed-left, listed-right, listed-either}
-use Rattle.terms.specs.Theory.TestLaws.{all-listed}
+use Rattle.terms.specs.Theory.Variables.{Among}
+use Rattle.terms.specs.Theory.VariablesLaws.{among-left, among-right, among-either}
+use Rattle.terms.specs.Theory.TestLaws.{all-among}
 use Rattle.canonical.specs.Form.Canonical.{Predicate, predicate-of, same-predicate, clauses-of}
-use Rattle.canonical.specs.Form.PredicateLaws.{rank, ranks, ArityFits, rank-same, Rising}
+use Rattle.canonical.specs.Form.PredicateLaws.{rank, predicate-ranks, ArityFits, rank-same, Rising}
 use Rattle.canonical.specs.Sorting.Entries.{clause-at, ClauseAt, clause-entry, clause-entries, entry-key, entry-place, clauses-in}
 use Rattle.canonical.specs.Sorting.EntryLaws.{clause-at-is, clause-at-stands}
 use Rattle.canonical.specs.Sorting.Picking.{entry-limit, picked}
@@ -80,39 +80,39 @@ by-ascends low p (x ∷ xs) l r h =
     with-ascends (rank x) p (low * 65536) l (by-predicate xs l) h (omega (arith, r .0)) (omega (arith, r .0)) (by-ascends (suc (rank x)) p xs l (r .1) h)
 
 -- they are entries of the list,
-with-back : (k : ℕ) (l : List ℕ) (v : ℕ) → Listed v (with-key k l) → Listed v l
+with-back : (k : ℕ) (l : List ℕ) (v : ℕ) → Among v (with-key k l) → Among v l
 with-back k [] v m = m
 with-back k (e ∷ l) v m = go (eqb (entry-key e) k) m (with-back k l v)
   where
-    go : (t : Bool) → Listed v (cond t (e ∷ with-key k l) (with-key k l)) → (Listed v (with-key k l) → Listed v l) → Listed v (e ∷ l)
+    go : (t : Bool) → Among v (cond t (e ∷ with-key k l) (with-key k l)) → (Among v (with-key k l) → Among v l) → Among v (e ∷ l)
     go true (inl i) later = inl i
     go true (inr i) later = inr (later i)
     go false i later = inr (later i)
 
-by-back : (xs : List Predicate) (l : List ℕ) (v : ℕ) → Listed v (by-predicate xs l) → Listed v l
+by-back : (xs : List Predicate) (l : List ℕ) (v : ℕ) → Among v (by-predicate xs l) → Among v l
 by-back [] l v m = absurd m
-by-back (x ∷ xs) l v m = elim (listed-either v (with-key (rank x) l) (by-predicate xs l) m) [
+by-back (x ∷ xs) l v m = elim (among-either v (with-key (rank x) l) (by-predicate xs l) m) [
   | inl i ↦ with-back (rank x) l v i
   | inr i ↦ by-back xs l v i
 ]
 
 -- and all whose keys are ranks of the predicates
-with-to : (k : ℕ) (l : List ℕ) (v : ℕ) → entry-key v ≡ k → Listed v l → Listed v (with-key k l)
+with-to : (k : ℕ) (l : List ℕ) (v : ℕ) → entry-key v ≡ k → Among v l → Among v (with-key k l)
 with-to k [] v e m = m
 with-to k (w ∷ l) v e (inl i) = rw (eq-eqb (entry-key w) k (ap entry-key (sym i) ∙ e)) (inl i)
 with-to k (w ∷ l) v e (inr i) = go (eqb (entry-key w) k) (with-to k l v e i)
   where
-    go : (t : Bool) → Listed v (with-key k l) → Listed v (cond t (w ∷ with-key k l) (with-key k l))
+    go : (t : Bool) → Among v (with-key k l) → Among v (cond t (w ∷ with-key k l) (with-key k l))
     go true later = inr later
     go false later = later
 
-by-to : (xs : List Predicate) (l : List ℕ) (v : ℕ) → Listed (entry-key v) (ranks xs) → Listed v l → Listed v (by-predicate xs l)
+by-to : (xs : List Predicate) (l : List ℕ) (v : ℕ) → Among (entry-key v) (predicate-ranks xs) → Among v l → Among v (by-predicate xs l)
 by-to [] l v e m = absurd e
-by-to (x ∷ xs) l v (inl e) m = listed-left v (with-key (rank x) l) (by-predicate xs l) (with-to (rank x) l v e m)
-by-to (x ∷ xs) l v (inr e) m = listed-right v (with-key (rank x) l) (by-predicate xs l) (by-to xs l v e m)
+by-to (x ∷ xs) l v (inl e) m = among-left v (with-key (rank x) l) (by-predicate xs l) (with-to (rank x) l v e m)
+by-to (x ∷ xs) l v (inr e) m = among-right v (with-key (rank x) l) (by-predicate xs l) (by-to xs l v e m)
 
 -- an entry is among those of one predicate only
-rank-from : (low : ℕ) (xs : List Predicate) (k : ℕ) → Rising low xs → Listed k (ranks xs) → low ≤ k
+rank-from : (low : ℕ) (xs : List Predicate) (k : ℕ) → Rising low xs → Among k (predicate-ranks xs) → low ≤ k
 rank-from low [] k r m = absurd m
 rank-from low (x ∷ xs) k r (inl e) = omega (arith, r .0)
 rank-from low (x ∷ xs) k r (inr m) = omega (arith, r .0, rank-from (suc (rank x)) xs k (r .1) m)
@@ -122,7 +122,7 @@ by-below low [] e l r h = refl
 by-below low (x ∷ xs) e l r h =
     rw (ne-eqb (entry-key e) (rank x) (λ i. omega (arith, r .0))) (ap (λ (m : List ℕ). with-key (rank x) l ++ m) (by-below (suc (rank x)) xs e l (r .1) (omega (arith, r .0))))
 
-by-more : (low : ℕ) (xs : List Predicate) (e : ℕ) (l : List ℕ) → Rising low xs → Listed (entry-key e) (ranks xs)
+by-more : (low : ℕ) (xs : List Predicate) (e : ℕ) (l : List ℕ) → Rising low xs → Among (entry-key e) (predicate-ranks xs)
     → length (by-predicate xs (e ∷ l)) ≡ suc (length (by-predicate xs l))
 by-more low [] e l r m = absurd m
 by-more low (x ∷ xs) e l r (inl i) =
@@ -136,7 +136,7 @@ by-more low (x ∷ xs) e l r (inr m) =
       length-append (with-key (rank x) l) (by-predicate xs l),
     ))
 
-pub by-length : (low : ℕ) (xs : List Predicate) (l : List ℕ) → Rising low xs → All (λ e. Listed (entry-key e) (ranks xs)) l
+pub by-length : (low : ℕ) (xs : List Predicate) (l : List ℕ) → Rising low xs → All (λ e. Among (entry-key e) (predicate-ranks xs)) l
     → length (by-predicate xs l) ≡ length l
 by-length low xs [] r h = none xs
   where
@@ -146,12 +146,12 @@ by-length low xs [] r h = none xs
 by-length low xs (e ∷ l) r h = by-more low xs e l r (h .0) ∙ ap suc (by-length low xs l r (h .1))
 
 -- so picking the entries one after the other gives those of each predicate in turn
-pub picked-by-predicate : (low p : ℕ) (xs : List Predicate) (l : List ℕ) → Rising low xs → PlacesRise p l → All (λ e. Listed (entry-key e) (ranks xs)) l
+pub picked-by-predicate : (low p : ℕ) (xs : List Predicate) (l : List ℕ) → Rising low xs → PlacesRise p l → All (λ e. Among (entry-key e) (predicate-ranks xs)) l
     → picked (length l) 0 l ≡ by-predicate xs l
 picked-by-predicate low p xs l r w h =
     ap (λ (n : ℕ). picked n 0 l) (sym (by-length low xs l r h))
     ∙ picked-ascending l (by-predicate xs l) 0 (ascending-weaker 0 (low * 65536) (by-predicate xs l) (omega arith) (by-ascends low p xs l r w)) (by-back xs l)
-    (λ v m b. by-to xs l v (all-listed (λ e. Listed (entry-key e) (ranks xs)) l h v m) m)
+    (λ v m b. by-to xs l v (all-among (λ e. Among (entry-key e) (predicate-ranks xs)) l h v m) m)
 
 -- what holds of each entry holds of each with a key, which has that key
 pub all-with : (Φ : ℕ → Type 0) (k : ℕ) (l : List ℕ) → All Φ l → All (λ e. Φ e × (entry-key e ≡ k)) (with-key k l)
@@ -183,7 +183,7 @@ places-weaker low high (e ∷ l) b h = (omega (arith, h .0), h .1, h .2)
 pub record ClausesEntered (s : List ℕ) (xs : List Predicate) (at : ℕ) (l : List ℕ) : Type 0 where
   pub rise : PlacesRise at l
   pub named : All (λ e. ClauseAt s (entry-place e)) l
-  pub ranked : All (λ e. Listed (entry-key e) (ranks xs)) l
+  pub ranked : All (λ e. Among (entry-key e) (predicate-ranks xs)) l
 
 -- the entry of a clause tells its rank and where it stands
 entry-parts : {s : List ℕ} {at e : ℕ} (c : Clause) → ClauseFormed c → length s ≤ 32768 → Stands s at (clause-bytes c) e
@@ -202,7 +202,7 @@ clauses-head s false e l c cs q i = i
 
 module _ (s : List ℕ) (short : length s ≤ 32768) where
   -- clauses that stand one after the other are entered
-  pub clauses-entered : (xs : List Predicate) (at e : ℕ) (cs : List Clause) → All ClauseFormed cs → All (λ c. Listed (rank (predicate-of c)) (ranks xs)) cs
+  pub clauses-entered : (xs : List Predicate) (at e : ℕ) (cs : List Clause) → All ClauseFormed cs → All (λ c. Among (rank (predicate-of c)) (predicate-ranks xs)) cs
       → Stands s at (each clause-bytes cs) e → ClausesEntered s xs at (clause-entries at cs)
   unfolding clause-entries
   clauses-entered xs at e [] f r w = record { rise = tt; named = tt; ranked = tt }

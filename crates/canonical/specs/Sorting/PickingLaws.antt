@@ -11,7 +11,7 @@ use lib.Dec.{ltb}
 use lib.ListN.{length, take, drop, getD, set, length-set, drop-of-length-le}
 use lib.Seq.{drop-cons, take-suc-set, take-all}
 use borrow.Author.Tests.{lt-ltb, le-ltb, ltb-true, ltb-false}
-use Rattle.terms.specs.Theory.Variables.{Listed}
+use Rattle.terms.specs.Theory.Variables.{Among}
 use Rattle.canonical.specs.Sorting.Picking.{entry-limit, better, least, picked}
 
 module _ (low best x : ℕ) where
@@ -96,8 +96,8 @@ better-cases low best x = go (ltb x low) (ltb x best) refl refl
 -- r is the least of `best` and those of the list that are at least `low`
 record LeastOf (low best : ℕ) (l : List ℕ) (r : ℕ) : Type 0 where
   pub bound : r ≤ best
-  pub below : (x : ℕ) → Listed x l → low ≤ x → r ≤ x
-  pub found : (r ≡ best) ⊎ (Listed r l × (low ≤ r))
+  pub below : (x : ℕ) → Among x l → low ≤ x → r ≤ x
+  pub found : (r ≡ best) ⊎ (Among r l × (low ≤ r))
 
 least-is : (low best : ℕ) (l : List ℕ) → LeastOf low best l (least low best l)
 unfolding least
@@ -125,13 +125,13 @@ abbrev pub Ascending : ℕ → List ℕ → Type 0
 Ascending low [] = Unit {0}
 Ascending low (x ∷ l) = (low ≤ x) × (x < entry-limit) × Ascending (suc x) l
 
-ascending-from : (low : ℕ) (l : List ℕ) → Ascending low l → (x : ℕ) → Listed x l → low ≤ x
+ascending-from : (low : ℕ) (l : List ℕ) → Ascending low l → (x : ℕ) → Among x l → low ≤ x
 ascending-from low [] h x m = absurd m
 ascending-from low (y ∷ l) h x (inl e) = omega (arith, h .0)
 ascending-from low (y ∷ l) h x (inr m) = omega (arith, h .0, ascending-from (suc y) l (h .2) x m)
 
 -- picking from a list gives its numbers from `low` on, rising
-pub picked-ascending : (l m : List ℕ) (low : ℕ) → Ascending low m → ((x : ℕ) → Listed x m → Listed x l) → ((x : ℕ) → Listed x l → low ≤ x → Listed x m)
+pub picked-ascending : (l m : List ℕ) (low : ℕ) → Ascending low m → ((x : ℕ) → Among x m → Among x l) → ((x : ℕ) → Among x l → low ≤ x → Among x m)
     → picked (length m) low l ≡ m
 unfolding picked
 picked-ascending l [] low h f g = refl

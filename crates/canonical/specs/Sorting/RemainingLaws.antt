@@ -1,12 +1,12 @@
 -- Laws of the definitions that sorted entries still have to make: an accepted record's entries, picked one after the other, have its whole program
 -- to make, the next group makes the next definition, and at the end there is none.
 use mathlib.Core.Path.{_≡_, refl, sym, ap, _∙_}
-use mathlib.Core.Bool.{true≢false}
 use mathlib.Core.List.{List, [], _∷_, _++_}
 use Prim.Native.Nat.{ℕ, suc, _+_, _-_, _*_, _≤_, _<_}
 use native.Mathlib.Omega.{arith}
 use lib.ListN.{length, take, drop, getD, length-append, length-take, length-drop, drop-of-length-le}
 use lib.Seq.{drop-cons, drop-drop, take-at, drop-at}
+use Rattle.records.specs.Format.Never.{never}
 use Rattle.records.specs.Format.Syntax.{Definition, Clause, arity}
 use Rattle.records.specs.Format.Syntax.Clause.{clause}
 use Rattle.records.specs.Format.Encode.{word, each, counted, terms-bytes, goal-bytes, clause-bytes, record-of}
@@ -231,7 +231,7 @@ module _ (s : List ℕ) (known : Known s) (a : Accepted (read-clauses s)) where
   pub count-unread : {P : Type 0} {r : Word} → r ≡ word-at s 3 → r ≡ Short → P
   count-unread is e =
       let y : Short ≡ Number (length (record-clauses s)) = sym e ∙ is ∙ count-is in
-      absurd (true≢false cc)
+      never cc
 
 pub ordered-remaining : {s table sorted : List ℕ} (known : Known s) (a : Accepted (read-clauses s)) → table ≡ clause-entries 5 (record-clauses s)
     → sorted ≡ picked (length table) 0 table → Remaining s sorted 0 (program-of s)

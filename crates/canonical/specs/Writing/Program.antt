@@ -15,7 +15,7 @@ use Rattle.canonical.specs.declared.program.Survey.the-variants.{Within,
 unfoldable pub surveyed : List Definition → Survey
 surveyed ds = cond (every locals-fit ds) (Within (length ds) (length (each definition-bytes ds))) TooMany
 
--- the number for a survey (SPECIFICATION 7): question 9, then 10 for the record, which has five bytes besides the definitions; else 0
+-- the number for a survey (SPECIFICATION 7.6, 8.9): question 9, then 10 for the record, which has five bytes besides the definitions; else 0
 abbrev pub survey-refusal : Survey → ℕ
 survey-refusal (Within count size) = cond (leb (5 + size) 32768) 0 10
 survey-refusal TooMany = 9

@@ -10,7 +10,7 @@ use borrow.Author.Tests.{le-leb, lt-leb, leb-true}
 use Rattle.records.specs.Format.Syntax.{Definition}
 use Rattle.records.specs.Format.Encode.{each, definition-bytes}
 use Rattle.records.specs.Gate.RecordRules.{every}
-use Rattle.records.specs.Gate.Bools.{and-both}
+use Rattle.records.specs.Gate.BoolLaws.{and-both}
 use Rattle.records.specs.Writing.Patched.{Put}
 use Rattle.canonical.specs.Form.Canonical.{locals-of}
 use Rattle.canonical.specs.Sorting.Entries.{entry-key}

@@ -1,12 +1,13 @@
 -- Laws of the reply: what the measuring says of questions 9 and 10, and the record that is written.
 use mathlib.Core.Path.{_≡_, refl, sym, ap, _∙_}
-use mathlib.Core.Bool.{Bool, true, false, cond, true≢false}
+use mathlib.Core.Bool.{Bool, true, false, cond}
 use mathlib.Core.List.{List}
 use Prim.Native.Nat.{ℕ, _+_, _≤_, _<_}
 use native.Mathlib.Omega.{arith}
 use lib.Dec.{leb}
 use lib.ListN.{length}
 use borrow.Author.Tests.{le-leb, lt-leb, leb-true, leb-false}
+use Rattle.records.specs.Format.Never.{never}
 use Rattle.records.specs.Format.Syntax.{Definition, Clause}
 use Rattle.records.specs.Format.Encode.{word, each, definition-bytes, record-of, record-head, program-record}
 use Rattle.records.specs.Gate.RecordRules.{every}
@@ -43,14 +44,14 @@ program-measured ds {count} {size} e = go (every locals-fit ds) refl e
   where
     go : (b : Bool) → every locals-fit ds ≡ b → Within count size ≡ cond b (Within (length ds) (length (each definition-bytes ds))) TooMany → ProgramMeasured ds count size
     go true f q = record { fit = f; counts = cc; sizes = cc }
-    go false f q = absurd (true≢false cc)
+    go false f q = never cc
 
 too-many : (ds : List Definition) → TooMany ≡ surveyed ds → every locals-fit ds ≡ false
 unfolding surveyed
 too-many ds e = go (every locals-fit ds) refl e
   where
     go : (b : Bool) → every locals-fit ds ≡ b → TooMany ≡ cond b (Within (length ds) (length (each definition-bytes ds))) TooMany → every locals-fit ds ≡ false
-    go true f q = absurd (true≢false cc)
+    go true f q = never cc
     go false f q = f
 
 module _ (out : List ℕ) (ds : List Definition) (roomy : 32768 ≤ length out) where

@@ -13,12 +13,12 @@ use Rattle.records.specs.Format.Encode.{counted, definition-bytes, record-of, p
 use Rattle.records.specs.Gate.RecordRules.{every}
 use Rattle.records.specs.Format.HeadLaws.{Bytes}
 use Rattle.records.specs.Gate.Question.{locals, fits}
-use Rattle.records.specs.Gate.Gate.{tree, read-clauses, read-program}
+use Rattle.records.specs.Gate.Gate.{tree, read-clauses, read-program, front-record}
 use Rattle.records.specs.Gate.Reply.{gives, on-yes, through, reply-with}
 use Rattle.records.specs.Gate.ReplyLaws.{yes-gives, through-gives, reply-gives, reply-untouched, reply-length}
 use Rattle.records.specs.Gate.Door.{program-door, with-room}
 use Rattle.records.specs.Gate.DoorLaws.{room-gives, program-gives}
-use Rattle.records.specs.Gate.GateLaws.{front, front-record, clauses-tree, program-read}
+use Rattle.records.specs.Gate.GateLaws.{front-is-record, clauses-tree, program-read, tree-injective}
 use Rattle.canonical.specs.Form.Canonical.{canonical}
 use Rattle.canonical.specs.Writing.Service.{locals-fit, record-fits, program-answer, clauses-answer, canonical-record}
 use Rattle.canonical.specs.Form.FormedLaws.{canonical-formed, canonical-rules}
@@ -29,10 +29,6 @@ pub canonical-read : (s : List ℕ) → Bytes s → (cs : List Clause) → read-
 canonical-read s b cs e f n =
     let r = clauses-tree s b cs e in
     program-read (canonical cs) (canonical-formed cs (r .formed) (r .keeps) f) (canonical-rules cs (r .formed) (r .keeps) f) n
-
--- a record says one list of clauses
-pub same-clauses : (cs ds : List Clause) → tree cs ≡ tree ds → cs ≡ ds
-same-clauses cs ds e = cc
 
 -- what is given: the clauses were read, there is room, and the program is their canonical form, whose locals and whose record fit
 pub record GivesProgram (clauses : List ℕ) (room : ℕ) (ds : List Definition) : Type 0 where
@@ -72,7 +68,7 @@ pub record Done (clauses out after : List ℕ) : Type 0 where
   pub read : List Clause
   pub reads : read-clauses clauses ≡ tree read
   pub written : after ≡ program-record (canonical read) ++ drop (length (program-record (canonical read))) out
-  pub passes : read-program (front after) ≡ tree (canonical read)
+  pub passes : read-program (front-record after) ≡ tree (canonical read)
 
 body-short : (ds : List Definition) → length (program-record ds) ≤ 32768 → length (counted definition-bytes ds) < 65535
 unfolding record-of
@@ -91,7 +87,7 @@ canonical-done clauses b out h =
       reads = g .reads;
       written = ap (λ (l : List Definition). program-record l ++ drop (length (program-record l)) out) (g .form);
       passes =
-          ap read-program (front-record (counted definition-bytes ds) (drop (length (program-record ds)) out) (body-short ds (g .short)))
+          ap read-program (front-is-record (counted definition-bytes ds) (drop (length (program-record ds)) out) (body-short ds (g .short)))
           ∙ gives-read clauses b (length out) ds (given .1) ∙ ap tree (g .form);
     })
 
@@ -104,7 +100,7 @@ canonical-done-iff clauses out cs h = (
   λ n.
       let given = reply-gives program-record out (clauses-answer (length out) (read-clauses clauses)) n in
       let g = answered-gives clauses (length out) (given .0) (given .1) in
-      let same : given .0 ≡ canonical cs = g .form ∙ ap canonical (same-clauses (g .read) cs (sym (g .reads) ∙ h)) in
+      let same : given .0 ≡ canonical cs = g .form ∙ ap canonical (tree-injective (sym (g .reads) ∙ h)) in
       (g .roomy, rw same at (g .locals-small), rw same at (g .short)),
   λ k. rw (h, le-leb 32768 (length out) (k .0), k .1, le-leb (length (program-record (canonical cs))) 32768 (k .2)),
 )

@@ -7,7 +7,7 @@ use native.Mathlib.Omega.{arith}
 use lib.Dec.{leb, ltb, leb·zero}
 use borrow.Author.Tests.{leb-true, le-leb}
 use Rattle.records.specs.Gate.RecordRules.{every}
-use Rattle.records.specs.Gate.Bools.{same-truth, and-both}
+use Rattle.records.specs.Gate.BoolLaws.{same-truth, and-both}
 
 -- one more than the greatest number of the list, or 0
 abbrev pub above : List ℕ → ℕ

@@ -3,10 +3,10 @@ use Prim.Native.Nat.{ℕ, zero, suc, _+_, _-_, _*_, _≤_, _<_}
 use native.Mathlib.Nat.{zero-add, add-zero}
 use native.Mathlib.Omega.{arith}
 use mathlib.Core.Path.{_≡_, refl, sym, ap, _∙_}
-use mathlib.Core.Bool.{true≢false}
 use mathlib.Core.List.{List, [], _∷_, _++_, append-assoc, append-nil}
 use lib.ListN.{length, drop, length-append, length-drop}
 use lib.Seq.{drop-drop}
+use Rattle.records.specs.Format.Never.{never}
 use Rattle.records.specs.Format.Syntax.{Term, Terms, Goal, arity}
 use Rattle.records.specs.Format.Syntax.Term.{var, app}
 use Rattle.records.specs.Format.Syntax.Terms.{nil, cons}
@@ -24,8 +24,8 @@ use Rattle.records.specs.Ends.Traversal.Traversal.{off, on}
 use Rattle.records.specs.Ends.TraversalLaws.{step, traverse-step}
 use Rattle.records.specs.declared.ends.Found.{Found}
 use Rattle.records.specs.declared.ends.Found.the-variants.{At, Nothing}
-use Rattle.records.specs.declared.ends.Onward.{Onward}
-use Rattle.records.specs.declared.ends.Onward.the-variants.{On, Off}
+use Rattle.records.specs.declared.ends.GoalHeadEnd.{GoalHeadEnd}
+use Rattle.records.specs.declared.ends.GoalHeadEnd.the-variants.{On, Off}
 use Rattle.records.specs.declared.heads.TermHead.{TermHead}
 use Rattle.records.specs.declared.heads.TermHead.the-variants.{Variable, Symbol, NoTerm}
 use Rattle.records.specs.declared.heads.GoalHead.{GoalHead}
@@ -62,7 +62,7 @@ traversal-end-place at unread = refl
 traversal-end-place at (found p n) = refl
 
 no-place : {P : Type 0} {e : ℕ} → Nothing ≡ At e → P
-no-place q = absurd (true≢false cc)
+no-place q = never cc
 
 pub end-read : (s : List ℕ) (at t g : ℕ) → end-at s at t g ≡ place-of at (read (drop at s) t g)
 unfolding end-at traverse
@@ -160,11 +160,11 @@ module _ (s : List ℕ) (at : ℕ) where
             no-place (sym q ∙ end-read s at t zero ∙ ap (place-of at) r)
 
 -- what follows a goal's own head and terms: from where on, and how many goals the head announced
-abbrev pub announced : Found → Onward
+abbrev pub announced : Found → GoalHeadEnd
 announced (At e) = On e 0
 announced Nothing = Off
 
-abbrev pub next-by : List ℕ → ℕ → GoalHead → Onward
+abbrev pub next-by : List ℕ → ℕ → GoalHead → GoalHeadEnd
 next-by s at Truth = On (at + 1) 0
 next-by s at Failure = On (at + 1) 0
 next-by s at Equal = announced (end-at s (at + 1) 2 0)
@@ -173,11 +173,11 @@ next-by s at Disj = On (at + 1) 2
 next-by s at (Atom p k) = announced (end-at s (at + 4) k 0)
 next-by s at NoGoal = Off
 
-unfoldable pub next-goal : List ℕ → ℕ → Onward
+unfoldable pub next-goal : List ℕ → ℕ → GoalHeadEnd
 next-goal s at = next-by s at (goal-head-at s at)
 
 -- where g goals more end, after what `next-goal` found
-abbrev pub goals-after : List ℕ → Onward → ℕ → Found
+abbrev pub goals-after : List ℕ → GoalHeadEnd → ℕ → Found
 goals-after s (On e d) g = end-at s e zero (d + g)
 goals-after s Off g = Nothing
 
@@ -192,7 +192,7 @@ module _ (s : List ℕ) (at : ℕ) (known : Known s) where
       let x : e′ ≡ e = cc in
       let y : d ≡ 0 = cc in
       (omega arith, omega arith, omega arith)
-  terms-fit k Nothing q h e d p = absurd (true≢false cc)
+  terms-fit k Nothing q h e d p = never cc
 
 module _ (s : List ℕ) (at : ℕ) (known : Known s) where
   goal-by : (g : ℕ) (i : GoalHead) → end-step s at zero (suc g) (term-head-at s at) i ≡ goals-after s (next-by s at i) g
@@ -216,24 +216,24 @@ module _ (s : List ℕ) (at : ℕ) (known : Known s) where
   next-fits Conj f e d q = let r = goal-room s at known (sym f) Conj refl in let x : at + 1 ≡ e = cc in let y : 2 ≡ d = cc in omega arith
   next-fits Disj f e d q = let r = goal-room s at known (sym f) Disj refl in let x : at + 1 ≡ e = cc in let y : 2 ≡ d = cc in omega arith
   next-fits (Atom p k) f e d q = let r = goal-room s at known (sym f) (Atom p k) refl in let x = terms-fit s (at + 4) known k (end-at s (at + 4) k 0) refl (r .0) e d q in omega arith
-  next-fits NoGoal f e d q = absurd (true≢false cc)
+  next-fits NoGoal f e d q = never cc
 
   -- for code that has the head h, or what is next, from a call
   pub next-arm : {h : GoalHead} → h ≡ goal-head-at s at → (i : GoalHead) → h ≡ i → next-by s at i ≡ next-goal s at
   unfolding next-goal
   next-arm is i e = ap (next-by s at) (sym e ∙ is)
 
-  pub next-bound : {r : Onward} {e d : ℕ} → r ≡ next-goal s at → r ≡ On e d → (at < e) × (e ≤ length s) × (d ≤ 2)
+  pub next-bound : {r : GoalHeadEnd} {e d : ℕ} → r ≡ next-goal s at → r ≡ On e d → (at < e) × (e ≤ length s) × (d ≤ 2)
   unfolding next-goal
   next-bound {r} {e} {d} is q = next-fits (goal-head-at s at) refl e d (sym is ∙ q)
 
-  pub next-on : {r : Onward} {e d : ℕ} (g : ℕ) → r ≡ next-goal s at → r ≡ On e d → 0 < g → end-at s at zero g ≡ end-at s e zero (d + (g - 1))
+  pub next-on : {r : GoalHeadEnd} {e d : ℕ} (g : ℕ) → r ≡ next-goal s at → r ≡ On e d → 0 < g → end-at s at zero g ≡ end-at s e zero (d + (g - 1))
   next-on {r} {e} {d} g is q h =
       let w : suc (g - 1) ≡ g = omega arith in
       let x : next-goal s at ≡ On e d = sym is ∙ q in
       rw (x, w) at (goals-end (g - 1))
 
-  pub next-off : {r : Onward} (g : ℕ) → r ≡ next-goal s at → r ≡ Off → 0 < g → end-at s at zero g ≡ Nothing
+  pub next-off : {r : GoalHeadEnd} (g : ℕ) → r ≡ next-goal s at → r ≡ Off → 0 < g → end-at s at zero g ≡ Nothing
   next-off g is q h =
       let w : suc (g - 1) ≡ g = omega arith in
       let x : next-goal s at ≡ Off = sym is ∙ q in

@@ -1,19 +1,16 @@
 -- Where ancestors, pairs, bets, definitions and clauses end, by their heads, and where a row of them does.
-use Prim.Native.Nat.{ℕ, suc, _+_, _-_, _≤_, _<_}
+use Prim.Native.Nat.{ℕ, suc, _+_, _-_, _<_}
 use native.Mathlib.Nat.{add-zero, add-assoc}
 use native.Mathlib.Omega.{arith}
 use mathlib.Core.Path.{_≡_, refl, sym, ap, _∙_}
-use mathlib.Core.Bool.{true≢false}
 use mathlib.Core.List.{List, _∷_}
-use lib.ListN.{length, drop, length-append, length-drop}
+use lib.ListN.{drop}
 use lib.Seq.{drop-drop}
 use Rattle.records.specs.Format.Syntax as Syntax
 use Rattle.records.specs.Format.Heads.{ancestor-head-at, bet-head-at, word-at, definition-head-at, clause-head-at}
-use Rattle.records.specs.Format.HeadLaws.{Known, bytes-all, bytes-drop}
 use Rattle.records.specs.Format.Reader.{Read, Parts, also, read}
 use Rattle.records.specs.Format.Reader.Read.{unread, found}
-use Rattle.records.specs.Format.Items.{Reader, then-read, made, many, read-term, read-goal, ancestor-by, read-ancestor, binding-by, read-binding, bet-by, read-bet, definition-by, read-definition, clause-by, read-clause}
-use Rattle.records.specs.Format.ItemLaws.{Laid, Exact}
+use Rattle.records.specs.Format.Items.{Reader, then-read, made, many, read-goal, ancestor-by, read-ancestor, binding-by, read-binding, bet-by, read-bet, definition-by, read-definition, clause-by, read-clause}
 use Rattle.records.specs.Ends.Traversal.{place-of, end-of, end-at}
 use Rattle.records.specs.Ends.EndLaws.{end-read, onward}
 use Rattle.records.specs.declared.ends.Found.{Found}
@@ -42,11 +39,7 @@ module _ (s : List ℕ) (at : ℕ) where
   parts-place : {A : Type 0} (f : Parts → A) (k t g : ℕ) → place-of at (also f k (read (drop k (drop at s)) t g)) ≡ end-at s (at + k) t g
   parts-place f k t g = place-also f at k (read (drop k (drop at s)) t g) ∙ ap (λ (l : List ℕ). place-of (at + k) (read l t g)) (drop-drop k at s) ∙ sym (end-read s (at + k) t g)
 
-  -- one term, one goal
-  pub term-ends : end-of read-term s at ≡ end-at s at 1 0
-  unfolding end-of read-term
-  term-ends = place-made _ at (read (drop at s) 1 0) ∙ sym (end-read s at 1 0)
-
+  -- one goal
   pub goal-ends : end-of read-goal s at ≡ end-at s at 0 1
   unfolding end-of read-goal
   goal-ends = place-made _ at (read (drop at s) 0 1) ∙ sym (end-read s at 0 1)
@@ -151,26 +144,6 @@ module _ {A : Type 0} (r : Reader A) (s : List ℕ) where
       let w : suc (n - 1) ≡ n = omega arith in
       let x : end-of r s at ≡ Nothing = sym is ∙ q in
       rw (x, w) at (many-ends (n - 1) at)
-
--- what an exact reader finds lies within, and takes as many bytes as its layout
-module _ {A : Type 0} {bytes : A → List ℕ} {Formed : A → Type 0} {r : Reader A} (w : Exact bytes Formed r) (s : List ℕ) (known : Known s) where
-  pub found-at : (at e : ℕ) → end-of r s at ≡ At e → (a : A) × (r (drop at s) ≡ found a (e - at)) × (e ≡ at + length (bytes a)) × Laid bytes Formed (drop at s) a (e - at)
-  unfolding end-of
-  found-at at e q = go (r (drop at s)) refl q
-    where
-      go : (o : Read A) → r (drop at s) ≡ o → place-of at o ≡ At e → (a : A) × (r (drop at s) ≡ found a (e - at)) × (e ≡ at + length (bytes a)) × Laid bytes Formed (drop at s) a (e - at)
-      go unread h z = absurd (true≢false cc)
-      go (found a n) h z =
-          let x : at + n ≡ e = cc in
-          let y : n ≡ e - at = omega arith in
-          let v = w .sound (drop at s) (bytes-drop at s (bytes-all s known)) a n h in
-          (a, rw (← y) h, omega (arith, v .size), rw (← y) v)
-
-  pub item-bound : ((a : A) → 0 < length (bytes a)) → (at e : ℕ) → end-of r s at ≡ At e → (at < e) × (e ≤ length s)
-  item-bound long at e q =
-      let v = found-at at e q in
-      let x : length (drop at s) ≡ length (bytes (v .0)) + length (drop (e - at) (drop at s)) = ap length (v .3 .front) ∙ length-append (bytes (v .0)) (drop (e - at) (drop at s)) in
-      (omega (arith, v .2, long (v .0)), omega (arith, v .2, x, length-drop at s, long (v .0)))
 
 -- what an item of a kind is, and its reader
 abbrev pub ItemTree : Item → Type 0

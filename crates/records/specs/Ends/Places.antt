@@ -1,11 +1,11 @@
 -- Where the parts of an accepted event and of a definition stand, told by the tree alone.
-use Prim.Native.Nat.{ℕ, _+_, _-_, _<_}
+use Prim.Native.Nat.{ℕ, _+_, _<_}
 use native.Mathlib.Omega.{arith}
 use mathlib.Core.Path.{_≡_, refl, sym, ap, _∙_}
-use mathlib.Core.Bool.{true≢false}
 use mathlib.Core.List.{List, [], _∷_, _++_}
 use lib.ListN.{length, getD}
 use lib.Seq.{getD-drop}
+use Rattle.records.specs.Format.Never.{never}
 use Rattle.records.specs.Format.Syntax.{Goal, Ancestor, Bet, Port, Event}
 use Rattle.records.specs.Format.Syntax.Event.{event}
 use Rattle.records.specs.Format.Encode.{each, counted, goal-bytes, ancestor-bytes, bet-bytes, port-byte, event-bytes, record-of}
@@ -58,10 +58,10 @@ abbrev pub EndsOf : List ℕ → PartEnds → Type 0
 EndsOf s ends = (e : Event) → read-event s ≡ tree e → ends ≡ part-ends e
 
 lost : {P : Type 0} {d : ℕ} → Nothing ≡ At d → P
-lost e = absurd (true≢false cc)
+lost e = never cc
 
 shorted : {P : Type 0} {n : ℕ} → Short ≡ Number n → P
-shorted e = absurd (true≢false cc)
+shorted e = never cc
 
 -- what was found of a row, of one whose end is known, and of a goal, at a position
 pub record RowAt (s : List ℕ) (at : ℕ) (i : Item) (r : Row) : Type 0 where

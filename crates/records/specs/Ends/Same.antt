@@ -2,13 +2,14 @@
 use Prim.Native.Nat.{ℕ, suc, _+_, _-_, _≤_, _<_}
 use native.Mathlib.Omega.{arith}
 use mathlib.Core.Path.{_≡_, refl, sym, ap, ap₂, _∙_}
-use mathlib.Core.Bool.{Bool, true, false, _&&_, true≢false}
+use mathlib.Core.Bool.{Bool, true, false, _&&_}
 use mathlib.Core.List.{List, [], _∷_}
 use lib.Dec.{eqb}
 use lib.ListN.{length, drop, take, getD}
 use lib.Seq.{drop-cons}
 use borrow.Author.Tests.{eq-eqb, ne-eqb, eqb-true}
-use Rattle.records.specs.Gate.Bools.{and-both}
+use Rattle.records.specs.Format.Never.{never}
+use Rattle.records.specs.Gate.BoolLaws.{and-both}
 use Rattle.records.specs.Ends.Range.{size, cut, Inside, length-cut}
 use Rattle.records.specs.declared.put.Range.{Range}
 
@@ -21,8 +22,8 @@ same-bytes (x ∷ l) (y ∷ k) = eqb x y && same-bytes l k
 pub same-true : (l k : List ℕ) → same-bytes l k ≡ true → l ≡ k
 unfolding same-bytes
 same-true [] [] e = refl
-same-true [] (y ∷ k) e = absurd (true≢false cc)
-same-true (x ∷ l) [] e = absurd (true≢false cc)
+same-true [] (y ∷ k) e = never cc
+same-true (x ∷ l) [] e = never cc
 same-true (x ∷ l) (y ∷ k) e = let w = and-both (eqb x y) (same-bytes l k) e in ap₂ _∷_ (eqb-true x y (w .0)) (same-true l k (w .1))
 
 pub same-refl : (l : List ℕ) → same-bytes l l ≡ true

@@ -25,7 +25,7 @@ use Rattle.records.specs.Format.Reader.Parts.{parts}
 use Rattle.records.specs.Format.Items.{Reader}
 use Rattle.records.specs.Format.ItemLaws.{Exact, parts-exact}
 use Rattle.records.specs.Format.Exact.{tag-is}
-use Rattle.records.specs.Ends.Traversal.{traverse, place-of, end-of, term-nodes, terms-nodes, goal-nodes}
+use Rattle.records.specs.Ends.Traversal.{traverse, place-of, end-of, term-nodes, terms-nodes, goal-nodes, end-at, traversal-end}
 use Rattle.records.specs.Ends.Traversal.Traversal.{on}
 use Rattle.records.specs.declared.ends.Found.the-variants.{At}
 use Rattle.records.specs.declared.heads.TermHead.{TermHead}
@@ -110,6 +110,11 @@ traverse-terms {s} {at} {e} ts f h =
 pub traverse-term : {s : List ℕ} {at e : ℕ} (t : Term) → TermFormed t → Stands s at (term-bytes t) e → traverse s at 1 0 ≡ on (term-nodes t) e
 traverse-term {s} {at} {e} t f h =
     traverse-terms (cons t nil) (f, tt) (rw (← append-nil (term-bytes t)) at h) ∙ ap (λ (l : List _). on l e) (append-nil (term-nodes t))
+
+-- it ends there
+pub term-ends : {s : List ℕ} {at e : ℕ} (t : Term) → TermFormed t → Stands s at (term-bytes t) e → end-at s at 1 0 ≡ At e
+unfolding end-at
+term-ends t f h = ap traversal-end (traverse-term t f h)
 
 pub traverse-goal : {s : List ℕ} {at e : ℕ} (g : Goal) → GoalFormed g → Stands s at (goal-bytes g) e → traverse s at 0 1 ≡ on (goal-nodes g) e
 unfolding traverse

@@ -17,8 +17,8 @@ use Rattle.records.specs.declared.heads.TermHead.the-variants.{Variable,
 use Rattle.records.specs.declared.heads.GoalHead.{GoalHead}
 use Rattle.records.specs.declared.heads.GoalHead.the-variants.{Truth, Failure, Equal, Conj, Disj, Atom, NoGoal}
 use Rattle.records.specs.declared.traverse.Cursor.{Cursor}
-use Rattle.records.specs.declared.traverse.Step.{Step}
-use Rattle.records.specs.declared.traverse.Step.the-variants.{Variable as Met, Other, Done}
+use Rattle.records.specs.declared.traverse.NodeStep.{NodeStep}
+use Rattle.records.specs.declared.traverse.NodeStep.the-variants.{Variable as Met, Other, Done}
 use Rattle.records.specs.declared.traverse.Top.{Top}
 
 -- the traversal goes through
@@ -36,11 +36,11 @@ end-place off = 0
 end-place (on l e) = e
 
 -- the place after a goal's head of so many bytes, with the terms and goals that it announces
-abbrev pub after-goal : ℕ → ℕ → ℕ → ℕ → ℕ → Step
+abbrev pub after-goal : ℕ → ℕ → ℕ → ℕ → ℕ → NodeStep
 after-goal pos size terms more goals = Other (record { pos = pos + size; terms = terms; goals = more + (goals - 1) })
 
 -- one node, by its heads
-abbrev pub step-by : ℕ → ℕ → ℕ → TermHead → GoalHead → Step
+abbrev pub step-by : ℕ → ℕ → ℕ → TermHead → GoalHead → NodeStep
 step-by p zero zero h i = Done
 step-by p (suc t) g (Variable v) i = Met v (record { pos = p + 3; terms = suc t - 1; goals = g })
 step-by p (suc t) g (Symbol f k) i = Other (record { pos = p + 4; terms = k + (suc t - 1); goals = g })
@@ -53,7 +53,7 @@ step-by p zero (suc g) h Disj = after-goal p 1 0 2 (suc g)
 step-by p zero (suc g) h (Atom f k) = after-goal p 4 k 0 (suc g)
 step-by p zero (suc g) h NoGoal = Done
 
-unfoldable pub next-step : List ℕ → ℕ → ℕ → ℕ → Step
+unfoldable pub next-step : List ℕ → ℕ → ℕ → ℕ → NodeStep
 next-step s p t g = step-by p t g (term-head-at s p) (goal-head-at s p)
 
 -- the traversal from a cursor on
@@ -61,7 +61,7 @@ abbrev pub traverse-from : List ℕ → Cursor → Traversal
 traverse-from s c = traverse s (c .pos) (c .terms) (c .goals)
 
 -- what a step says of the traversal w from p on
-abbrev pub Goes : List ℕ → ℕ → Traversal → Step → Type 0
+abbrev pub Goes : List ℕ → ℕ → Traversal → NodeStep → Type 0
 Goes s p w (Met v c) = (w ≡ before (variable v) (traverse-from s c)) × (p < c .pos) × (v < 65536)
 Goes s p w (Other c) = ((x : List ℕ) × (w ≡ before (other x) (traverse-from s c))) × (p < c .pos)
 Goes s p w Done = w ≡ on [] p
@@ -93,7 +93,7 @@ module _ (s : List ℕ) (known : Known s) (p : ℕ) where
   goes-by zero (suc g) h NoGoal x y z = absurd z
 
   -- for code that has the step r from a call
-  pub goes : (t g : ℕ) → On (traverse s p t g) → {r : Step} → r ≡ next-step s p t g → (i : Step) → r ≡ i → Goes s p (traverse s p t g) i
+  pub goes : (t g : ℕ) → On (traverse s p t g) → {r : NodeStep} → r ≡ next-step s p t g → (i : NodeStep) → r ≡ i → Goes s p (traverse s p t g) i
   unfolding next-step
   goes t g z is i e =
       let q = traverse-step s p t g in
@@ -118,7 +118,7 @@ end-place-before x off = refl
 end-place-before x (on l e) = refl
 
 -- what a step does to the traversal from c on
-module _ (s : List ℕ) (known : Known s) (c : Cursor) (h : On (traverse-from s c)) {r : Step} (is : r ≡ next-step s (c .pos) (c .terms) (c .goals)) where
+module _ (s : List ℕ) (known : Known s) (c : Cursor) (h : On (traverse-from s c)) {r : NodeStep} (is : r ≡ next-step s (c .pos) (c .terms) (c .goals)) where
   pub record To (d : Cursor) : Type 0 where
     pub through : On (traverse-from s d)
     pub end : end-place (traverse-from s c) ≡ end-place (traverse-from s d)
@@ -161,7 +161,7 @@ pub record Underway {A : Type 0} (f : A → ℕ → A) (s : List ℕ) (w : Trave
 pub underway-start : {A : Type 0} (f : A → ℕ → A) (s : List ℕ) (c : Cursor) (a : A) → On (traverse-from s c) → Underway f s (traverse-from s c) a c a
 underway-start f s c a h = record { through = h; same-end = refl; same-value = refl }
 
-module _ {A : Type 0} {f : A → ℕ → A} (s : List ℕ) (known : Known s) {w : Traversal} {a₀ : A} {c : Cursor} {a : A} (u : Underway f s w a₀ c a) {r : Step} (is : r ≡ next-step s (c .pos) (c .terms) (c .goals)) where
+module _ {A : Type 0} {f : A → ℕ → A} (s : List ℕ) (known : Known s) {w : Traversal} {a₀ : A} {c : Cursor} {a : A} (u : Underway f s w a₀ c a) {r : NodeStep} (is : r ≡ next-step s (c .pos) (c .terms) (c .goals)) where
   pub underway-variable : {v : ℕ} {d : Cursor} → r ≡ Met v d → Underway f s w a₀ d (f a v)
   underway-variable e =
       let y = to-variable s known c (u .through) is e in

@@ -1,5 +1,5 @@
 -- Laws of a traversal: it goes a node at a time by the heads, and a traversal over some terms goes on into the traversal over what follows them.
-use Prim.Native.Nat.{ℕ, zero, suc, _+_, _-_}
+use Prim.Native.Nat.{ℕ, zero, suc, _+_}
 use native.Mathlib.Nat.{add-zero, add-assoc}
 use native.Mathlib.Omega.{arith}
 use mathlib.Core.Path.{_≡_, refl, ap, _∙_}

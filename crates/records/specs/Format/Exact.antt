@@ -1,12 +1,13 @@
 -- The readers of ancestors, pairs, bets, stacks, events, definitions and clauses are exact, each for its layout.
-use Prim.Native.Nat.{ℕ, _+_}
+use Prim.Native.Nat.{ℕ}
 use native.Mathlib.Omega.{arith}
 use mathlib.Core.Path.{_≡_, refl, sym, ap, _∙_}
-use mathlib.Core.Bool.{Bool, true, false, _||_, true≢false}
+use mathlib.Core.Bool.{Bool, true, false, _||_}
 use mathlib.Core.List.{List, [], _∷_, _++_, append-nil}
 use lib.Dec.{eqb}
 use lib.ListN.{length}
 use borrow.Author.Tests.{le-leb, eqb-true}
+use Rattle.records.specs.Format.Never.{never}
 use Rattle.records.specs.Format.Syntax.{Terms, Half, Ancestor, Binding, Bet, Definition, Clause, arity, Port, Event}
 use Rattle.records.specs.Format.Syntax.Terms.{nil, cons}
 use Rattle.records.specs.Format.Syntax.Half.{first, second}
@@ -23,7 +24,7 @@ use Rattle.records.specs.Format.Reader.{Parts, terms-of, goals-of, read,
 use Rattle.records.specs.Format.Reader.Read.{unread, found}
 use Rattle.records.specs.Format.Reader.Parts.{parts}
 use Rattle.records.specs.Format.ReaderLaws.{parts-bytes}
-use Rattle.records.specs.Format.Items.{many, first-term, first-goal, second-goal, half-of, ancestor-by, read-ancestor, binding-by, read-binding, bet-by, read-bet, definition-by, read-definition, clause-by, read-clause, Stacks, Frame, read-counted, read-goal, read-stacks, read-port, read-frame, event-of-frame, read-event-bytes}
+use Rattle.records.specs.Format.Items.{many, first-term, first-goal, second-goal, half-of, ancestor-by, read-ancestor, binding-by, read-binding, bet-by, read-bet, definition-by, read-definition, clause-by, read-clause, Stacks, EventFrame, read-counted, read-goal, read-stacks, read-port, read-frame, event-of-frame, read-event-bytes}
 use Rattle.records.specs.Format.Items.Stacks.{stacks}
 use Rattle.records.specs.Format.ItemLaws.{Laid, Exact, PartsFormed, parts-exact, also-laid, many-exact, after-laid, after-complete, counted-exact, goal-exact}
 use Rattle.records.specs.declared.heads.AncestorHead.{AncestorHead}
@@ -36,11 +37,11 @@ use Rattle.records.specs.declared.heads.Signature.{Signature}
 use Rattle.records.specs.declared.heads.Signature.the-variants.{Predicate, NoPredicate}
 use Rattle.records.specs.Format.Syntax.Port.{call, exit, fail, redo}
 use Rattle.records.specs.Format.Syntax.Event.{event}
-use Rattle.records.specs.Format.Items.Frame.{frame}
+use Rattle.records.specs.Format.Items.EventFrame.{frame}
 
 -- nothing was found
 pub unread-found : {A P : Type 0} {a : A} {n : ℕ} → unread ≡ found a n → P
-unread-found e = absurd (true≢false cc)
+unread-found e = never cc
 
 -- a byte that is a tag is the tag of the half that it selects
 pub tag-half : (k : ℕ) → IsTag k → tag (half-of k) ≡ k
@@ -198,10 +199,10 @@ stacks-exact = record {
     whole : (a : Stacks) → StacksFormed a → (s : List ℕ) → read-stacks (stacks-bytes a ++ s) ≡ found a (length (stacks-bytes a))
     whole (stacks u v) h s = after-complete stacks (read-counted read-ancestor) (read-counted read-bet) (counted-exact ancestor-exact) (counted-exact bet-exact) u v (h .0) (h .1) _ refl s
 
-frame-bytes : Frame → List ℕ
+frame-bytes : EventFrame → List ℕ
 frame-bytes (frame g k) = goal-bytes g ++ stacks-bytes k
 
-FrameFormed : Frame → Type 0
+FrameFormed : EventFrame → Type 0
 FrameFormed (frame g k) = GoalFormed g × StacksFormed k
 
 frame-exact : Exact frame-bytes FrameFormed read-frame
@@ -211,7 +212,7 @@ frame-exact = record {
   sound = λ l b a n e. after-laid frame read-goal read-stacks goal-exact stacks-exact (λ g k p q. (refl, (p, q))) l b a n e;
 }
   where
-    whole : (a : Frame) → FrameFormed a → (s : List ℕ) → read-frame (frame-bytes a ++ s) ≡ found a (length (frame-bytes a))
+    whole : (a : EventFrame) → FrameFormed a → (s : List ℕ) → read-frame (frame-bytes a ++ s) ≡ found a (length (frame-bytes a))
     whole (frame g k) h s = after-complete frame read-goal read-stacks goal-exact stacks-exact g k (h .0) (h .1) _ refl s
 
 port-bytes : Port → List ℕ
@@ -249,7 +250,7 @@ event-exact = record {
   sound = λ l b a n e. after-laid event-of-frame read-port read-frame port-exact frame-exact made l b a n e;
 }
   where
-    made : (p : Port) (f : Frame) → Unit {0} → FrameFormed f → (event-bytes (event-of-frame p f) ≡ port-bytes p ++ frame-bytes f) × EventFormed (event-of-frame p f)
+    made : (p : Port) (f : EventFrame) → Unit {0} → FrameFormed f → (event-bytes (event-of-frame p f) ≡ port-bytes p ++ frame-bytes f) × EventFormed (event-of-frame p f)
     made p (frame g (stacks u s)) x h = (refl, (h .0, h .1 .0, h .1 .1))
 
     whole : (a : Event) → EventFormed a → (s : List ℕ) → read-event-bytes (event-bytes a ++ s) ≡ found a (length (event-bytes a))

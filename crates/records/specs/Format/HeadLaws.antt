@@ -1,5 +1,5 @@
 -- What a head says of the bytes that it was read from, if they are bytes.
-use Prim.Native.Nat.{ℕ, zero, suc, _+_, _<_, _≤_, _/_, _%_}
+use Prim.Native.Nat.{ℕ, zero, suc, _<_, _≤_, _/_, _%_}
 use native.Mathlib.Omega.{arith}
 use mathlib.Core.Path.{_≡_, refl}
 use mathlib.Core.Bool.{Bool, true, false}

@@ -3,21 +3,21 @@ use Prim.Native.Nat.{ℕ, zero, suc, _+_}
 use native.Mathlib.Nat.{add-zero}
 use native.Mathlib.Omega.{arith}
 use mathlib.Core.Path.{_≡_, refl, sym, ap, _∙_}
-use mathlib.Core.Bool.{true≢false}
 use mathlib.Core.List.{List, [], _∷_, _++_, append-assoc, append-nil}
 use lib.ListN.{length, drop, length-append}
 use lib.Seq.{drop-drop, drop-at}
-use Rattle.records.specs.Format.Syntax.{Term, Terms, Goal, arity}
+use Rattle.records.specs.Format.Never.{never}
+use Rattle.records.specs.Format.Syntax.{Terms, Goal, arity}
 use Rattle.records.specs.Format.Syntax.Terms.{nil, cons}
-use Rattle.records.specs.Format.Encode.{word, each, counted, term-bytes, terms-bytes, goal-bytes}
-use Rattle.records.specs.Format.Formed.{TermFormed, TermsFormed, GoalFormed, All, Counted}
+use Rattle.records.specs.Format.Encode.{word, each, counted, terms-bytes, goal-bytes}
+use Rattle.records.specs.Format.Formed.{TermsFormed, GoalFormed, All, Counted}
 use Rattle.records.specs.Format.Heads.{word-head}
 use Rattle.records.specs.Format.HeadLaws.{Bytes, bytes-drop, WordLead, word-lead, joined-word}
 use Rattle.records.specs.Format.Reader.{Read, Parts, also, terms-of, goals-of, read}
 use Rattle.records.specs.Format.Reader.Read.{unread, found}
 use Rattle.records.specs.Format.Reader.Parts.{parts}
-use Rattle.records.specs.Format.ReaderLaws.{complete-terms, complete-term, complete-goal, parts-bytes, over-terms, read-done, sound, ReadSound}
-use Rattle.records.specs.Format.Items.{Reader, then-read, made, many, counted-by, read-counted, first-term, first-goal, read-term, read-goal}
+use Rattle.records.specs.Format.ReaderLaws.{complete-terms, complete-goal, parts-bytes, over-terms, read-done, sound, ReadSound}
+use Rattle.records.specs.Format.Items.{Reader, then-read, made, many, counted-by, read-counted, first-goal, read-goal}
 use Rattle.records.specs.declared.heads.Word.{Word}
 use Rattle.records.specs.declared.heads.Word.the-variants.{Number, Short}
 
@@ -72,7 +72,7 @@ module _ {B C : Type 0} {b-bytes : B → List ℕ} {c-bytes : C → List ℕ} {F
   also-laid x f r l e w h q c n = go (r (drop (length x) l)) refl
     where
       go : (o : Read B) → r (drop (length x) l) ≡ o → also f (length x) o ≡ found c n → Laid c-bytes FC l c n
-      go unread p z = absurd (true≢false cc)
+      go unread p z = never cc
       go (found b m) p z =
           let v = w .sound (drop (length x) l) (bytes-drop (length x) l h) b m p in
           let y = q b (v .formed) in
@@ -87,7 +87,7 @@ module _ {A B C : Type 0} {a-bytes : A → List ℕ} {b-bytes : B → List ℕ} 
   after-laid {c-bytes} {FC} f ra rb wa wb q l h c n = go (ra l) refl
     where
       go : (o : Read A) → ra l ≡ o → then-read f o rb l ≡ found c n → Laid c-bytes FC l c n
-      go unread p z = absurd (true≢false cc)
+      go unread p z = never cc
       go (found a m) p z =
           let v = wa .sound l h a m p in
           let e : length (a-bytes a) ≡ m = sym (v .size) in
@@ -133,27 +133,9 @@ module _ {A : Type 0} {bytes : A → List ℕ} {Formed : A → Type 0} {r : Read
       back : (l : List ℕ) → Bytes l → (k : Word) → WordLead l k → (xs : List A) (m : ℕ) → counted-by r k l ≡ found xs m → Laid (counted bytes) (Counted Formed) l xs m
       back l h (Number n) q xs m e =
           also-laid (word n) (λ x. x) (many r n) l (q .0) (many-exact n) h (λ b v. (ap (λ (k : ℕ). word k ++ each bytes b) (v .0), (rw (v .0) (q .1), v .1))) xs m e
-      back l h Short q xs m e = absurd (true≢false cc)
+      back l h Short q xs m e = never cc
 
--- one term, one goal
-pub term-exact : Exact term-bytes TermFormed read-term
-unfolding read-term
-term-exact = record { complete = λ t h s. whole t h s; sound = λ l b t n e. back l b (read l 1 0) refl t n e }
-  where
-    whole : (t : Term) → TermFormed t → (s : List ℕ) → read-term (term-bytes t ++ s) ≡ found t (length (term-bytes t))
-    whole t h s = rw (complete-term t h 0 0 s, read-done) (ap (found t) (omega arith))
-
-    back : (l : List ℕ) → Bytes l → (o : Read Parts) → read l 1 0 ≡ o → (t : Term) (n : ℕ) → made first-term o ≡ found t n → Laid term-bytes TermFormed l t n
-    back l b unread p t n e = absurd (true≢false cc)
-    back l b (found (parts nil gs) m) p t n e = absurd (omega (arith, sound l 1 0 (parts nil gs) m p .terms))
-    back l b (found (parts (cons u (cons v ts)) gs) m) p t n e = absurd (omega (arith, sound l 1 0 (parts (cons u (cons v ts)) gs) m p .terms))
-    back l b (found (parts (cons u nil) (a ∷ gs)) m) p t n e = absurd (omega (arith, sound l 1 0 (parts (cons u nil) (a ∷ gs)) m p .goals))
-    back l b (found (parts (cons u nil) []) m) p t n e =
-        let w = sound l 1 0 (parts (cons u nil) []) m p in
-        let a1 : u ≡ t = cc in
-        let a2 : m ≡ n = cc in
-        rw (← a1, ← a2) (record { formed = w .formed b .0 .0; size = w .size ∙ simp append-nil; front = w .bytes b ∙ simp append-nil })
-
+-- one goal
 pub goal-exact : Exact goal-bytes GoalFormed read-goal
 unfolding read-goal
 goal-exact = record { complete = λ a h s. whole a h s; sound = λ l b a n e. back l b (read l 0 1) refl a n e }
@@ -162,7 +144,7 @@ goal-exact = record { complete = λ a h s. whole a h s; sound = λ l b a n e. ba
     whole a h s = rw (complete-goal a h 0 s, read-done) (ap (found a) (omega arith))
 
     back : (l : List ℕ) → Bytes l → (o : Read Parts) → read l 0 1 ≡ o → (a : Goal) (n : ℕ) → made first-goal o ≡ found a n → Laid goal-bytes GoalFormed l a n
-    back l b unread p a n e = absurd (true≢false cc)
+    back l b unread p a n e = never cc
     back l b (found (parts (cons t ts) gs) m) p a n e = absurd (omega (arith, sound l 0 1 (parts (cons t ts) gs) m p .terms))
     back l b (found (parts nil []) m) p a n e = absurd (omega (arith, sound l 0 1 (parts nil []) m p .goals))
     back l b (found (parts nil (x ∷ y ∷ gs)) m) p a n e = absurd (omega (arith, sound l 0 1 (parts nil (x ∷ y ∷ gs)) m p .goals))

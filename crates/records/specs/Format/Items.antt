@@ -68,9 +68,6 @@ second-goal (parts ts []) = truth
 second-goal (parts ts (a ∷ [])) = truth
 second-goal (parts ts (a ∷ b ∷ gs)) = b
 
-unfoldable pub read-term : Reader Term
-read-term l = made first-term (read l 1 0)
-
 unfoldable pub read-goal : Reader Goal
 read-goal l = made first-goal (read l 0 1)
 
@@ -132,13 +129,13 @@ read-port [] = unread
 read-port (b ∷ l) = port-of b
 
 -- what follows the port
-pub data Frame : Type 0 where
-  frame : Goal → Stacks → Frame
+pub data EventFrame : Type 0 where
+  frame : Goal → Stacks → EventFrame
 
-unfoldable pub read-frame : Reader Frame
+unfoldable pub read-frame : Reader EventFrame
 read-frame l = then-read frame (read-goal l) read-stacks l
 
-abbrev pub event-of-frame : Port → Frame → Event
+abbrev pub event-of-frame : Port → EventFrame → Event
 event-of-frame p (frame g (stacks u s)) = event p g u s
 
 unfoldable pub read-event-bytes : Reader Event

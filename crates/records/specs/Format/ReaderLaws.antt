@@ -4,11 +4,11 @@ use Prim.Native.Nat.{ℕ, zero, suc, _+_}
 use native.Mathlib.Nat.{suc-add, zero-add, add-zero}
 use native.Mathlib.Omega.{arith}
 use mathlib.Core.Path.{_≡_, refl, sym, ap, _∙_}
-use mathlib.Core.Bool.{true≢false}
 use mathlib.Core.List.{List, [], _∷_, _++_, append-assoc, append-nil}
 use lib.ListN.{length, drop, length-append}
 use lib.Seq.{drop-drop}
 use borrow.Author.Tests.{le-leb}
+use Rattle.records.specs.Format.Never.{never}
 use Rattle.records.specs.Format.Syntax.{Term, Terms, Goal, arity}
 use Rattle.records.specs.Format.Syntax.Term.{var, app}
 use Rattle.records.specs.Format.Syntax.Terms.{nil, cons}
@@ -134,13 +134,14 @@ Sounds l r = (t g : ℕ) (p : Parts) (n : ℕ) → r t g ≡ found p n → ReadS
 abbrev Step : Type 0
 Step = Parts → Parts
 
-pub never : {P : Type 0} {p : Parts} {n : ℕ} → unread ≡ found p n → P
-never e = absurd (true≢false cc)
+-- nothing read is no tree
+not-found : {P : Type 0} {p : Parts} {n : ℕ} → unread ≡ found p n → P
+not-found e = never cc
 
 -- what a node makes of what was read after it
 carried : (f : Step) (k : ℕ) (r : Read Parts) (l : List ℕ) (t g : ℕ) (p : Parts) (n : ℕ) → ((q : Parts) (m : ℕ) → r ≡ found q m → ReadSound l t g (f q) (k + m))
     → also f k r ≡ found p n → ReadSound l t g p n
-carried f k unread l t g p n s e = never e
+carried f k unread l t g p n s e = not-found e
 carried f k (found q m) l t g p n s e =
     let a : f q ≡ p = cc in
     let b : k + m ≡ n = cc in
@@ -241,7 +242,7 @@ node-sound l zero zero h i r1 r3 r4 x y s1 s3 s4 p n = λ e.
     rw (← q, ← z) (record { terms = refl; goals = refl; size = refl; bytes = λ _. refl; formed = λ _. (tt, tt) })
 node-sound l (suc t) g (Variable v) i r1 r3 r4 x y s1 s3 s4 p n = carried (over-variable v) 3 (r3 t g) l (suc t) g p n (λ q m e. variable-sound v l t g q m x (s3 t g q m e))
 node-sound l (suc t) g (Symbol f k) i r1 r3 r4 x y s1 s3 s4 p n = carried (over-symbol f k) 4 (r4 (k + t) g) l (suc t) g p n (λ q m e. symbol-sound f k l t g q m x (s4 (k + t) g q m e))
-node-sound l (suc t) g NoTerm i r1 r3 r4 x y s1 s3 s4 p n = never
+node-sound l (suc t) g NoTerm i r1 r3 r4 x y s1 s3 s4 p n = not-found
 node-sound l zero (suc g) h Truth r1 r3 r4 x y s1 s3 s4 p n = carried (over-goal truth) 1 (r1 zero g) l zero (suc g) p n (λ q m e. goal-sound truth 0x10 refl tt l g q m y (s1 zero g q m e))
 node-sound l zero (suc g) h Failure r1 r3 r4 x y s1 s3 s4 p n = carried (over-goal failure) 1 (r1 zero g) l zero (suc g) p n (λ q m e. goal-sound failure 0x11 refl tt l g q m y (s1 zero g q m e))
 node-sound l zero (suc g) h Equal r1 r3 r4 x y s1 s3 s4 p n = carried over-equal 1 (r1 2 g) l zero (suc g) p n (λ q m e. equal-sound l g q m y (s1 2 g q m e))
@@ -250,10 +251,10 @@ node-sound l zero (suc g) h Conj r1 r3 r4 x y s1 s3 s4 p n =
 node-sound l zero (suc g) h Disj r1 r3 r4 x y s1 s3 s4 p n =
     carried (over-pair disj) 1 (r1 zero (suc (suc g))) l zero (suc g) p n (λ q m e. pair-sound disj 0x14 (λ _ _. refl) (λ _ _ a b. (a, b)) l g q m y (s1 zero (suc (suc g)) q m e))
 node-sound l zero (suc g) h (Atom f k) r1 r3 r4 x y s1 s3 s4 p n = carried (over-atom f k) 4 (r4 k g) l zero (suc g) p n (λ q m e. atom-sound f k l g q m y (s4 k g q m e))
-node-sound l zero (suc g) h NoGoal r1 r3 r4 x y s1 s3 s4 p n = never
+node-sound l zero (suc g) h NoGoal r1 r3 r4 x y s1 s3 s4 p n = not-found
 
 nothing-sound : (t g : ℕ) (p : Parts) (n : ℕ) → node t g NoTerm NoGoal (λ _ _. unread) (λ _ _. unread) (λ _ _. unread) ≡ found p n → ReadSound [] t g p n
-nothing-sound t g = node-sound [] t g NoTerm NoGoal _ _ _ (λ _. tt) (λ _. tt) (λ _ _ _ _. never) (λ _ _ _ _. never) (λ _ _ _ _. never)
+nothing-sound t g = node-sound [] t g NoTerm NoGoal _ _ _ (λ _. tt) (λ _. tt) (λ _ _ _ _. not-found) (λ _ _ _ _. not-found) (λ _ _ _ _. not-found)
 
 pub sound : (l : List ℕ) (t g : ℕ) (p : Parts) (n : ℕ) → read l t g ≡ found p n → ReadSound l t g p n
 unfolding read

@@ -1,5 +1,5 @@
 -- Abstract syntax: what the desk's records say (SPECIFICATION 1).
--- Choices: terms and argument lists are declared together, since terms hold argument lists and argument lists hold terms; an atom among the
+-- Choices: terms and argument lists are declared together, since each holds the other; an atom among the
 -- ancestors is a constructor of its own, so that no other goal can stand there; stacks are lists with their top first; an event is a data type
 -- with one constructor, so that a rule can match into it. Equality is decidable throughout.
 use mathlib.Core.Path.{_≡_, refl, ap₂}
@@ -65,7 +65,7 @@ pub data Event : Type 0 where
   event : Port → Goal → List Ancestor → List Bet → Event
   deriving Discrete as Event-discrete
 
--- predicate, arity, number of locals, body; variables below the arity are the head's, the next ones the locals
+-- predicate, arity, number of locals, body; variables below the arity stand for the head's arguments, those from there on are locals
 pub data Definition : Type 0 where
   definition : ℕ → ℕ → ℕ → Goal → Definition
 

@@ -1,4 +1,4 @@
--- The door of the services: the questions that are put to the records and the output before anything else. The first no decides.
+-- The door of the services (SPECIFICATION 7.9): the questions that are put to the records and the output before anything else. The first no decides.
 use mathlib.Core.Path.{_≡_}
 use mathlib.Core.List.{List}
 use Prim.Native.Nat.{ℕ}
@@ -29,7 +29,7 @@ unfolding through program-door event-door
 door p e = through refused (program-door p) (λ a. through refused (event-door e) (λ b. gives (record { program = a; event = b })))
 
 -- a program record and an event record that pass, and what they say
-pub record Passed (program s : List ℕ) : Type 0 where
+pub record BothPassed (program s : List ℕ) : Type 0 where
   pub definitions : List Definition
   pub program-reads : read-program program ≡ tree definitions
   pub event : Event

@@ -1,15 +1,16 @@
 -- Laws of the door: each of its outcomes, and what passing it says of the records and the output.
 use mathlib.Core.Path.{_≡_, refl, ap, _∙_}
-use mathlib.Core.Bool.{Bool, true, false, true≢false}
+use mathlib.Core.Bool.{Bool, true, false}
 use mathlib.Core.List.{List}
 use Prim.Native.Nat.{ℕ, _≤_, _<_}
 use lib.Dec.{leb}
 use borrow.Author.Tests.{le-leb, lt-leb, leb-true}
+use Rattle.records.specs.Format.Never.{never}
 use Rattle.records.specs.Gate.Question.{Asked, framing, version, grammar, rules, of-program, of-event, output, question-number}
 use Rattle.records.specs.Gate.Gate.{Reading, tree, read-program, read-event, verdict, program-number, event-number}
 use Rattle.records.specs.Gate.Reply.{Answer, refused, gives, on-yes, through, answer-number}
 use Rattle.records.specs.Gate.ReplyLaws.{number-refuses, number-gives, yes-gives, through-gives, through-number}
-use Rattle.records.specs.Gate.Door.{program-door, event-door, Trees, door, Passed, with-room, gate}
+use Rattle.records.specs.Gate.Door.{program-door, event-door, Trees, door, BothPassed, with-room, gate}
 
 -- an output that is long enough, or too short
 pub room-enough : {A : Type 0} {room : ℕ} (next : Answer A) → 32768 ≤ room → with-room room next ≡ next
@@ -37,12 +38,12 @@ room-then room x next = go (leb 32768 room)
 module _ {A : Type 0} where
   pub program-gives : (r : Reading A) {a : A} → program-door r ≡ gives a → r ≡ tree a
   unfolding program-door
-  program-gives (Reading.refused q) e = absurd (true≢false cc)
+  program-gives (Reading.refused q) e = never cc
   program-gives (tree b) e = cc
 
   pub event-gives : (r : Reading A) {a : A} → event-door r ≡ gives a → r ≡ tree a
   unfolding event-door
-  event-gives (Reading.refused q) e = absurd (true≢false cc)
+  event-gives (Reading.refused q) e = never cc
   event-gives (tree b) e = cc
 
   -- by the number 0
@@ -112,13 +113,13 @@ module _ {A B : Type 0} (p : Reading A) (e : Reading B) where
 
 -- by the number 0
 module _ (program s : List ℕ) {n : ℕ} where
-  pub door-open : n ≡ answer-number (door (read-program program) (read-event s)) → n ≡ 0 → Passed program s
+  pub door-open : n ≡ answer-number (door (read-program program) (read-event s)) → n ≡ 0 → BothPassed program s
   door-open i z =
       let w = number-gives (door (read-program program) (read-event s)) i z in
       let g = door-gives (read-program program) (read-event s) (w .1) in
       record { definitions = w .0 .program; program-reads = g .0; event = w .0 .event; reads = g .1 }
 
-  pub gate-open : (room : ℕ) → n ≡ answer-number (gate (read-program program) (read-event s) room) → n ≡ 0 → Passed program s × (32768 ≤ room)
+  pub gate-open : (room : ℕ) → n ≡ answer-number (gate (read-program program) (read-event s) room) → n ≡ 0 → BothPassed program s × (32768 ≤ room)
   gate-open room i z =
       let w = number-gives (gate (read-program program) (read-event s) room) i z in
       let g = gate-gives (read-program program) (read-event s) room (w .1) in

@@ -1,22 +1,23 @@
 -- An event at positions: its port, its goal, its ancestors, and where its bets start.
-use Prim.Native.Nat.{ℕ, _+_, _-_, _≤_, _<_}
+use Prim.Native.Nat.{ℕ, _+_, _≤_, _<_}
 use native.Mathlib.Omega.{arith}
 use mathlib.Core.Path.{_≡_, refl, sym, ap, _∙_}
-use mathlib.Core.Bool.{Bool, true, true≢false}
+use mathlib.Core.Bool.{Bool}
 use mathlib.Core.List.{List, [], _∷_}
 use lib.Dec.{eqb}
 use lib.ListN.{length, drop, getD, length-drop}
 use lib.Seq.{drop-cons}
 use borrow.Author.Tests.{ne-eqb, eqb-false}
+use Rattle.records.specs.Format.Never.{never}
 use Rattle.records.specs.Format.Syntax.{Port}
 use Rattle.records.specs.Format.Syntax.Port.{call, exit, fail, redo}
 use Rattle.records.specs.Gate.RecordRules.{every, bet-rules, event-rules}
 use Rattle.records.specs.Format.HeadLaws.{by-test}
 use Rattle.records.specs.Format.Reader.{Read}
 use Rattle.records.specs.Format.Reader.Read.{unread, found}
-use Rattle.records.specs.Format.Items.{Stacks, Frame, read-counted, read-goal, read-ancestor, read-bet, read-port, port-of, read-stacks, read-frame, event-of-frame, read-event-bytes}
+use Rattle.records.specs.Format.Items.{Stacks, EventFrame, read-counted, read-goal, read-ancestor, read-bet, read-port, port-of, read-stacks, read-frame, event-of-frame, read-event-bytes}
 use Rattle.records.specs.Format.Items.Stacks.{stacks}
-use Rattle.records.specs.Format.Items.Frame.{frame}
+use Rattle.records.specs.Format.Items.EventFrame.{frame}
 use Rattle.records.specs.Ends.Traversal.{place-of, end-of, end-at}
 use Rattle.records.specs.Ends.EndLaws.{onward}
 use Rattle.records.specs.Ends.ItemEnds.{goal-ends, after-ends}
@@ -110,10 +111,10 @@ event-end s = event-frame s ∙ go (port-end s 3)
 stacks-rules : Stacks → Bool
 stacks-rules (stacks u s) = every bet-rules s
 
-frame-rules : Frame → Bool
+frame-rules : EventFrame → Bool
 frame-rules (frame g k) = stacks-rules k
 
-event-rules-frame : (p : Port) (f : Frame) → event-rules (event-of-frame p f) ≡ frame-rules f
+event-rules-frame : (p : Port) (f : EventFrame) → event-rules (event-of-frame p f) ≡ frame-rules f
 unfolding event-rules frame-rules stacks-rules
 event-rules-frame p (frame g (stacks u s)) = refl
 
@@ -134,7 +135,7 @@ unfolding bets-place
 event-kept s b e = go (port-end s 3) refl e
   where
     nowhere : {P : Type 0} → Nothing ≡ At b → P
-    nowhere q = absurd (true≢false cc)
+    nowhere q = never cc
 
     inner : (g : ℕ) (f : Found) → end-at s g 0 1 ≡ f → onward f (λ e. counted-end Ancestor s e) ≡ At b → kept-at frame-rules read-frame s g ≡ counted-kept Bet s b
     inner g (At k) q z = kept-stacks s g k q ∙ kept-bets s k b z

@@ -1,9 +1,9 @@
 -- Questions 1 to 4 of the gate, put to the four record kinds: from any bytes to the question that refuses them, or the tree that they say.
-use Prim.Native.Nat.{ℕ, _-_}
+use Prim.Native.Nat.{ℕ, _+_, _-_}
 use mathlib.Core.Bool.{Bool, true, false, _&&_}
 use mathlib.Core.List.{List, [], _∷_}
 use lib.Dec.{eqb, leb}
-use lib.ListN.{length, drop}
+use lib.ListN.{length, take, drop}
 use Rattle.records.specs.Format.Syntax.{Goal, Event, Definition, Clause}
 use Rattle.records.specs.Gate.RecordRules.{query-rules, event-rules, program-rules, clauses-rules}
 use Rattle.records.specs.Gate.Question.{Asked}
@@ -59,6 +59,12 @@ read-program = read-record read-program-bytes program-rules
 abbrev pub read-clauses : List ℕ → Reading (List Clause)
 read-clauses = read-record read-clauses-bytes clauses-rules
 
+-- the record at the front of a buffer, by its length field
+unfoldable pub front-record : List ℕ → List ℕ
+front-record [] = []
+front-record (x ∷ []) = []
+front-record (x ∷ y ∷ l) = take (2 + joined x y) (x ∷ y ∷ l)
+
 -- a record that passes
 abbrev pub Accepted : {A : Type 0} → Reading A → Type 0
 Accepted (refused q) = ⊥
@@ -75,7 +81,7 @@ abbrev pub verdict : {A : Type 0} → Reading A → Verdict
 verdict (refused q) = asked-verdict q
 verdict (tree a) = Passed
 
--- the number (SPECIFICATION 7) of each answer for a program or a clause record; a query's or an event's is 10 more where it is a refusal
+-- the number (SPECIFICATION 7.2) of each answer for a program or a clause record; a query's or an event's is 10 more where it is a refusal
 abbrev pub program-number : Verdict → ℕ
 program-number Passed = 0
 program-number Framing = 1

@@ -2,12 +2,13 @@
 use Prim.Native.Nat.{ℕ, suc, _+_, _-_, _≤_, _<_}
 use native.Mathlib.Omega.{arith}
 use mathlib.Core.Path.{_≡_, refl, sym, _∙_}
-use mathlib.Core.Bool.{Bool, true, false, true≢false}
+use mathlib.Core.Bool.{Bool, true, false}
 use mathlib.Core.List.{List, [], _∷_}
 use lib.Dec.{eqb, leb}
 use lib.ListN.{length, drop, getD}
 use borrow.Author.Tests.{le-leb, lt-leb, leb-true, eq-eqb, ne-eqb, eqb-true, eqb-false}
-use Rattle.records.specs.Gate.Bools.{and-both}
+use Rattle.records.specs.Format.Never.{never}
+use Rattle.records.specs.Gate.BoolLaws.{and-both}
 use Rattle.records.specs.Gate.Question.Asked.{framing, version, grammar, rules}
 use Rattle.records.specs.Format.Heads.{pick, joined, word-at}
 use Rattle.records.specs.Format.Reader.{Read}
@@ -58,13 +59,13 @@ unfolding framed word-at
 no-frame [] a is e = absurd (omega arith)
 no-frame (x ∷ []) a is e = absurd (omega arith)
 no-frame (x ∷ y ∷ []) a is e = absurd (omega arith)
-no-frame (x ∷ y ∷ z ∷ l) {w} a is e = let q : Number (joined x y) ≡ Short = sym is ∙ e in absurd (true≢false cc)
+no-frame (x ∷ y ∷ z ∷ l) {w} a is e = let q : Number (joined x y) ≡ Short = sym is ∙ e in never cc
 
 pub framed-length : (s : List ℕ) → framed s ≡ true → (3 ≤ length s) × (length s ≤ 32768)
 unfolding framed
-framed-length [] h = absurd (true≢false cc)
-framed-length (x ∷ []) h = absurd (true≢false cc)
-framed-length (x ∷ y ∷ []) h = absurd (true≢false cc)
+framed-length [] h = never cc
+framed-length (x ∷ []) h = never cc
+framed-length (x ∷ y ∷ []) h = never cc
 framed-length (x ∷ y ∷ z ∷ l) h = (omega arith, leb-true _ _ (and-both (leb (length (x ∷ y ∷ z ∷ l)) 32768) (eqb (joined x y) (length (z ∷ l))) h .0))
 
 -- question 2 by the third byte
@@ -99,8 +100,8 @@ module _ (s : List ℕ) where
     where
       go : (f v : Bool) → pick f (pick v Open (Refused Version)) (Refused Framing) ≡ Open → (f ≡ true) × (v ≡ true)
       go true true e = (refl, refl)
-      go true false e = absurd (true≢false cc)
-      go false v e = absurd (true≢false cc)
+      go true false e = never cc
+      go false v e = never cc
 
 -- where the grammar reads a body that ends at e
 unfoldable pub judged-at : List ℕ → ℕ → Bool → Verdict
@@ -122,7 +123,7 @@ module _ {A : Type 0} (r : Reader A) (kept : A → Bool) (s : List ℕ) where
   refuses {v = v} is q = go (framed s) (of-version s) (sym is ∙ q)
     where
       go : (a b : Bool) → pick a (pick b Open (Refused Version)) (Refused Framing) ≡ Refused v → v ≡ verdict (ask framing a (ask version b (judged kept (length s - 3) (r (drop 3 s)))))
-      go true true e = absurd (true≢false cc)
+      go true true e = never cc
       go true false e = cc
       go false b e = cc
 
@@ -139,7 +140,7 @@ module _ {A : Type 0} (r : Reader A) (kept : A → Bool) (s : List ℕ) where
       where
         go : (o : Read A) → place-of 3 o ≡ Nothing → Grammar ≡ verdict (judged kept (length s - 3) o)
         go unread e = refl
-        go (found a n) e = absurd (true≢false cc)
+        go (found a n) e = never cc
 
     pub readable : {p : Found} {e : ℕ} {b : Bool} → p ≡ end-of r s 3 → p ≡ At e → b ≡ kept-at kept r s 3 → judged-at s e b ≡ verdict (read-record r kept s)
     unfolding read-record end-of kept-at judged-at
@@ -158,5 +159,5 @@ module _ {A : Type 0} (r : Reader A) (kept : A → Bool) (s : List ℕ) where
         tell false c a = refl
 
         go : (o : Read A) → place-of 3 o ≡ At e → pick (eqb e (length s)) (pick (holds kept o) Passed Rules) Grammar ≡ verdict (judged kept (length s - 3) o)
-        go unread z = absurd (true≢false cc)
+        go unread z = never cc
         go (found a n) z = let y : 3 + n ≡ e = cc in rw (same n y) (tell (eqb n (length s - 3)) (kept a) a)

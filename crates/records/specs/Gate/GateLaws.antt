@@ -5,17 +5,18 @@ use Prim.Native.Nat.{ℕ, suc, _+_, _-_, _<_, _≤_}
 use native.Mathlib.Omega.{arith}
 use mathlib.Core.Path.{_≡_, refl, sym, ap, subst, _∙_}
 use mathlib.Core.Logic.{_↔_}
-use mathlib.Core.Bool.{Bool, true, false, true≢false}
+use mathlib.Core.Bool.{Bool, true, false}
 use mathlib.Core.List.{List, [], _∷_, _++_, append-nil}
 use lib.Dec.{eqb, leb}
-use lib.ListN.{length, drop, take, length-drop, drop-of-length-le}
+use lib.ListN.{length, drop, length-drop, drop-of-length-le}
 use lib.Seq.{take-at}
 use borrow.Author.Tests.{le-leb, leb-true, eq-eqb, eqb-true}
 use Rattle.records.specs.Format.Syntax.{Goal, Event, Definition, Clause}
 use Rattle.records.specs.Format.Encode.{word, counted, goal-bytes, event-bytes, definition-bytes, clause-bytes, record-of}
 use Rattle.records.specs.Format.Formed.{GoalFormed, EventFormed, Counted, DefinitionFormed, ClauseFormed}
 use Rattle.records.specs.Gate.RecordRules.{query-rules, event-rules, program-rules, clauses-rules}
-use Rattle.records.specs.Gate.Bools.{and-both}
+use Rattle.records.specs.Format.Never.{never}
+use Rattle.records.specs.Gate.BoolLaws.{and-both}
 use Rattle.records.specs.Gate.Question.{Asked}
 use Rattle.records.specs.Gate.Question.Asked.{framing, version, grammar, rules}
 use Rattle.records.specs.Format.Heads.{joined}
@@ -25,7 +26,7 @@ use Rattle.records.specs.Format.Reader.Read.{unread, found}
 use Rattle.records.specs.Format.Items.{Reader}
 use Rattle.records.specs.Format.ItemLaws.{Exact, counted-exact, goal-exact}
 use Rattle.records.specs.Format.Exact.{unread-found, definition-exact, clause-exact, event-exact}
-use Rattle.records.specs.Gate.Gate.{Reading, ask, framed, of-version, judged, read-record, read-query, read-event, read-program, read-clauses}
+use Rattle.records.specs.Gate.Gate.{Reading, ask, front-record, framed, of-version, judged, read-record, read-query, read-event, read-program, read-clauses}
 use Rattle.records.specs.Gate.Gate.Reading.{refused, tree}
 
 -- s is the record of a, which may be written
@@ -46,20 +47,21 @@ FirstNo {A} bytes Formed kept s grammar = (framed s ≡ true) × (of-version s �
 -- 4: one does, and breaks the rules
 FirstNo {A} bytes Formed kept s rules = (framed s ≡ true) × (of-version s ≡ true) × (a : A) × Formed a × (s ≡ record-of (bytes a)) × (kept a ≡ false)
 
-same-tree : {A : Type 0} {x y : A} → tree x ≡ tree y → x ≡ y
-same-tree {A} {x} {y} e = cc
+-- a record says one tree
+pub tree-injective : {A : Type 0} {x y : A} → tree x ≡ tree y → x ≡ y
+tree-injective {A} {x} {y} e = cc
 
 -- a question that was passed
 passed : {A : Type 0} (q : Asked) (b : Bool) (r : Reading A) (a : A) → ask q b r ≡ tree a → (b ≡ true) × (r ≡ tree a)
 passed q true r a e = (refl, e)
-passed q false r a e = absurd (true≢false cc)
+passed q false r a e = never cc
 
 -- the first three bytes of a record, by questions 1 and 2
 frame-of : (s : List ℕ) → Bytes s → framed s ≡ true → of-version s ≡ true → (s ≡ word (length s - 2) ++ (1 ∷ drop 3 s)) × (3 ≤ length s) × (length s ≤ 32768)
 unfolding framed of-version
-frame-of [] h p q = absurd (true≢false cc)
-frame-of (x ∷ []) h p q = absurd (true≢false cc)
-frame-of (x ∷ y ∷ []) h p q = absurd (true≢false cc)
+frame-of [] h p q = never cc
+frame-of (x ∷ []) h p q = never cc
+frame-of (x ∷ y ∷ []) h p q = never cc
 frame-of (x ∷ y ∷ z ∷ l) h p q =
     let w = and-both (leb (length (x ∷ y ∷ z ∷ l)) 32768) (eqb (joined x y) (length (z ∷ l))) p in
     let e : joined x y ≡ length (x ∷ y ∷ z ∷ l) - 2 = omega (arith, eqb-true (joined x y) (length (z ∷ l)) (w .1)) in (
@@ -102,12 +104,12 @@ module _ {A : Type 0} {bytes : A → List ℕ} {Formed : A → Type 0} {r : Read
 module _ {A : Type 0} {bytes : A → List ℕ} {Formed : A → Type 0} {r : Reader A} (w : Exact bytes Formed r) (kept : A → Bool) where
   judged-tree : (s : List ℕ) → Bytes s → framed s ≡ true → of-version s ≡ true → (o : Read A) → r (drop 3 s) ≡ o
       → (a : A) → judged kept (length s - 3) o ≡ tree a → RecordOf bytes Formed kept s a
-  judged-tree s h f v unread p a e = absurd (true≢false cc)
+  judged-tree s h f v unread p a e = never cc
   judged-tree s h f v (found b m) p a e =
       let q = passed grammar (eqb m (length s - 3)) _ a e in
       let k = passed rules (kept b) _ a (q .1) in
       let l = read-laid w s h f v b (p ∙ ap (found b) (eqb-true m (length s - 3) (q .0))) in
-      let i : b ≡ a = same-tree (k .1) in
+      let i : b ≡ a = tree-injective (k .1) in
       rw (← i) (record { formed = l .0; keeps = k .0; short = frame-of s h f v .2; laid = l .1 })
 
   -- what was read is laid out by the bytes read
@@ -135,7 +137,7 @@ module _ {A : Type 0} {bytes : A → List ℕ} {Formed : A → Type 0} {r : Read
       same-size a e = cc
 
       not-laid : eqb m (length s - 3) ≡ false → FirstNo bytes Formed kept s grammar
-      not-laid n = (f, v, λ a g l. true≢false (sym (eq-eqb m (length s - 3) (same-size a (sym p ∙ body-read w s a g l))) ∙ n))
+      not-laid n = (f, v, λ a g l. never (sym (eq-eqb m (length s - 3) (same-size a (sym p ∙ body-read w s a g l))) ∙ n))
 
       laid : eqb m (length s - 3) ≡ true → OnRefused (FirstNo bytes Formed kept s) (ask rules (kept b) (tree b))
       laid y =
@@ -210,16 +212,10 @@ clauses-refused-iff = record-refused-iff (counted-exact clause-exact) clauses-ru
 
 -- a query has no question 4
 pub query-unruled : (s : List ℕ) → Bytes s → read-query s ≡ refused rules → ⊥
-query-unruled s h e = true≢false (query-refused-iff s h rules .0 e .5)
-
--- the record at the front of a buffer, by its length field
-unfoldable pub front : List ℕ → List ℕ
-front [] = []
-front (x ∷ []) = []
-front (x ∷ y ∷ l) = take (2 + joined x y) (x ∷ y ∷ l)
+query-unruled s h e = never (query-refused-iff s h rules .0 e .5)
 
 -- a record with bytes after it gives the record
-pub front-record : (body r : List ℕ) → length body < 65535 → front (record-of body ++ r) ≡ record-of body
-unfolding front record-of
-front-record body r h =
+pub front-is-record : (body r : List ℕ) → length body < 65535 → front-record (record-of body ++ r) ≡ record-of body
+unfolding front-record record-of
+front-is-record body r h =
     rw (joined-word (1 + length body) (omega arith)) (take-at (word (1 + length body) ++ (1 ∷ body)) r (2 + (1 + length body)) (omega arith))

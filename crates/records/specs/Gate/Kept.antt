@@ -1,12 +1,13 @@
 -- Question 4 item by item, over the variables that a traversal meets: what the code for the record rules goes by.
-use Prim.Native.Nat.{ℕ, _+_, _-_, max}
+use Prim.Native.Nat.{ℕ, _+_, max}
 use native.Mathlib.Omega.{arith}
 use mathlib.Core.Path.{_≡_, refl, sym, ap, _∙_}
-use mathlib.Core.Bool.{Bool, true, true≢false}
+use mathlib.Core.Bool.{Bool, true}
 use mathlib.Core.List.{List, [], _∷_, _++_, append-nil}
 use lib.Dec.{leb}
 use lib.ListN.{length, drop}
 use lib.Seq.{drop-drop}
+use Rattle.records.specs.Format.Never.{never}
 use Rattle.records.specs.Format.Syntax.{Term, Terms, Goal, Binding, Bet, arity}
 use Rattle.records.specs.Format.Syntax.Term.{var, app}
 use Rattle.records.specs.Format.Syntax.Terms.{nil, cons}
@@ -139,7 +140,7 @@ module _ (s : List ℕ) (at : ℕ) where
       go (read (drop 2 (drop at s)) 1 0) refl (rw x at q)
     where
       go : (o : Read Parts) → read (drop 2 (drop at s)) 1 0 ≡ o → also (λ p. bind v (first-term p)) 2 o ≡ found b n → Pair v b
-      go unread p z = absurd (true≢false cc)
+      go unread p z = never cc
       go (found p m) e z =
           let w = sound (drop 2 (drop at s)) 1 0 p m e in
           let d : read (drop (at + 2) s) 1 0 ≡ found p m = ap (λ (l : List ℕ). read l 1 0) (sym (drop-drop 2 at s)) ∙ e in

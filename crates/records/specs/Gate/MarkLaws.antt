@@ -11,7 +11,7 @@ use lib.ListN.{length, getD, set, replicate, length-set, length-replicate, getD-
 use lib.Seq.{getD-set-same, getD-set-other}
 use borrow.Author.Tests.{eq-eqb, ne-eqb, eqb-true, ltb-true}
 use Rattle.records.specs.Gate.RecordRules.{every, member}
-use Rattle.records.specs.Gate.Bools.{same-truth, and-both, every-same, member-append}
+use Rattle.records.specs.Gate.BoolLaws.{same-truth, and-both, every-same, member-append}
 use Rattle.records.specs.Gate.Sets.{has-variable, with-variable, is-marked, marked, all-marked, Marks}
 use Rattle.records.specs.Gate.SetLaws.{has-none, has-with}
 

@@ -1,16 +1,16 @@
--- The gate's questions with their numbers (SPECIFICATION 7). A refusal names its question, so it is never 0.
+-- The gate's questions with their numbers (SPECIFICATION 7.2 to 7.6). A refusal names its question, so it is never 0.
 use mathlib.Core.HLevel.{Discrete}
 use Prim.Native.Nat.{ℕ, _+_}
 
 -- 1 to 4, put to every record
 pub data Asked : Type 0 where
-  -- is the slice 3 to 32,768 bytes, its length field naming the rest?
+  -- has the slice the length of a record, and does its length field say how many bytes stand behind it?
   framing : Asked
-  -- is the version 1?
+  -- is the version byte 1?
   version : Asked
-  -- does the grammar read the body to its last byte, each byte in range?
+  -- is the body, from its first byte to its last, of the kind asked for?
   grammar : Asked
-  -- are the order, variable and pair rules kept?
+  -- does what the body says keep the record rules (SPECIFICATION 1.10)?
   rules : Asked
   deriving Discrete as Asked-discrete
 
@@ -23,17 +23,17 @@ asked-number rules = 4
 pub data Question : Type 0 where
   -- 1 to 4 of a program or a clause record, 11 to 14 of a query or an event
   of-program of-event : Asked → Question
-  -- 5: is the output at least 32,768 bytes?
+  -- 5: has the lent output room for any record?
   output : Question
-  -- 6: is a walk still possible?
+  -- 6: can the walk go on in this direction?
   possible : Question
-  -- 7: does a rule's left side (back: right side) match?
+  -- 7: has the event a rule, read in this direction?
   matches : Question
-  -- 8: is each of the two values, or the value wanted, at most 8,192 bytes?
+  -- 8: has each value that is asked for no more than 8,192 bytes?
   values : Question
-  -- 9: is every new local at most 65,535 (canonical form: locals at most 255)?
+  -- 9: do the numbers of new locals fit two bytes; of the canonical form, do the locals of each definition fit one?
   locals : Question
-  -- 10: does the result fit 32,768 bytes?
+  -- 10: is what would be written no longer than a record may be?
   fits : Question
   deriving Discrete as Question-discrete
 

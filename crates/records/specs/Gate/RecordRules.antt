@@ -1,4 +1,4 @@
--- The record rules of question 4: the order of definitions and of a unifier's pairs, and which variables may occur.
+-- The record rules of question 4 (SPECIFICATION 1.10): the order of definitions and of a unifier's pairs, and which variables may occur.
 use mathlib.Core.Bool.{Bool, true, false, not, _&&_, _||_}
 use mathlib.Core.List.{List, [], _∷_, _++_}
 use Prim.Native.Nat.{ℕ, zero, suc, _+_, _*_}
@@ -100,7 +100,7 @@ definition-rules (definition p n l g) = every (λ x. ltb x (n + l)) (goal-variab
 unfoldable pub program-rules : List Definition → Bool
 program-rules ds = rising (keys ds) && every definition-rules ds
 
--- exactly the variables 0 to v - 1 occur in the head and the body together
+-- of head and body together: the variables that occur are those below v, all of them
 abbrev pub clause-rules : Clause → Bool
 clause-rules (clause p v ts g) = exactly v (terms-variables ts ++ goal-variables g)
 

@@ -1,4 +1,4 @@
--- What a service works out, and what it leaves: the question that refuses, or what is given; then a number, and the output afterwards.
+-- What a service works out, and what it leaves (SPECIFICATION 7.8): the question that refuses, or what is given; then a number, and the output afterwards.
 use mathlib.Core.Path.{_≡_}
 use mathlib.Core.Bool.{Bool, true, false}
 use mathlib.Core.HLevel.{Discrete}

@@ -1,6 +1,6 @@
 -- Laws of answers and replies: numbers name questions, 0 says that something was given, and a refusal leaves the output untouched.
 use mathlib.Core.Path.{_≡_, refl, sym, ap, _∙_}
-use mathlib.Core.Bool.{Bool, true, false, cond, true≢false}
+use mathlib.Core.Bool.{Bool, true, false, cond}
 use mathlib.Core.Logic.{_↔_}
 use mathlib.Core.List.{List}
 use Prim.Native.Nat.{ℕ, _≤_}
@@ -9,6 +9,7 @@ use native.Mathlib.Omega.{arith}
 use lib.Dec.{eqb}
 use lib.ListN.{length}
 use lib.Seq.{length-front, length-take-le}
+use Rattle.records.specs.Format.Never.{never}
 use Rattle.records.specs.Gate.Question.{Question, of-program, of-event, output, possible, matches, values, locals, fits, framing, version, grammar, rules, question-number}
 use Rattle.records.specs.Writing.Patched.{Put, put-front}
 use Rattle.records.specs.Gate.Reply.{Answer, refused, gives, on-yes, through, answer-number, reply-with, Replied, answer-length, Receipted}
@@ -36,6 +37,13 @@ question-of-number matches = refl
 question-of-number values = refl
 question-of-number locals = refl
 question-of-number fits = refl
+
+-- what is given is one thing, and a refusal gives nothing
+pub gives-injective : {A : Type 0} {x y : A} → gives x ≡ gives y → x ≡ y
+gives-injective {A} {x} {y} e = cc
+
+pub refused-not-gives : {A : Type 0} {q : Question} {x : A} → refused q ≡ gives x → ⊥
+refused-not-gives e = never cc
 
 -- no two questions have one number
 pub number-injective : (p q : Question) → question-number p ≡ question-number q → p ≡ q
@@ -77,12 +85,12 @@ number-gives (gives a) e z = (a, refl)
 pub yes-gives : {A : Type 0} (q : Question) (b : Bool) (next : Answer A) {x : A} → on-yes q b next ≡ gives x → (b ≡ true) × (next ≡ gives x)
 unfolding on-yes
 yes-gives q true next e = (refl, e)
-yes-gives q false next e = absurd (true≢false cc)
+yes-gives q false next e = never cc
 
 -- what is given came through an answer that gave
 pub through-gives : {A B : Type 0} (a : Answer A) (next : A → Answer B) {y : B} → through refused a next ≡ gives y → (x : A) × (a ≡ gives x) × (next x ≡ gives y)
 unfolding through
-through-gives (refused q) next e = absurd (true≢false cc)
+through-gives (refused q) next e = never cc
 through-gives (gives a) next e = (a, refl, e)
 
 -- what is made of what is given has its number

@@ -2,10 +2,11 @@
 use Prim.Native.Nat.{ℕ, zero, suc, _+_, _-_, _<_}
 use native.Mathlib.Omega.{arith}
 use mathlib.Core.Path.{_≡_, refl, sym, ap, _∙_}
-use mathlib.Core.Bool.{Bool, true, _&&_, true≢false}
+use mathlib.Core.Bool.{Bool, true, _&&_}
 use mathlib.Core.List.{List, [], _∷_}
 use lib.ListN.{drop}
 use lib.Seq.{drop-drop}
+use Rattle.records.specs.Format.Never.{never}
 use Rattle.records.specs.Format.Heads.{word-head, word-at}
 use Rattle.records.specs.Format.Reader.{Read, also}
 use Rattle.records.specs.Format.Reader.Read.{unread, found}
@@ -90,13 +91,13 @@ module _ {A : Type 0} (r : Reader A) (s : List ℕ) where
   row-none n at e = rw e refl
 
   -- the first of a row that was found, and the rest from where it ends
-  pub record First (n at : ℕ) (e : ℕ) : Type 0 where
+  pub record RowFirst (n at : ℕ) (e : ℕ) : Type 0 where
     pub item : A
     pub is : r (drop at s) ≡ found item (e - at)
     pub row : row-at r n s at ≡ item ∷ row-at r (n - 1) s e
     pub rest : Ends (end-of (many r (n - 1)) s e)
 
-  first-by : (k at e m : ℕ) (a : A) → at + m ≡ e → r (drop at s) ≡ found a m → (o : Read (List A)) → many r k (drop m (drop at s)) ≡ o → Ends (place-of at (also (λ l. a ∷ l) m o)) → First (suc k) at e
+  first-by : (k at e m : ℕ) (a : A) → at + m ≡ e → r (drop at s) ≡ found a m → (o : Read (List A)) → many r k (drop m (drop at s)) ≡ o → Ends (place-of at (also (λ l. a ∷ l) m o)) → RowFirst (suc k) at e
   unfolding row-at many end-of
   first-by k at e m a q h unread z w = absurd w
   first-by k at e m a q h (found l j) z w =
@@ -110,13 +111,13 @@ module _ {A : Type 0} (r : Reader A) (s : List ℕ) where
         rest = rw (y, d) tt;
       }
 
-  pub row-more : {f : Found} {e : ℕ} (n at : ℕ) → 0 < n → Ends (end-of (many r n) s at) → f ≡ end-of r s at → f ≡ At e → First n at e
+  pub row-more : {f : Found} {e : ℕ} (n at : ℕ) → 0 < n → Ends (end-of (many r n) s at) → f ≡ end-of r s at → f ≡ At e → RowFirst n at e
   unfolding end-of many
   row-more {f} {e} n at z w is q = go n z w (r (drop at s)) refl (sym is ∙ q)
     where
-      go : (n : ℕ) → 0 < n → Ends (place-of at (many r n (drop at s))) → (o : Read A) → r (drop at s) ≡ o → place-of at o ≡ At e → First n at e
+      go : (n : ℕ) → 0 < n → Ends (place-of at (many r n (drop at s))) → (o : Read A) → r (drop at s) ≡ o → place-of at o ≡ At e → RowFirst n at e
       go zero z w o h x = absurd (omega arith)
-      go (suc k) z w unread h x = absurd (true≢false cc)
+      go (suc k) z w unread h x = never cc
       go (suc k) z w (found a m) h x =
           let y : at + m ≡ e = cc in
           first-by k at e m a y h (many r k (drop m (drop at s))) refl (rw h at w)
@@ -142,7 +143,7 @@ kept-after f ra rb kept second s at e q h = go (ra (drop at s)) h
     step a n (found b m) = q a b
 
     go : (o : Read _) → place-of at o ≡ At e → holds kept (then-read f o rb (drop at s)) ≡ holds second (rb (drop e s))
-    go unread x = absurd (true≢false cc)
+    go unread x = never cc
     go (found a n) x =
         let y : at + n ≡ e = cc in
         step a n (rb (drop n (drop at s))) ∙ ap (λ (l : List ℕ). holds second (rb l)) (drop-drop n at s ∙ ap (λ (k : ℕ). drop k s) y)

@@ -1,8 +1,8 @@
 -- Laws of a set of variables that is one number: what is in it, and that it is the full set of v bits just where exactly the variables 0 to v - 1 went in.
 use mathlib.Core.Path.{_≡_, refl, sym, ap, _∙_}
-use mathlib.Core.Bool.{Bool, true, false, _&&_, _||_, or-assoc, or-comm, or-false, true≢false}
-use mathlib.Core.List.{List, [], _∷_, _++_}
-use Prim.Native.Nat.{ℕ, zero, suc, _+_, _-_, _*_, _≤_, _<_, _^_, _/_, _%_, max}
+use mathlib.Core.Bool.{Bool, true, false, _&&_, _||_, or-assoc, or-comm, or-false}
+use mathlib.Core.List.{List, [], _∷_}
+use Prim.Native.Nat.{ℕ, zero, suc, _-_, _*_, _≤_, _<_, _^_, _/_, max, _%_}
 use native.Mathlib.Nat.{div-one, div-eq-of-lt, div-div-eq-div-mul, pow-suc, pow-succ', one-mul}
 use native.Mathlib.Omega.{arith}
 use lib.Bits.{bitOr, or-shr, or-step, or-lt}
@@ -10,7 +10,8 @@ use lib.Dec.{eqb, ltb, eqb·zero-suc, eqb·suc-zero, eqb·suc-suc, leb·suc-zero
 use lib.Pow.{pow-pos, pow-lt, ones-lt, shl-exact}
 use borrow.Author.Tests.{eq-eqb, ne-eqb, eqb-true, lt-ltb, le-ltb, ltb-true}
 use Rattle.records.specs.Gate.RecordRules.{every, member, numbers, exactly}
-use Rattle.records.specs.Gate.Bools.{same-truth, and-both, every-append, every-number, each-number}
+use Rattle.records.specs.Format.Never.{never}
+use Rattle.records.specs.Gate.BoolLaws.{same-truth, and-both, every-number, each-number}
 use Rattle.records.specs.Gate.Sets.{has-variable, with-variable, gathered, exactly-from}
 
 -- the shift that makes a set of one variable loses nothing
@@ -62,8 +63,8 @@ either-bit (suc (suc p)) q h k = absurd (omega arith)
 same-bit : (p q : ℕ) → p < 2 → q < 2 → eqb p 1 ≡ eqb q 1 → p ≡ q
 same-bit zero zero h k e = refl
 same-bit (suc zero) (suc zero) h k e = refl
-same-bit zero (suc zero) h k e = absurd (true≢false cc)
-same-bit (suc zero) zero h k e = absurd (true≢false cc)
+same-bit zero (suc zero) h k e = never cc
+same-bit (suc zero) zero h k e = never cc
 same-bit zero (suc (suc q)) h k e = absurd (omega arith)
 same-bit (suc zero) (suc (suc q)) h k e = absurd (omega arith)
 same-bit (suc (suc p)) q h k e = absurd (omega arith)
@@ -99,12 +100,6 @@ has-gathered s (y ∷ l) x =
 
 has-gathered-none : (l : List ℕ) (x : ℕ) → has-variable (gathered 0 l) x ≡ member x l
 has-gathered-none l x = has-gathered 0 l x ∙ ap (λ (b : Bool). member x l || b) (has-none x) ∙ or-false (member x l)
-
--- two lists, one after the other
-pub gathered-append : (s : ℕ) (l k : List ℕ) → gathered s (l ++ k) ≡ gathered (gathered s l) k
-unfolding gathered
-gathered-append s [] k = refl
-gathered-append s (x ∷ l) k = gathered-append (with-variable s x) l k
 
 -- variables below v stay within v bits
 pub gathered-lt : (v s : ℕ) (l : List ℕ) → s < 2 ^ v → every (λ x. ltb x v) l ≡ true → gathered s l < 2 ^ v
@@ -155,8 +150,3 @@ exactly-not v met x l h = rw (le-ltb x v h)
 pub exactly-end : (v met : ℕ) → exactly-from v met [] ≡ eqb met (2 ^ v - 1)
 unfolding exactly-from gathered
 exactly-end v met = refl
-
--- a loop over lists of variables, one by one
-pub exactly-append : (v met : ℕ) (l k : List ℕ) → every (λ x. ltb x v) l ≡ true → exactly-from v met (l ++ k) ≡ exactly-from v (gathered met l) k
-unfolding exactly-from
-exactly-append v met l k e = rw (every-append (λ x. ltb x v) l k, e, gathered-append met l k)

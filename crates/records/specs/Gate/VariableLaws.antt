@@ -11,7 +11,7 @@ use Rattle.records.specs.Format.Syntax.Terms.{nil, cons}
 use Rattle.records.specs.Format.Syntax.Binding.{bind}
 use Rattle.records.specs.Format.Formed.{TermFormed, TermsFormed, BindingFormed, All}
 use Rattle.records.specs.Gate.RecordRules.{every, term-variables, terms-variables, bound, free, rising, unifier-rules}
-use Rattle.records.specs.Gate.Bools.{every-append}
+use Rattle.records.specs.Gate.BoolLaws.{every-append}
 use Rattle.records.specs.Gate.Sets.{is-marked, all-marked}
 use Rattle.records.specs.Gate.MarkLaws.{marks-of, every-unmarked}
 

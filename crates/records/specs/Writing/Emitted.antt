@@ -55,32 +55,21 @@ emitted-whole {before} {rec} h k p = record {
 }
 
 -- which of the three it is
-pub data Fit (before rec : List ℕ) : Type 0 where
-  short : length before < 32768 → Fit before rec
-  long : 32768 ≤ length before → 32768 < length rec → Fit before rec
-  whole : 32768 ≤ length before → length rec ≤ 32768 → Fit before rec
+pub data EmitCase (before rec : List ℕ) : Type 0 where
+  short : length before < 32768 → EmitCase before rec
+  long : 32768 ≤ length before → 32768 < length rec → EmitCase before rec
+  whole : 32768 ≤ length before → length rec ≤ 32768 → EmitCase before rec
 
-pub fit : (before rec : List ℕ) → Fit before rec
+pub fit : (before rec : List ℕ) → EmitCase before rec
 fit before rec = first (ltb (length before) 32768) refl
   where
-    second : 32768 ≤ length before → (t : Bool) → ltb 32768 (length rec) ≡ t → Fit before rec
+    second : 32768 ≤ length before → (t : Bool) → ltb 32768 (length rec) ≡ t → EmitCase before rec
     second h true e = long h (ltb-true _ _ e)
     second h false e = whole h (ltb-false _ _ e)
 
-    first : (t : Bool) → ltb (length before) 32768 ≡ t → Fit before rec
+    first : (t : Bool) → ltb (length before) 32768 ≡ t → EmitCase before rec
     first true e = short (ltb-true _ _ e)
     first false e = second (ltb-false _ _ e) (ltb 32768 (length rec)) refl
-
--- a record that is accepted fits
-pub accepted-fits : {before rec : List ℕ} {emit : Receipt} {after : List ℕ} → Emitted before rec emit after → emit .number ≡ 0
-    → (32768 ≤ length before) × (length rec ≤ 32768)
-unfolding question-number
-accepted-fits {before} {rec} e z = by (fit before rec)
-  where
-    by : Fit before rec → (32768 ≤ length before) × (length rec ≤ 32768)
-    by (short h) = let n = rw outcome-short at (e .number) in omega arith
-    by (long h k) = let n = rw outcome-long at (e .number) in omega arith
-    by (whole h k) = (h, k)
 
 pub length-record-of : (body : List ℕ) → length (record-of body) ≡ 3 + length body
 unfolding record-of

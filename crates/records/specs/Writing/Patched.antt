@@ -84,14 +84,7 @@ patched-front [] (y ∷ s) h = absurd (not-suc-le-zero h)
 patched-front (x ∷ d) [] h = refl
 patched-front (x ∷ d) (y ∷ s) h = ap (λ (l : List ℕ). y ∷ l) (patched-front d s (le-of-suc-le-suc h))
 
--- reading back: what stands after the bytes, and, where there is room, at their place
-pub drop-patched : (before : List ℕ) (at : ℕ) (bytes : List ℕ) → drop (at + length bytes) (patched before at bytes) ≡ drop (at + length bytes) before
-unfolding patched
-drop-patched [] at s = refl
-drop-patched (x ∷ d) zero [] = refl
-drop-patched (x ∷ d) zero (y ∷ s) = rw add-suc (drop-patched d zero s)
-drop-patched (x ∷ d) (suc at) s = rw suc-add (drop-patched d at s)
-
+-- where there is room, the bytes are read back at their place
 pub part-patched : (before : List ℕ) (at : ℕ) (bytes : List ℕ) → at + length bytes ≤ length before
     → take (length bytes) (drop at (patched before at bytes)) ≡ bytes
 unfolding patched

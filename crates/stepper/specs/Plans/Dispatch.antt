@@ -8,7 +8,7 @@ use lib.Dec.{eqb}
 use Rattle.records.specs.Format.Syntax.{Term, Terms, Goal, equal, atom, Ancestor, called, Binding, Bet, unifier, Port, call, exit, fail, Event, event}
 use Rattle.records.specs.Format.Heads.{pick}
 use Rattle.records.specs.Gate.Question.{Question, question-number}
-use Rattle.stepper.specs.Rules.Machine.{Machine, Answer, refused}
+use Rattle.stepper.specs.Rules.Machine.{Machine, StepOutcome, refused}
 use Rattle.stepper.specs.Rules.Rules.{rule, candidate}
 use Rattle.stepper.specs.Rules.Listed.{Rule}
 use Rattle.stepper.specs.Rules.Sources.{Source}
@@ -27,7 +27,7 @@ unfoldable pub no-source-number : View → ℕ
 no-source-number v = pick (eqb (v .port) 1) (pick (eqb (v .bets .count) 0) 6 7) 7
 
 -- an answer is a refusal, by the question with this number
-pub record Unruled (a : Answer) (n : ℕ) : Type 0 where
+pub record Unruled (a : StepOutcome) (n : ℕ) : Type 0 where
   pub question : Question
   pub refuses : a ≡ refused question
   pub numbered : n ≡ question-number question

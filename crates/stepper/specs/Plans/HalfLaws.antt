@@ -1,10 +1,11 @@
 -- The goal's bytes are those of the half that the ancestor on top selects exactly when the goal is that half; where it is another, question 7 refuses the
 -- step that leaves the half.
 use mathlib.Core.Path.{_≡_, refl, sym, _∙_}
-use mathlib.Core.Bool.{Bool, true, false, true≢false}
+use mathlib.Core.Bool.{Bool, true, false}
 use mathlib.Core.Logic.{_↔_}
 use mathlib.Core.List.{List, [], _∷_}
 use Prim.Native.Nat.{ℕ}
+use Rattle.records.specs.Format.Never.{never}
 use Rattle.records.specs.Format.Syntax.{Goal, Half, first, second, Ancestor, called, in-conj, in-disj, Bet, Port, call, exit, fail, redo, Event, event, goal?}
 use Rattle.records.specs.Format.Encode.{goal-bytes}
 use Rattle.records.specs.Format.Formed.{GoalFormed}
@@ -16,7 +17,7 @@ use Rattle.records.specs.Ends.Stands.{same-tree}
 use Rattle.records.specs.Ends.Same.{same-bytes, same-true, same-refl}
 use Rattle.records.specs.Ends.Places.{EventParts}
 use Rattle.records.specs.declared.put.Range.{Range}
-use Rattle.stepper.specs.Rules.Machine.{Machine, Answer, refused}
+use Rattle.stepper.specs.Rules.Machine.{Machine, StepOutcome, refused}
 use Rattle.stepper.specs.Rules.Rules.{selected, matching, from-exit, from-fail, rule, into-call, into-redo, candidate}
 use Rattle.stepper.specs.Rules.AnswerLaws.{matching-no}
 use Rattle.stepper.specs.Rules.FormedLaws.{selected-formed}
@@ -58,11 +59,11 @@ module _ {s : List ℕ} {p : Port} {g : Goal} {u : List Ancestor} {b : List Bet}
   disj-inside w = record { goal-inside = goal-cut w .inside; half-inside = half-cut (ancestor-part (top-at g) (in-disj h c d)) h (under-disj h c d w) .inside }
 
 other-half : {g a : Goal} {x : Bool} (d : Event) → (x ≡ true) ↔ (g ≡ a) → x ≡ false → matching (goal? g a) d ≡ refused matches
-other-half {g} {a} d k h = matching-no (goal? g a) d (λ e. true≢false (sym (k .1 e) ∙ h))
+other-half {g} {a} d k h = matching-no (goal? g a) d (λ e. never (sym (k .1 e) ∙ h))
 
 module _ (M : Machine) where
   -- the step that leaves a half: forward from exit and fail, back from call and redo
-  abbrev pub leaving : Event → Answer
+  abbrev pub leaving : Event → StepOutcome
   leaving (event call g u s) = candidate M (event call g u s)
   leaving (event exit g u s) = rule M (event exit g u s)
   leaving (event fail g u s) = rule M (event fail g u s)
@@ -94,8 +95,8 @@ module _ (M : Machine) where
 
 pub half-where : {s : List ℕ} (e : Event) → PartsOf s e → HalfWhere (event-view e) s
 unfolding event-view either
-half-where (event p g [] b) w = record { inside = λ h. absurd (true≢false cc) }
-half-where (event p g (called k ts ∷ u) b) w = record { inside = λ h. absurd (true≢false cc) }
+half-where (event p g [] b) w = record { inside = λ h. never cc }
+half-where (event p g (called k ts ∷ u) b) w = record { inside = λ h. never cc }
 half-where (event p g (in-conj i c d ∷ u) b) w = record { inside = λ h. conj-inside i c d w }
 half-where (event p g (in-disj i c d ∷ u) b) w = record { inside = λ h. disj-inside i c d w }
 
@@ -105,7 +106,7 @@ pub data Half? (n : ℕ) (like : Type 0) (refusal : Type 0) : Type 0 where
   wrong : n ≡ 7 → refusal → Half? n like refusal
 
 module _ (M : Machine) (s : List ℕ) {n : ℕ} where
-  by-half : (e : Event) (leaves : Type 0) (a : Answer) → n ≡ pick (is-half s (event-view e)) 0 7 → (is-half s (event-view e) ≡ false → a ≡ refused matches)
+  by-half : (e : Event) (leaves : Type 0) (a : StepOutcome) → n ≡ pick (is-half s (event-view e)) 0 7 → (is-half s (event-view e) ≡ false → a ≡ refused matches)
       → Half? n (leaves → Like s e) (a ≡ refused matches)
   by-half e leaves a k f = go (is-half s (event-view e)) refl k
     where

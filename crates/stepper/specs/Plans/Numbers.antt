@@ -1,4 +1,4 @@
--- Which rule's left side, and which rule's right side, has the kinds and tags of an event. The rules are numbered in their order (SPECIFICATION 3), from
+-- Which rule's left side, and which rule's right side, has the kinds and tags of an event. The rules are numbered in their order (SPECIFICATION 3.3), from
 -- 1 for the call of a conjunction to 21 for the redo of an atom; 0 is no rule. That the goal is the half which its tag selects is not asked here.
 -- Read back, fail of an equality has the number 17 and fail of an atom 20: both have two sources.
 use Prim.Native.Nat.{ℕ}

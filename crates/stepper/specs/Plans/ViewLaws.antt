@@ -7,16 +7,17 @@ use mathlib.Core.List.{List, [], _∷_, _++_}
 use lib.ListN.{length, getD}
 use lib.Seq.{getD-drop}
 use borrow.Author.Tests.{ne-eqb}
-use Rattle.records.specs.Format.Syntax.{Term, Goal, truth, failure, equal, conj, disj, atom, Ancestor, called, in-conj, in-disj, Bet, unifier, or, by, Event, event}
+use Rattle.records.specs.Gate.GateLaws.{tree-injective}
+use Rattle.records.specs.Format.Syntax.{Goal, truth, failure, equal, conj, disj, atom, Ancestor, called, in-conj, in-disj, Bet, unifier, or, by, Event, event}
 use Rattle.records.specs.Format.Encode.{word, each, counted, tag, term-bytes, goal-bytes, ancestor-bytes, bet-bytes}
-use Rattle.records.specs.Format.Formed.{TermFormed, GoalFormed, AncestorFormed, BetFormed, Counted}
+use Rattle.records.specs.Format.Formed.{GoalFormed, AncestorFormed, BetFormed, Counted}
 use Rattle.records.specs.Format.HeadLaws.{Known}
 use Rattle.records.specs.Ends.EndLaws.{goal-long}
 use Rattle.records.specs.Format.Exact.{ancestor-exact, bet-exact}
-use Rattle.records.specs.Ends.Traversal.{end-at, traversal-end}
+use Rattle.records.specs.Ends.Traversal.{end-at}
 use Rattle.records.specs.Gate.Gate.{Reading, Accepted, read-event}
 use Rattle.records.specs.Gate.Gate.Reading.{refused, tree}
-use Rattle.records.specs.Ends.Stands.{Stands, stands-within, stands-first, stands-second, stands-ends, traverse-term}
+use Rattle.records.specs.Ends.Stands.{Stands, stands-within, stands-first, stands-second, stands-ends, term-ends}
 use Rattle.records.specs.Ends.Places.{goal-end, row-places, part-ends, event-places, event-parts, goal-found}
 use Rattle.records.specs.declared.ends.Found.the-variants.{At}
 use Rattle.records.specs.declared.places.Places.{Places}
@@ -30,10 +31,7 @@ use Rattle.stepper.specs.declared.view.View.{View}
 
 -- the ends of an event are those of its record
 pub ends-known : (s : List ℕ) {c : Event} {ends : PartEnds} → read-event s ≡ tree c → ends ≡ part-ends c → EndsOf s ends
-ends-known s {c} r h e k = h ∙ ap part-ends (same (sym r ∙ k))
-  where
-    same : tree c ≡ tree e → c ≡ e
-    same q = cc
+ends-known s r h e k = h ∙ ap part-ends (tree-injective (sym r ∙ k))
 
 -- the first two bytes of what stands at a position
 pub first-byte : {s l : List ℕ} {at x e : ℕ} → Stands s at (x ∷ l) e → getD s at 0 ≡ x
@@ -41,10 +39,6 @@ first-byte {s} {l} {at} w = ap (λ (n : ℕ). getD s n 0) (sym (add-zero at)) �
 
 pub second-byte : {s l : List ℕ} {at x y e : ℕ} → Stands s at (x ∷ (y ∷ l)) e → getD s (at + 1) 0 ≡ y
 second-byte {s} {l} {at} w = sym (getD-drop at s 1 0) ∙ ap (λ (r : List ℕ). getD r 1 0) (w .bytes)
-
-term-found : {s : List ℕ} {at e : ℕ} (t : Term) → TermFormed t → Stands s at (term-bytes t) e → end-at s at 1 0 ≡ At e
-unfolding end-at
-term-found t f w = ap traversal-end (traverse-term t f w)
 
 module _ {s : List ℕ} {at : ℕ} where
   -- where the first of two goals after a head ends
@@ -57,7 +51,7 @@ module _ {s : List ℕ} {at : ℕ} where
   goal-part-is truth f w = rw (first-byte w) refl
   goal-part-is failure f w = rw (first-byte w) refl
   goal-part-is (equal t u) f w =
-      rw (first-byte w, term-found t (f .0) (stands-first (term-bytes t) (term-bytes u) (stands-second (0x12 ∷ []) (term-bytes t ++ term-bytes u) w))) refl
+      rw (first-byte w, term-ends t (f .0) (stands-first (term-bytes t) (term-bytes u) (stands-second (0x12 ∷ []) (term-bytes t ++ term-bytes u) w))) refl
   goal-part-is (conj a b) f w = rw (first-byte w, half-found (0x13 ∷ []) a (goal-bytes b) (f .0) w) refl
   goal-part-is (disj a b) f w = rw (first-byte w, half-found (0x14 ∷ []) a (goal-bytes b) (f .0) w) refl
   goal-part-is (atom p ts) f w = rw (first-byte w) refl

@@ -1,18 +1,19 @@
 -- Laws of the questions that the rules are made of: what holds of the event that an answer gives, if it gives one.
 use mathlib.Core.Path.{_≡_, refl, sym, ap, subst}
 use mathlib.Core.Logic.{_↔_}
-use mathlib.Core.Bool.{Bool, true, false, true≢false}
+use mathlib.Core.Bool.{Bool, true, false}
 use mathlib.Core.List.{List, [], _∷_}
 use mathlib.Core.Option.{Option, none, some, Option·none-ne-some, Option·some-injective}
+use Rattle.records.specs.Format.Never.{never}
 use Rattle.records.specs.Format.Syntax.{Goal, Half, Binding, Bet, unifier, or, by, Event, goal?}
 use Rattle.records.specs.Gate.Question.{Question, matches}
 use Rattle.terms.specs.Theory.Outcome.{Unified, too-large, clash, unified}
 use Rattle.terms.specs.Body.Body.{Body, too-many, undefined, defined}
-use Rattle.stepper.specs.Rules.Machine.{Answer, refused, gives}
+use Rattle.stepper.specs.Rules.Machine.{StepOutcome, refused, gives}
 use Rattle.stepper.specs.Rules.Rules.{matching, top-unifier, top-or, top-by, by-unifier, by-body, fitting, accepted}
 
 -- Φ of the event that an answer gives, if it gives one
-abbrev pub Given : (Event → Type 0) → Answer → Type 0
+abbrev pub Given : (Event → Type 0) → StepOutcome → Type 0
 Given Φ (refused q) = Unit {0}
 Given Φ (gives e) = Φ e
 
@@ -53,13 +54,13 @@ body-either undefined c h = refl
 body-either (defined g) c h = refl
 
 pub given-unifier-either : (Φ : Event → Type 0) (x : Unified) (c : Event) → ((x ≡ too-large → ⊥) → Φ c) → Given Φ (by-unifier x c (λ m. c))
-given-unifier-either Φ x c f = given-unifier Φ x c (λ m. c) (λ h. f (λ k. true≢false cc)) (λ m h. f (λ k. true≢false cc))
+given-unifier-either Φ x c f = given-unifier Φ x c (λ m. c) (λ h. f (λ k. never cc)) (λ m h. f (λ k. never cc))
 
 pub given-body-either : (Φ : Event → Type 0) (x : Body) (c : Event) → ((x ≡ too-many → ⊥) → Φ c) → Given Φ (by-body x c (λ g. c))
-given-body-either Φ x c f = given-body Φ x c (λ g. c) (λ h. f (λ k. true≢false cc)) (λ g h. f (λ k. true≢false cc))
+given-body-either Φ x c f = given-body Φ x c (λ g. c) (λ h. f (λ k. never cc)) (λ g h. f (λ k. never cc))
 
 -- the same for the bet on top; what is claimed may speak of the whole stack
-pub given-top-unifier : (Φ : List Bet → Event → Type 0) (s : List Bet) (k : List Binding → List Bet → Answer)
+pub given-top-unifier : (Φ : List Bet → Event → Type 0) (s : List Bet) (k : List Binding → List Bet → StepOutcome)
     → ((m : List Binding) (t : List Bet) → Given (Φ (unifier m ∷ t)) (k m t)) → Given (Φ s) (top-unifier s k)
 unfolding top-unifier
 given-top-unifier Φ [] k f = tt
@@ -67,7 +68,7 @@ given-top-unifier Φ (unifier m ∷ s) k f = f m s
 given-top-unifier Φ (or n ∷ s) k f = tt
 given-top-unifier Φ (by g ∷ s) k f = tt
 
-pub given-top-or : (Φ : List Bet → Event → Type 0) (s : List Bet) (k : Half → List Bet → Answer)
+pub given-top-or : (Φ : List Bet → Event → Type 0) (s : List Bet) (k : Half → List Bet → StepOutcome)
     → ((n : Half) (t : List Bet) → Given (Φ (or n ∷ t)) (k n t)) → Given (Φ s) (top-or s k)
 unfolding top-or
 given-top-or Φ [] k f = tt
@@ -75,7 +76,7 @@ given-top-or Φ (unifier m ∷ s) k f = tt
 given-top-or Φ (or n ∷ s) k f = f n s
 given-top-or Φ (by g ∷ s) k f = tt
 
-pub given-top-by : (Φ : List Bet → Event → Type 0) (s : List Bet) (k : Goal → List Bet → Answer)
+pub given-top-by : (Φ : List Bet → Event → Type 0) (s : List Bet) (k : Goal → List Bet → StepOutcome)
     → ((g : Goal) (t : List Bet) → Given (Φ (by g ∷ t)) (k g t)) → Given (Φ s) (top-by s k)
 unfolding top-by
 given-top-by Φ [] k f = tt
@@ -92,7 +93,7 @@ matching-yes (no p) e h = absurd (p h)
 pub matching-gives {ℓ} : {P : Type ℓ} (d : Dec P) (e c : Event) → matching d e ≡ gives c → P × (e ≡ c)
 unfolding matching
 matching-gives (yes p) e c h = (p, cc)
-matching-gives (no p) e c h = absurd (true≢false cc)
+matching-gives (no p) e c h = never cc
 
 pub matching-no {ℓ} : {P : Type ℓ} (d : Dec P) (e : Event) → (P → ⊥) → matching d e ≡ refused matches
 unfolding matching
@@ -101,7 +102,7 @@ matching-no (no p) e h = refl
 
 pub matching-refused {ℓ} : {P : Type ℓ} (d : Dec P) (e : Event) (q : Question) → matching d e ≡ refused q → (P → ⊥) × (matches ≡ q)
 unfolding matching
-matching-refused (yes p) e q h = absurd (true≢false cc)
+matching-refused (yes p) e q h = never cc
 matching-refused (no p) e q h = (p, cc)
 
 -- two tests that agree give one answer
@@ -113,51 +114,51 @@ matching-iff (no p) (yes q) c f g = absurd (p (g q))
 matching-iff (no p) (no q) c f g = refl
 
 -- questions 5 and 10 only refuse
-pub fitting-gives : (b : Bool) (o : Option Question) (a : Answer) (c : Event) → fitting b o a ≡ gives c → a ≡ gives c
+pub fitting-gives : (b : Bool) (o : Option Question) (a : StepOutcome) (c : Event) → fitting b o a ≡ gives c → a ≡ gives c
 unfolding fitting
 fitting-gives true o a c h = h
 fitting-gives false none a c h = h
-fitting-gives false (some q) a c h = absurd (true≢false cc)
+fitting-gives false (some q) a c h = never cc
 
 -- where question 10 is put and says yes
-pub fitting-put : (o : Option Question) (a : Answer) (c : Event) → fitting false o a ≡ gives c → (o ≡ none) × (a ≡ gives c)
+pub fitting-put : (o : Option Question) (a : StepOutcome) (c : Event) → fitting false o a ≡ gives c → (o ≡ none) × (a ≡ gives c)
 unfolding fitting
 fitting-put none a c h = (refl, h)
-fitting-put (some q) a c h = absurd (true≢false cc)
+fitting-put (some q) a c h = never cc
 
 -- where it says no
 pub fitting-refused : (b : Bool) (o : Option Question) (e : Event) (q : Question) → fitting b o (gives e) ≡ refused q → (b ≡ false) × (o ≡ some q)
 unfolding fitting
-fitting-refused true o e q h = absurd (true≢false cc)
-fitting-refused false none e q h = absurd (true≢false cc)
+fitting-refused true o e q h = never cc
+fitting-refused false none e q h = never cc
 fitting-refused false (some p) e q h = (refl, cc)
 
 -- a result is given exactly when the question is not put or says yes
 pub fitting-iff : (b : Bool) (o : Option Question) (e : Event) → (fitting b o (gives e) ≡ gives e) ↔ (b ≡ false → o ≡ none)
 unfolding fitting
-fitting-iff true o e = (λ h k. absurd (true≢false k), λ h. refl)
+fitting-iff true o e = (λ h k. never k, λ h. refl)
 fitting-iff false none e = (λ h k. refl, λ h. refl)
-fitting-iff false (some q) e = (λ h. absurd (true≢false cc), λ h. absurd (Option·none-ne-some q (sym (h refl))))
+fitting-iff false (some q) e = (λ h. never cc, λ h. absurd (Option·none-ne-some q (sym (h refl))))
 
 -- a result that passes question 10 is given, whether the question is put or not
-pub fitting-none : (b : Bool) (a : Answer) → fitting b none a ≡ a
+pub fitting-none : (b : Bool) (a : StepOutcome) → fitting b none a ≡ a
 unfolding fitting
 fitting-none true a = refl
 fitting-none false a = refl
 
 -- where the question is not put or says yes
-pub fitting-passes : (b : Bool) (o : Option Question) (a : Answer) → (b ≡ false → o ≡ none) → fitting b o a ≡ a
+pub fitting-passes : (b : Bool) (o : Option Question) (a : StepOutcome) → (b ≡ false → o ≡ none) → fitting b o a ≡ a
 unfolding fitting
 fitting-passes true o a h = refl
 fitting-passes false none a h = refl
 fitting-passes false (some q) a h = absurd (Option·none-ne-some q (sym (h refl)))
 
 -- a step is accepted exactly when it gives an event
-pub accepted-gives : (a : Answer) (d : Event) → accepted a ≡ some d → a ≡ gives d
+pub accepted-gives : (a : StepOutcome) (d : Event) → accepted a ≡ some d → a ≡ gives d
 unfolding accepted
 accepted-gives (refused q) d h = absurd (Option·none-ne-some d h)
 accepted-gives (gives e) d h = ap gives (Option·some-injective e d h)
 
-pub gives-accepted : (a : Answer) (d : Event) → a ≡ gives d → accepted a ≡ some d
+pub gives-accepted : (a : StepOutcome) (d : Event) → a ≡ gives d → accepted a ≡ some d
 unfolding accepted
 gives-accepted a d h = ap accepted h

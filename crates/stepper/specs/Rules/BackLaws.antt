@@ -5,21 +5,21 @@ use Prim.Native.Nat.{ℕ}
 use Rattle.records.specs.Format.Syntax.{Term, Terms, Goal, truth, failure, equal, conj, disj, atom, first, second, Ancestor, called, in-conj, in-disj, Bet, unifier, or, by, Port, call, exit, fail, redo, Event, event, goal?}
 use Rattle.terms.specs.Theory.Outcome.{Unified, too-large, clash, unified}
 use Rattle.terms.specs.Body.Body.{Body, too-many, undefined, defined}
-use Rattle.stepper.specs.Rules.Machine.{Machine, Admits, unified?, body?, Answer, refused, gives, answer?}
+use Rattle.stepper.specs.Rules.Machine.{Machine, Admits, unified?, body?, StepOutcome, refused, gives, answer?}
 use Rattle.stepper.specs.Rules.Rules.{selected, matching, by-unifier, by-body, fitting, rule, ununifiable, limited-by, step-forward, candidate, checked, step-back}
 use Rattle.stepper.specs.Rules.AnswerLaws.{Given, given-goal, given-unifier, given-body, given-top-unifier, given-top-or, given-top-by, matching-yes, matching-iff, fitting-none}
 use Rattle.stepper.specs.Rules.ListedLaws.{forward-by-rule}
 use Rattle.stepper.specs.Rules.Back.{compared, checked-directly, step-back-direct}
 
 -- what an answer to a call says of the body, and of the unifier
-body-of : Answer → Body
+body-of : StepOutcome → Body
 body-of (refused q) = too-many
 body-of (gives (event call b u s)) = defined b
 body-of (gives (event exit b u s)) = undefined
 body-of (gives (event fail b u s)) = undefined
 body-of (gives (event redo b u s)) = undefined
 
-unifier-of : Answer → Unified
+unifier-of : StepOutcome → Unified
 unifier-of (refused q) = too-large
 unifier-of (gives (event p g u [])) = clash
 unifier-of (gives (event call g u (b ∷ s))) = clash
@@ -111,7 +111,7 @@ module _ (M : Machine) where
   unfolding step-back checked step-back-direct checked-directly
   step-back-directly e l = go (candidate M e) (same e)
     where
-      go : (a : Answer) → Given (Same e) a → checked M e a ≡ checked-directly M e a
+      go : (a : StepOutcome) → Given (Same e) a → checked M e a ≡ checked-directly M e a
       go (refused q) h = refl
       go (gives c) h =
           ap (fitting (ununifiable M c) (M .candidate-limit c))

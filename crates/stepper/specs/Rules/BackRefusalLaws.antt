@@ -1,14 +1,16 @@
 -- The step back of `Rules` is refused exactly as `Refusals` lists.
 use mathlib.Core.Path.{_≡_, refl, sym, _∙_, ap, subst}
 use mathlib.Core.Logic.{_↔_}
-use mathlib.Core.Bool.{Bool, true, false, true≢false}
+use mathlib.Core.Bool.{Bool, true, false}
 use mathlib.Core.List.{List, [], _∷_}
 use mathlib.Core.Option.{Option, none, some}
+use Rattle.records.specs.Gate.ReplyLaws.{refused-not-gives}
+use Rattle.records.specs.Format.Never.{never}
 use Rattle.records.specs.Format.Syntax.{Goal, truth, failure, equal, conj, disj, atom, first, second, called, in-conj, in-disj, Binding, unifier, or, by, call, exit, fail, redo, Event, event, goal?}
 use Rattle.records.specs.Gate.Question.{Question, possible, matches, values, locals}
 use Rattle.terms.specs.Theory.Outcome.{Unified, too-large, clash, unified}
 use Rattle.terms.specs.Body.Body.{Body, too-many, undefined, defined}
-use Rattle.stepper.specs.Rules.Machine.{Machine, constant-machine, Answer, refused, gives, answer?}
+use Rattle.stepper.specs.Rules.Machine.{Machine, constant-machine, StepOutcome, refused, gives, answer?}
 use Rattle.stepper.specs.Rules.Rules.{selected, matching, by-unifier, by-body, fitting, ununifiable, step-forward, candidate, checked, step-back}
 use Rattle.stepper.specs.Rules.AnswerLaws.{matching-no, matching-refused, fitting-passes}
 use Rattle.stepper.specs.Rules.Listed.{Rule, conj-call, conj-exit-first, conj-fail-first, conj-exit-second, conj-fail-second, conj-redo, disj-call, disj-fail-first, disj-fail-second, disj-exit-first, disj-exit-second, disj-redo, true-call, true-redo, fail-call, equal-call, equal-clash, equal-redo, atom-call, atom-undefined, atom-exit, atom-fail, atom-redo}
@@ -18,25 +20,22 @@ use Rattle.stepper.specs.Rules.RefusalLaws.{OnRefused, empty-machine}
 use Rattle.stepper.specs.Rules.ListedLaws.{forward-iff}
 use Rattle.stepper.specs.Rules.Refusals.{AtStart, BackRefusal, walk-begins, no-right-side, exit-value-too-large, fail-value-too-large, body-local-too-large, fail-local-too-large, candidate-refused, leads-elsewhere}
 
-differ : (c : Event) (q : Question) → gives c ≡ refused q → ⊥
-differ c q h = true≢false cc
-
 by-unifier-asks : (x : Unified) (c : Event) (k : List Binding → Event) → by-unifier x c k ≡ refused matches → ⊥
 unfolding by-unifier
-by-unifier-asks too-large c k h = true≢false cc
-by-unifier-asks clash c k h = true≢false cc
-by-unifier-asks (unified m) c k h = true≢false cc
+by-unifier-asks too-large c k h = never cc
+by-unifier-asks clash c k h = never cc
+by-unifier-asks (unified m) c k h = never cc
 
 by-body-asks : (x : Body) (c : Event) (k : Goal → Event) → by-body x c k ≡ refused matches → ⊥
 unfolding by-body
-by-body-asks too-many c k h = true≢false cc
-by-body-asks undefined c k h = true≢false cc
-by-body-asks (defined g) c k h = true≢false cc
+by-body-asks too-many c k h = never cc
+by-body-asks undefined c k h = never cc
+by-body-asks (defined g) c k h = never cc
 
 module _ (N : Machine) where
   -- the right side of a rule passes the first question 7
   sourced : (c e : Event) → Rule N c e → Own N c → candidate N e ≡ refused matches → ⊥
-  sourced c e r o h = differ c matches (sym (source-candidate N c e r o) ∙ h)
+  sourced c e r o h = refused-not-gives (sym h ∙ source-candidate N c e r o)
 
   right-side-asks : (c e : Event) → Rule N c e → candidate N e ≡ refused matches → ⊥
   unfolding candidate
@@ -145,7 +144,7 @@ module _ (M : Machine) where
   unled-refused : (e : Event) → (AtStart e → ⊥) → ((N : Machine) (c : Event) → Rule N c e → ⊥) → candidate M e ≡ refused matches
   unled-refused e w n = go (candidate M e) refl
     where
-      go : (a : Answer) → candidate M e ≡ a → candidate M e ≡ refused matches
+      go : (a : StepOutcome) → candidate M e ≡ a → candidate M e ≡ refused matches
       go (refused q) k = k ∙ ap refused (only-matches e q w n (subst (OnRefused (BackRefusal M e)) k (candidate-refusal e)))
       go (gives c) k = let r = candidate-ruled M c e (candidate-iff M e c .0 k) in absurd (n (r .0) c (r .1))
 
@@ -176,11 +175,11 @@ module _ (M : Machine) where
 
       asked : (c : Event) → Candidate M c e → (b : Bool) (o : Option Question) → ununifiable M c ≡ b → M .candidate-limit c ≡ o
           → fitting b o (matching (answer? (step-forward M c) (gives e)) c) ≡ refused q → BackRefusal M e q
-      asked c k true o u l h = last c k (λ z. absurd (true≢false (sym u ∙ z))) h
+      asked c k true o u l h = last c k (λ z. never (sym u ∙ z)) h
       asked c k false none u l h = last c k (λ z. l) h
       asked c k false (some p) u l h = let same : p ≡ q = cc in subst (BackRefusal M e) same (candidate-refused k u l)
 
-      go : (a : Answer) → candidate M e ≡ a → checked M e a ≡ refused q → BackRefusal M e q
+      go : (a : StepOutcome) → candidate M e ≡ a → checked M e a ≡ refused q → BackRefusal M e q
       go (refused p) k h = let same : p ≡ q = cc in subst (BackRefusal M e) same (subst (OnRefused (BackRefusal M e)) k (candidate-refusal e))
       go (gives c) k h = asked c (candidate-iff M e c .0 k) (ununifiable M c) (M .candidate-limit c) refl refl h
 

@@ -1,26 +1,23 @@
 -- Steps in both directions lead from events that records can hold to events that records can hold.
-use mathlib.Core.Path.{_≡_, refl, sym, subst}
-use mathlib.Core.Bool.{Bool, true, false, _&&_, true≢false}
+use mathlib.Core.Path.{_≡_, refl, subst}
+use mathlib.Core.Bool.{true}
 use mathlib.Core.List.{List, [], _∷_}
+use Rattle.records.specs.Gate.BoolLaws.{and-both}
 use Rattle.records.specs.Format.Syntax.{Goal, truth, failure, equal, conj, disj, atom, Half, first, second, called, in-conj, in-disj, Bet, unifier, call, exit, fail, redo, Event, event, goal?}
 use Rattle.records.specs.Format.Formed.{GoalFormed, All, BetFormed}
 use Rattle.records.specs.Gate.RecordRules.{every, bet-rules, event-rules}
-use Rattle.stepper.specs.Rules.Machine.{Machine, Admits, Answer, refused, gives}
+use Rattle.stepper.specs.Rules.Machine.{Machine, Admits, StepOutcome, refused, gives}
 use Rattle.stepper.specs.Rules.Rules.{selected, rule, candidate, step}
 use Rattle.stepper.specs.Walks.Walk.{Direction, forward, back}
 use Rattle.stepper.specs.Rules.AnswerLaws.{Given, given-matching, given-unifier, given-body, given-top-unifier, given-top-or, given-top-by}
 use Rattle.stepper.specs.Rules.ListedLaws.{forward-by-rule, back-candidate}
-use Rattle.stepper.specs.Rules.Limits.{step-admitted}
+use Rattle.stepper.specs.Rules.AdmittedLaws.{step-admitted}
 use Rattle.stepper.specs.Rules.Formed.{EventSound, BetSound, PartsSound, CountsFit, LawfulMachine}
-
-and-true : (a b : Bool) → (a && b) ≡ true → (a ≡ true) × (b ≡ true)
-and-true true b h = (refl, h)
-and-true false b h = absurd (true≢false (sym h))
 
 -- bets are sound exactly when they are well formed and every one is by the record rules
 bets-sound : (s : List Bet) → All BetFormed s → every bet-rules s ≡ true → All BetSound s
 bets-sound [] f h = tt
-bets-sound (b ∷ s) f h = let k = and-true (bet-rules b) (every bet-rules s) h in ((f .0, k .0), bets-sound s (f .1) (k .1))
+bets-sound (b ∷ s) f h = let k = and-both (bet-rules b) (every bet-rules s) h in ((f .0, k .0), bets-sound s (f .1) (k .1))
 
 pub bets-formed : (s : List Bet) → All BetSound s → All BetFormed s
 bets-formed [] f = tt
@@ -43,7 +40,7 @@ selected-formed second a b f = f .1
 abbrev Under : List Bet → Event → Type 0
 Under s e = All BetSound s → PartsSound e
 
-given-under : (s : List Bet) (a : Answer) → All BetSound s → Given (Under s) a → Given PartsSound a
+given-under : (s : List Bet) (a : StepOutcome) → All BetSound s → Given (Under s) a → Given PartsSound a
 given-under s (refused q) f h = tt
 given-under s (gives e) f h = h f
 

@@ -1,4 +1,4 @@
--- The rules in their order (SPECIFICATION 3), a constructor for each: `Rule M e d` says that a rule leads from e to d.
+-- The rules in their order (SPECIFICATION 3.3), a constructor for each: `Rule M e d` says that a rule leads from e to d.
 -- The 21 rules have 23 constructors, since the call rules of equality and of an atom have two right sides each.
 -- S is the bet stack s, U the ancestor stack u; `a ∷ u` puts a on top.
 use mathlib.Core.Path.{_≡_}

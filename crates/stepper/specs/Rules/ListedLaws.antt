@@ -2,9 +2,11 @@
 use mathlib.Core.Path.{_≡_, refl, sym, _∙_, ap, subst}
 use mathlib.Core.Logic.{_↔_}
 use mathlib.Core.List.{List, [], _∷_}
-use mathlib.Core.Bool.{false, true≢false}
+use mathlib.Core.Bool.{false}
+use Rattle.records.specs.Gate.ReplyLaws.{gives-injective}
+use Rattle.records.specs.Format.Never.{never}
 use Rattle.records.specs.Format.Syntax.{Goal, truth, failure, equal, conj, disj, atom, Half, first, second, Ancestor, called, in-conj, in-disj, Bet, or, Port, call, exit, fail, redo, Event, event, goal?}
-use Rattle.stepper.specs.Rules.Machine.{Machine, Admits, Answer, refused, gives, answer?}
+use Rattle.stepper.specs.Rules.Machine.{Machine, Admits, StepOutcome, refused, gives, answer?}
 use Rattle.stepper.specs.Rules.Rules.{matching, fitting, selected, rule, ununifiable, limited-by, step-forward, candidate, checked, step-back}
 use Rattle.stepper.specs.Rules.AnswerLaws.{Given, given-goal, given-unifier, given-body, given-top-unifier, given-top-or, given-top-by, matching-yes, matching-gives, fitting-gives, fitting-iff}
 use Rattle.stepper.specs.Rules.Listed.{Rule, conj-call, conj-exit-first, conj-fail-first, conj-exit-second, conj-fail-second, conj-redo, disj-call, disj-fail-first, disj-fail-second, disj-exit-first, disj-exit-second, disj-redo, true-call, true-redo, fail-call, equal-call, equal-clash, equal-redo, atom-call, atom-undefined, atom-exit, atom-fail, atom-redo}
@@ -83,17 +85,14 @@ module _ (M : Machine) where
 
   -- at most one rule leads on from an event
   pub rule-unique : (e c d : Event) → Rule M e c → Rule M e d → c ≡ d
-  rule-unique e c d h k = same (sym (rule-follows e c h) ∙ rule-follows e d k)
-    where
-      same : gives c ≡ gives d → c ≡ d
-      same p = cc
+  rule-unique e c d h k = gives-injective (sym (rule-follows e c h) ∙ rule-follows e d k)
 
   -- question 10 only refuses
   pub forward-by-rule : (e d : Event) → step-forward M e ≡ gives d → rule M e ≡ gives d
   unfolding step-forward limited-by
   forward-by-rule e d h = go (rule M e) h
     where
-      go : (a : Answer) → limited-by (M .result-limit) (ununifiable M e) a ≡ gives d → a ≡ gives d
+      go : (a : StepOutcome) → limited-by (M .result-limit) (ununifiable M e) a ≡ gives d → a ≡ gives d
       go (refused q) k = k
       go (gives c) k = fitting-gives (ununifiable M e) (M .result-limit c) (gives c) d k
 
@@ -115,8 +114,8 @@ module _ (M : Machine) where
   unfolding step-back checked
   back-by-candidate e c h = go (candidate M e) h
     where
-      go : (a : Answer) → checked M e a ≡ gives c → (a ≡ gives c) × (step-forward M c ≡ gives e)
-      go (refused q) k = absurd (true≢false cc)
+      go : (a : StepOutcome) → checked M e a ≡ gives c → (a ≡ gives c) × (step-forward M c ≡ gives e)
+      go (refused q) k = never cc
       go (gives d) k =
           let r = matching-gives (answer? (step-forward M d) (gives e)) d c (fitting-gives (ununifiable M d) (M .candidate-limit d) _ c k) in
           (ap gives (r .1), subst (λ x. step-forward M x ≡ gives e) (r .1) (r .0))

@@ -9,7 +9,7 @@ use Rattle.records.specs.Format.Syntax.{Term, Terms, Goal, Ancestor, Bet, call,
 use Rattle.terms.specs.Theory.Outcome.{Unified, Unified-discrete}
 use Rattle.terms.specs.Body.Body.{Body, Body-discrete}
 use Rattle.records.specs.Gate.Question.{Question, Question-discrete, Asked-discrete}
-use Rattle.records.specs.Gate.Reply.{Answer as AnswerOf, Answer-discrete}
+use Rattle.records.specs.Gate.Reply.{Answer, Answer-discrete}
 pub use Rattle.records.specs.Gate.Reply.{refused, gives}
 
 -- the unifier of S(T1) and S(T2), S being the bet stack; the body of an atom, numbered at its call under the stacks; and the question that refuses
@@ -36,8 +36,8 @@ abbrev pub constant-machine : Unified → Body → Machine
 constant-machine x b = record { unify = λ s l r. x; body = λ p ts u s. b; result-limit = λ e. none; candidate-limit = λ e. none }
 
 -- what a step answers: the question that refuses it, or the event that it gives
-abbrev pub Answer : Type 0
-Answer = AnswerOf Event
+abbrev pub StepOutcome : Type 0
+StepOutcome = Answer Event
 
 unfoldable pub unified? : Discrete Unified
 unfolding bindings?
@@ -47,6 +47,6 @@ unfoldable pub body? : Discrete Body
 unfolding goal?
 body? = Body-discrete goal?
 
-unfoldable pub answer? : Discrete Answer
+unfoldable pub answer? : Discrete StepOutcome
 unfolding event?
 answer? = Answer-discrete (Question-discrete Asked-discrete) event?

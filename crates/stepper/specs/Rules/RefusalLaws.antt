@@ -1,13 +1,13 @@
 -- The step forward of `Rules` is refused exactly as `Refusals` lists.
 use mathlib.Core.Path.{_≡_, refl, sym, _∙_, ap, subst}
 use mathlib.Core.Logic.{_↔_}
-use mathlib.Core.Bool.{true≢false}
 use mathlib.Core.List.{List, [], _∷_}
+use Rattle.records.specs.Gate.ReplyLaws.{refused-not-gives}
 use Rattle.records.specs.Format.Syntax.{Goal, truth, failure, equal, conj, disj, atom, Half, first, second, Ancestor, called, in-conj, in-disj, Binding, Bet, unifier, or, by, call, exit, fail, redo, Event, event, goal?}
 use Rattle.records.specs.Gate.Question.{Question, possible, matches}
 use Rattle.terms.specs.Theory.Outcome.{Unified, too-large, clash, unified}
 use Rattle.terms.specs.Body.Body.{Body, too-many, undefined, defined}
-use Rattle.stepper.specs.Rules.Machine.{Machine, constant-machine, Answer, refused, gives}
+use Rattle.stepper.specs.Rules.Machine.{Machine, constant-machine, StepOutcome, refused, gives}
 use Rattle.stepper.specs.Rules.Rules.{selected, matching, top-unifier, top-or, top-by, by-unifier, by-body, fitting, from-exit, from-fail, from-redo, rule, ununifiable, limited-by, step-forward}
 use Rattle.stepper.specs.Rules.Listed.{Rule, conj-call, disj-call, true-call, fail-call, equal-clash, atom-undefined}
 use Rattle.stepper.specs.Rules.AnswerLaws.{fitting-refused}
@@ -15,12 +15,12 @@ use Rattle.stepper.specs.Rules.ListedLaws.{rule-iff}
 use Rattle.stepper.specs.Rules.Refusals.{AtEnd, Refusal, walk-ends, no-rule, value-too-large, local-too-large, result-refused}
 
 -- Φ of the question that refuses, if one does
-abbrev pub OnRefused : (Question → Type 0) → Answer → Type 0
+abbrev pub OnRefused : (Question → Type 0) → StepOutcome → Type 0
 OnRefused Φ (refused q) = Φ q
 OnRefused Φ (gives e) = Unit {0}
 
 -- refused by 7 alone
-abbrev OnlyMatches : Answer → Type 0
+abbrev OnlyMatches : StepOutcome → Type 0
 OnlyMatches a = OnRefused (λ q. q ≡ matches) a
 
 only-matching {ℓ} : {P : Type ℓ} (d : Dec P) (e : Event) → OnlyMatches (matching d e)
@@ -80,12 +80,9 @@ empty-machine = constant-machine clash undefined
 
 module _ (M : Machine) where
   -- an event from which every machine's rules answer alike, and are refused by 7 alone
-  stuck : (e : Event) (a : Answer) → (AtEnd e → ⊥) → ((N : Machine) → rule N e ≡ a) → OnlyMatches a → OnRefused (Refusal M e) a
+  stuck : (e : Event) (a : StepOutcome) → (AtEnd e → ⊥) → ((N : Machine) → rule N e ≡ a) → OnlyMatches a → OnRefused (Refusal M e) a
   stuck e (refused q) w same only =
-      subst (Refusal M e) (sym only) (no-rule w (λ N d r. differ d (sym (same N) ∙ rule-iff N e d .1 r)))
-    where
-      differ : (d : Event) → refused q ≡ gives d → ⊥
-      differ d h = true≢false cc
+      subst (Refusal M e) (sym only) (no-rule w (λ N d r. refused-not-gives (sym (same N) ∙ rule-iff N e d .1 r)))
   stuck e (gives d) w same only = tt
 
   -- what questions 6 to 9 refuse
@@ -116,7 +113,7 @@ module _ (M : Machine) where
   rule-refusal (event redo g u s) = stuck (event redo g u s) (from-redo g u s) (λ z. z) (λ N. refl) (redo-only g u s)
 
   -- where 7 is the only question that can refuse and no rule applies, 7 refuses
-  unmatched : (e : Event) (a : Answer) → rule M e ≡ a → OnlyMatches a → ((d : Event) → Rule M e d → ⊥) → rule M e ≡ refused matches
+  unmatched : (e : Event) (a : StepOutcome) → rule M e ≡ a → OnlyMatches a → ((d : Event) → Rule M e d → ⊥) → rule M e ≡ refused matches
   unmatched e (refused q) h only none-leads = h ∙ ap refused only
   unmatched e (gives d) h only none-leads = absurd (none-leads d (rule-iff M e d .0 h))
 
@@ -153,7 +150,7 @@ module _ (M : Machine) where
   unfolding step-forward limited-by
   refusal-listed e q h = go (rule M e) refl h
     where
-      go : (a : Answer) → rule M e ≡ a → limited-by (M .result-limit) (ununifiable M e) a ≡ refused q → Refusal M e q
+      go : (a : StepOutcome) → rule M e ≡ a → limited-by (M .result-limit) (ununifiable M e) a ≡ refused q → Refusal M e q
       go (refused p) k h = let same : p ≡ q = cc in subst (Refusal M e) same (subst (OnRefused (Refusal M e)) k (rule-refusal e))
       go (gives d) k h = let r = fitting-refused (ununifiable M e) (M .result-limit d) d q h in result-refused (rule-iff M e d .0 k) (r .0) (r .1)
 

@@ -5,6 +5,7 @@ use mathlib.Core.Logic.{_↔_}
 use mathlib.Core.Bool.{false}
 use mathlib.Core.List.{List, [], _∷_}
 use mathlib.Core.Option.{none}
+use Rattle.records.specs.Gate.ReplyLaws.{gives-injective}
 use Rattle.records.specs.Format.Syntax.{Goal, truth, failure, equal, conj, disj, atom, first, second, Ancestor, called, in-conj, in-disj, Bet, unifier, Port, call, exit, fail, redo, Event, event, goal?}
 use Rattle.terms.specs.Theory.Outcome.{clash, unified}
 use Rattle.terms.specs.Body.Body.{undefined, defined}
@@ -45,10 +46,7 @@ module _ (M : Machine) where
 
   -- so an event has one source
   pub source-unique : (b c e : Event) → Source M b e → Source M c e → b ≡ c
-  source-unique b c e h k = same (sym (source-candidate b e (h .0) (h .1)) ∙ source-candidate c e (k .0) (k .1))
-    where
-      same : gives b ≡ gives c → b ≡ c
-      same p = cc
+  source-unique b c e h k = gives-injective (sym (source-candidate b e (h .0) (h .1)) ∙ source-candidate c e (k .0) (k .1))
 
   -- a right side that asks for the goal a
   for-goal : (p : Port) (u : List Ancestor) (s : List Bet) (g a : Goal) (c : Event) → Source M c (event p a u s)

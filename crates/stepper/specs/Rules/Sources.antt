@@ -1,4 +1,4 @@
--- The rules read from right to left (SPECIFICATION 6): `Source M c e` says that c is the source of e.
+-- The rules read from right to left (SPECIFICATION 6.1): `Source M c e` says that c is the source of e.
 -- Two right sides have two sources; the source is then the one whose unifier or body is the one that its call has.
 -- `Candidate M c e` says that c is the candidate of a step back from e: the source, as far as the first question 7 looks.
 use mathlib.Core.Path.{_≡_}
@@ -23,7 +23,7 @@ module _ (M : Machine) where
   OwnUnifier (disj a b) s = Unit {0}
   OwnUnifier (atom p ts) s = Unit {0}
 
-  -- fail B under P: B is P's body, numbered as at call P with the same stacks
+  -- fail B under P: B is the body that P has under these stacks
   abbrev pub OwnBody : Goal → List Ancestor → List Bet → Type 0
   OwnBody g [] s = Unit {0}
   OwnBody g (in-conj n a b ∷ u) s = Unit {0}
@@ -36,8 +36,8 @@ module _ (M : Machine) where
   Own (event fail g u s) = OwnBody g u s
   Own (event redo g u s) = OwnUnifier g s
 
-  -- a rule leads from c to e; fail T1=T2 comes from call if no unifier exists, else from redo with that unifier on S; fail P comes from call
-  -- if P has no definition, else from fail of P's body
+  -- a rule leads from c to e; of the two sources that fail of an equality and fail of an atom have, it is the one with the call's own unifier, or with
+  -- the atom's own body, where there is one
   abbrev pub Source : Event → Event → Type 0
   Source c e = Rule M c e × Own c
 

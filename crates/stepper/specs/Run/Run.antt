@@ -1,5 +1,5 @@
 -- A run: single steps in one direction, as many as asked for, up to the first that is refused, up to an event that meets the run's aim, or until the
--- log that it is lent is full. The run service is the run with no aim and no log (SPECIFICATION 8).
+-- log that it is lent is full. The run service is the run with no aim and no log (SPECIFICATION 8.5).
 -- Choices: the event that a run starts from is neither logged nor asked for the aim, so that a run goes on where a shorter one stopped; and every
 -- event after it is in the log of the definition, so that the log of a lent slice is a matter of room alone.
 use mathlib.Core.Path.{_≡_}
@@ -18,7 +18,7 @@ use Rattle.records.specs.Writing.Patched.{patched}
 use Rattle.records.specs.Gate.Reply.{through, reply-with}
 use Rattle.records.specs.Gate.Door.{gate}
 use Rattle.stepper.specs.Services.Layers.{Layers}
-use Rattle.stepper.specs.Rules.Machine.{Machine, Answer, refused, gives}
+use Rattle.stepper.specs.Rules.Machine.{Machine, StepOutcome, refused, gives}
 use Rattle.stepper.specs.Rules.Rules.{step}
 use Rattle.stepper.specs.Services.Services.{machine, reply}
 use Rattle.stepper.specs.Walks.Walk.{Direction, forward, back}
@@ -93,7 +93,7 @@ unfoldable pub past : Mark → RunEnd → RunEnd
 past m r = record { event = r .event; taken = suc (r .taken); why = r .why; log = m ∷ r .log }
 
 -- what the answer to a step from e makes of a run
-unfoldable pub on-answer : Answer → Event → (Event → RunEnd) → RunEnd
+unfoldable pub on-answer : StepOutcome → Event → (Event → RunEnd) → RunEnd
 unfolding past mark
 on-answer (refused q) e on = ended e (by q)
 on-answer (gives c) e on = past (mark c) (on c)
@@ -120,12 +120,12 @@ pub record RunReply : Type 0 where
   pub taken : ℕ
   pub output : List ℕ
 
--- refusals 1 to 5 and 11 to 14 write nothing
+-- what the gate refuses is not begun, and nothing is written
 unfoldable pub run-refused : List ℕ → Question → RunReply
 unfolding question-number
 run-refused out q = record { number = question-number q; taken = 0; output = out }
 
--- a run that stops keeps the last event it reached
+-- a run that was begun leaves the event that it came to
 unfoldable pub run-done : List ℕ → RunEnd → RunReply
 unfolding reply-with stop-number
 run-done out r = record { number = stop-number (r .why); taken = r .taken; output = reply out (gives (r .event)) .output }

@@ -1,7 +1,7 @@
 -- Laws of a run: it is so many single steps, its log has the marks of the events passed, none but the last of them meets the aim, it tells why it
 -- stopped, and a longer one goes on where a shorter one stopped.
 use mathlib.Core.Path.{_≡_, refl, sym, _∙_, ap, subst}
-use mathlib.Core.Bool.{Bool, true, false, cond, true≢false}
+use mathlib.Core.Bool.{Bool, true, false, cond}
 use mathlib.Core.List.{_++_}
 use mathlib.Core.Option.{Option, none, some, Option·none-ne-some, Option·some-injective}
 use Prim.Native.Nat.{ℕ, zero, suc, _+_, _-_, _<_, _≤_}
@@ -9,9 +9,10 @@ use native.Mathlib.Nat.{zero-add, add-zero, add-suc, suc-add}
 use native.Mathlib.Omega.{arith}
 use lib.ListN.{length, getD, replicate}
 use borrow.Author.Tests.{eqb-true, eqb-false}
+use Rattle.records.specs.Format.Never.{never}
 use Rattle.records.specs.Format.Syntax.{Event}
 use Rattle.records.specs.Gate.Question.{Question}
-use Rattle.stepper.specs.Rules.Machine.{Machine, Answer, refused, gives}
+use Rattle.stepper.specs.Rules.Machine.{Machine, StepOutcome, refused, gives}
 use Rattle.stepper.specs.Rules.Rules.{step, accepted}
 use Rattle.stepper.specs.Walks.Reached.{accepted-step}
 use Rattle.stepper.specs.Walks.Walk.{Direction, forward, back, Tally, at-start, after, moves, walk}
@@ -24,7 +25,7 @@ then a b = record { event = b .event; taken = a .taken + b .taken; why = b .why;
 -- the room of an order
 room-full : (r : Option ℕ) → is-full r ≡ true → r ≡ some 0
 unfolding is-full
-room-full none f = absurd (true≢false (sym f))
+room-full none f = never (sym f)
 room-full (some k) f = ap some (eqb-true k 0 f)
 
 room-more : {n : ℕ} (r : Option ℕ) → is-full r ≡ false → less-room 1 r ≡ some n → r ≡ some (suc n)
@@ -69,7 +70,7 @@ module _ (M : Machine) where
       aimed f c h k true m = last-step c f h m
       aimed f c h k false m = one-step c f h m k
 
-      go : (b : Bool) → is-full (o .room) ≡ b → (a : Answer) → step M (o .direction) e ≡ a → ((c : Event) → Course (with-marks 1 o) n c (run M (with-marks 1 o) n c))
+      go : (b : Bool) → is-full (o .room) ≡ b → (a : StepOutcome) → step M (o .direction) e ≡ a → ((c : Event) → Course (with-marks 1 o) n c (run M (with-marks 1 o) n c))
           → Course o (suc n) e (run M o (suc n) e)
       go true f a h k = rw f (no-room f)
       go false f (refused q) h k = rw (f, h) (no-step q f h)
@@ -128,13 +129,13 @@ module _ (M : Machine) where
   unmet (one-step c f h m k) (suc i) d l z = unmet k i d (omega arith) (λ x y. z (ap suc x) y)
 
   -- It tells why it stopped.
-  abbrev pub Told : Order → ℕ → RunEnd → Stop → Type 0
-  Told o n r spent = r .taken ≡ n
-  Told o n r met = meets (o .aim) (mark (r .event)) ≡ true
-  Told o n r full = o .room ≡ some (r .taken)
-  Told o n r (by q) = step M (o .direction) (r .event) ≡ refused q
+  abbrev pub StopTold : Order → ℕ → RunEnd → Stop → Type 0
+  StopTold o n r spent = r .taken ≡ n
+  StopTold o n r met = meets (o .aim) (mark (r .event)) ≡ true
+  StopTold o n r full = o .room ≡ some (r .taken)
+  StopTold o n r (by q) = step M (o .direction) (r .event) ≡ refused q
 
-  told : {o : Order} {n : ℕ} {e : Event} {r : RunEnd} → Course o n e r → Told o n r (r .why)
+  told : {o : Order} {n : ℕ} {e : Event} {r : RunEnd} → Course o n e r → StopTold o n r (r .why)
   unfolding past
   told no-count = refl
   told (no-room {o = o} f) = room-full (o .room) f
@@ -142,7 +143,7 @@ module _ (M : Machine) where
   told (last-step c f h m) = m
   told (one-step {o = o} {n} {r = r} c f h m k) = go (r .why) (told k)
     where
-      go : (w : Stop) → Told (with-marks 1 o) n r w → Told o (suc n) (past (mark c) r) w
+      go : (w : Stop) → StopTold (with-marks 1 o) n r w → StopTold o (suc n) (past (mark c) r) w
       go spent t = ap suc t
       go met t = t
       go full t = room-more (o .room) f t
@@ -169,9 +170,9 @@ module _ (M : Machine) where
   pub course-then : {o : Order} {n m : ℕ} {e : Event} {r s : RunEnd} → Course o n e r → r .why ≡ spent → Course (with-marks n o) m (r .event) s → Course o (n + m) e (then r s)
   unfolding past then
   course-then {o} {m = m} {s = s} (no-count {e = e}) y l = rw (zero-add, zero-add) (subst (λ x. Course x m e s) (no-marks o) l)
-  course-then (no-room f) y l = absurd (true≢false cc)
-  course-then (no-step q f h) y l = absurd (true≢false cc)
-  course-then (last-step c f h m) y l = absurd (true≢false cc)
+  course-then (no-room f) y l = never cc
+  course-then (no-step q f h) y l = never cc
+  course-then (last-step c f h m) y l = never cc
   course-then {o} {m = i} {s = s} (one-step {n = n} {r = r} c f h m k) y l =
       rw (suc-add, suc-add) (one-step c f h m (course-then k y (subst (λ x. Course x i (r .event) s) (sym (more-marks n o)) l)))
 
@@ -205,7 +206,7 @@ module _ (M : Machine) where
         → meets (o .aim) (getD (run M o n e .log) i m) ≡ false
     run-unmet = unmet (course o n e)
 
-    pub run-told : Told o n (run M o n e) (run M o n e .why)
+    pub run-told : StopTold o n (run M o n e) (run M o n e .why)
     run-told = told (course o n e)
 
     pub run-on : (m : ℕ) → run M o n e .why ≡ spent → run M o (n + m) e ≡ then (run M o n e) (run M (with-marks n o) m (run M o n e .event))
@@ -243,16 +244,16 @@ module _ (M : Machine) {Move : Type 0} (direction : Move → Direction) (attempt
   still zero t h = refl
   still (suc n) t h = ap (λ o. moves direction attempt (replicate n m) (after (direction m) o t)) h ∙ still n t h
 
-  answered : {e : Event} {a : Answer} (t : Tally Event) → t .event ≡ e → step M (direction m) e ≡ a → attempt m (t .event) ≡ accepted a
+  answered : {e : Event} {a : StepOutcome} (t : Tally Event) → t .event ≡ e → step M (direction m) e ≡ a → attempt m (t .event) ≡ accepted a
   answered t y h = rw y (single _ ∙ ap accepted h)
 
   moves-run : {n : ℕ} {e : Event} {r : RunEnd} → Course M (plain (direction m)) n e r → (t : Tally Event) → t .event ≡ e
       → moves direction attempt (replicate n m) t ≡ and-run (direction m) t r
   unfolding moves accepted is-full meets less-room
   moves-run no-count t y = and-run-none (direction m) t spent y
-  moves-run (no-room f) t y = absurd (true≢false (sym f))
+  moves-run (no-room f) t y = never (sym f)
   moves-run (no-step {n = n} q f h) t y = still (suc n) t (answered t y h) ∙ and-run-none (direction m) t (by q) y
-  moves-run (last-step c f h k) t y = absurd (true≢false (sym k))
+  moves-run (last-step c f h k) t y = never (sym k)
   moves-run (one-step {n = n} {r = r} c f h k l) t y =
       ap (λ o. moves direction attempt (replicate n m) (after (direction m) o t)) (answered t y h)
       ∙ moves-run l (after (direction m) (some c) t) (after-event (direction m) c t) ∙ and-run-past (direction m) t c (mark c) r

@@ -2,7 +2,7 @@
 -- between two turns is that the run of as many steps as are taken is held there; a turn takes that to the run of one step more, and the loop's end
 -- is the run of all steps, or of any number from there on where it was stopped.
 use mathlib.Core.Path.{_≡_, refl, sym, _∙_, ap, subst}
-use mathlib.Core.Bool.{Bool, true, false, cond, true≢false}
+use mathlib.Core.Bool.{Bool, true, false, cond}
 use mathlib.Core.List.{List, [], _∷_, _++_, append-nil}
 use mathlib.Core.Option.{none, some}
 use Prim.Native.Nat.{ℕ, _+_, _-_, _*_, _/_, _≤_, _<_}
@@ -13,6 +13,7 @@ use lib.Dec.{eqb, leb}
 use lib.ListN.{length, take, drop, set, length-take}
 use lib.Seq.{take-append-seam}
 use borrow.Author.Tests.{eqb-false, eq-eqb, ne-eqb, le-leb, lt-leb}
+use Rattle.records.specs.Format.Never.{never}
 use Rattle.records.specs.Format.Syntax.{Event, event, Definition}
 use Rattle.records.specs.Format.Encode.{event-record}
 use Rattle.records.specs.Format.HeadLaws.{Known, bytes-all}
@@ -22,7 +23,7 @@ use Rattle.records.specs.Writing.Patched.{Put, put-set, put-then, put-front, pu
 use Rattle.records.specs.declared.places.Places.{Places}
 use Rattle.records.specs.declared.places.PartEnds.{PartEnds}
 use Rattle.stepper.specs.declared.emit.StepAnswer.{StepAnswer}
-use Rattle.stepper.specs.Rules.Machine.{Machine, Answer, refused, gives}
+use Rattle.stepper.specs.Rules.Machine.{Machine, StepOutcome, refused, gives}
 use Rattle.stepper.specs.Rules.Rules.{step}
 use Rattle.stepper.specs.Services.Services.{Program, machine, reply}
 use Rattle.records.specs.Gate.ReplyLaws.{number-refuses, reply-gives}
@@ -33,10 +34,10 @@ use Rattle.stepper.specs.Services.Desk.{layers, lawful}
 use Rattle.records.specs.Ends.Places.{EndsOf}
 use Rattle.records.specs.Gate.Reply.{through, reply-with}
 use Rattle.stepper.specs.Plans.ViewLaws.{ends-known}
-use Rattle.stepper.specs.Step.Stepped.{given-length, Stepped, Passed, gate-number}
+use Rattle.stepper.specs.Step.Stepped.{given-length, Stepped, BothPassed, gate-number}
 use Rattle.stepper.specs.Walks.Walk.{Direction}
 use Rattle.stepper.specs.Run.Run.{Mark, mark, meets, Order, is-full, less-room, with-marks, Stop, spent, met, full, by, RunEnd, ended, past, run, stop-number, direction, told-mark, mark-numbers, with-mark, room-of, aim-of, asked, aimed-at, stop-at, stop-case, stopped-case, log-numbers, with-log, Tells, RanTo, plain, run-refused, run-done, run-record, RunReplied}
-use Rattle.stepper.specs.Run.RunLaws.{then, Course, no-count, no-room, no-step, last-step, one-step, course, course-run, course-then, Told, run-log-length, run-told, run-over}
+use Rattle.stepper.specs.Run.RunLaws.{then, Course, no-count, no-room, no-step, last-step, one-step, course, course-run, course-then, StopTold, run-log-length, run-told, run-over}
 use Rattle.stepper.specs.Run.RunServiceLaws.{run-recordable}
 use Rattle.stepper.specs.declared.run.RunOrder.{RunOrder}
 use Rattle.stepper.specs.declared.run.RunMark.{RunMark}
@@ -52,7 +53,7 @@ pub record Held (logged : Bool) (before : List ℕ) (end : RunEnd) (r : RunAnswe
   pub log-is : log ≡ with-log logged before (end .log)
 
 -- the loop with `now` told: all steps that were asked for so far are taken from `start`, whose run was lent `before` as its log
-pub record Standing (program : List ℕ) (order : RunOrder) (now : RunAnswer) (here log : List ℕ) : Type 0 where
+pub record RunStands (program : List ℕ) (order : RunOrder) (now : RunAnswer) (here log : List ℕ) : Type 0 where
   pub definitions : List Definition
   pub program-reads : read-program program ≡ tree definitions
   pub start : Event
@@ -61,14 +62,14 @@ pub record Standing (program : List ℕ) (order : RunOrder) (now : RunAnswer) (h
   pub going : run (machine layers definitions) (asked order before) (now .taken) start .why ≡ spent
   pub held : Held (order .logged) before (run (machine layers definitions) (asked order before) (now .taken) start) now here log
 
-module _ {program : List ℕ} {order : RunOrder} {now : RunAnswer} {here log : List ℕ} (g : Standing program order now here log) where
+module _ {program : List ℕ} {order : RunOrder} {now : RunAnswer} {here log : List ℕ} (g : RunStands program order now here log) where
   -- the run of so many steps from its start
   abbrev pub run-so-far : ℕ → RunEnd
   run-so-far n = run (machine layers (g .definitions)) (asked order (g .before)) n (g .start)
 
   -- the run of so many steps is held
-  abbrev pub Holds : ℕ → RunAnswer → List ℕ → List ℕ → Type 0
-  Holds n = Held (order .logged) (g .before) (run-so-far n)
+  abbrev pub RunHolds : ℕ → RunAnswer → List ℕ → List ℕ → Type 0
+  RunHolds n = Held (order .logged) (g .before) (run-so-far n)
 
 -- the mark of an event, by its parts
 pub mark-placed : {p : Places} (e : Event) → p ≡ event-places e → record { port = p .port; ancestors = p .ancestors .count; bets = p .bets .count } ≡ told-mark (mark e)
@@ -137,7 +138,7 @@ no-number true = refl
 no-number false = refl
 
 -- a turn of the loop
-module _ {program : List ℕ} (byte : Known program) {order : RunOrder} {now : RunAnswer} {here log : List ℕ} (g : Standing program order now here log) where
+module _ {program : List ℕ} (byte : Known program) {order : RunOrder} {now : RunAnswer} {here log : List ℕ} (g : RunStands program order now here log) where
   abbrev M : Machine
   M = machine layers (g .definitions)
 
@@ -157,7 +158,7 @@ module _ {program : List ℕ} (byte : Known program) {order : RunOrder} {now : R
   pub standing-reads : read-event (take (now .length) here) ≡ tree (so-far .event)
   standing-reads = rw (g .held .front) (lawful .event-back (so-far .event) (reached .0) (limit-fits (so-far .event) (reached .1)))
 
-  abbrev pub standing-passed : Passed program (take (now .length) here)
+  abbrev pub standing-passed : BothPassed program (take (now .length) here)
   standing-passed = record { definitions = g .definitions; program-reads = g .program-reads; event = so-far .event; reads = standing-reads }
 
   pub standing-ends : EndsOf (take (now .length) here) (now .ends)
@@ -178,7 +179,7 @@ module _ {program : List ℕ} (byte : Known program) {order : RunOrder} {now : R
 
   -- the run stops where it stands
   stopped-here : {n : ℕ} (s : Stop) → Course M (with-marks (now .taken) o) 1 (so-far .event) (ended (so-far .event) s) → n ≡ stop-number s
-      → Holds g (now .taken + 1) (record { number = n; stop = stop-case s; taken = now .taken; length = now .length; ends = now .ends }) here log
+      → RunHolds g (now .taken + 1) (record { number = n; stop = stop-case s; taken = now .taken; length = now .length; ends = now .ends }) here log
   unfolding then
   stopped-here s k e =
       let h = g .held in
@@ -195,17 +196,17 @@ module _ {program : List ℕ} (byte : Known program) {order : RunOrder} {now : R
         log-is = h .log-is ∙ rw append-nil refl;
       })
 
-  pub turn-full : Room true → Holds g (now .taken + 1) (record { number = 0; stop = Full; taken = now .taken; length = now .length; ends = now .ends }) here log
+  pub turn-full : Room true → RunHolds g (now .taken + 1) (record { number = 0; stop = Full; taken = now .taken; length = now .length; ends = now .ends }) here log
   unfolding stop-number
   turn-full f = stopped-here full (no-room (lent-room f)) refl
 
   module _ (f : Room false) {there there′ : List ℕ} {moved : StepAnswer} (m : Stepped (step M (direction (order .back)) (so-far .event)) there moved there′) where
-    pub turn-refused : (moved .number ≡ 0 → ⊥) → Holds g (now .taken + 1) (record { number = moved .number; stop = Refused; taken = now .taken; length = now .length; ends = now .ends }) here log
+    pub turn-refused : (moved .number ≡ 0 → ⊥) → RunHolds g (now .taken + 1) (record { number = moved .number; stop = Refused; taken = now .taken; length = now .length; ends = now .ends }) here log
     unfolding reply-with stop-number
     turn-refused z = go (step M (direction (order .back)) (so-far .event)) refl m
       where
-        go : (a : Answer) → step M (direction (order .back)) (so-far .event) ≡ a → Stepped a there moved there′
-            → Holds g (now .taken + 1) (record { number = moved .number; stop = Refused; taken = now .taken; length = now .length; ends = now .ends }) here log
+        go : (a : StepOutcome) → step M (direction (order .back)) (so-far .event) ≡ a → Stepped a there moved there′
+            → RunHolds g (now .taken + 1) (record { number = moved .number; stop = Refused; taken = now .taken; length = now .length; ends = now .ends }) here log
         go (refused q) h w = stopped-here (by q) (no-step q (lent-room f) h) (w .number-is)
         go (gives c) h w = absurd (z (w .number-is))
 
@@ -244,7 +245,7 @@ module _ {program : List ℕ} (byte : Known program) {order : RunOrder} {now : R
 
       pub turn-given : {here′ log′ : List ℕ} {at : ℕ} {k : RunMark} {s : RunStop} → 32768 ≤ length here → k ≡ told-mark (mark (given .0))
           → Put here 0 (take (moved .length) there′) here′ at → log′ ≡ with-mark (order .logged) log (now .taken) k → s ≡ stop-at order k
-          → Holds g (now .taken + 1) (record { number = 0; stop = s; taken = now .taken + 1; length = moved .length; ends = moved .ends }) here′ log′
+          → RunHolds g (now .taken + 1) (record { number = 0; stop = s; taken = now .taken + 1; length = moved .length; ends = moved .ends }) here′ log′
       unfolding then past given-length
       turn-given {here′} room marked p logged stops =
           let c = given .0 in
@@ -268,17 +269,17 @@ module _ {program : List ℕ} (byte : Known program) {order : RunOrder} {now : R
 
 goes-on : (s : Stop) → stopped-case (stop-case s) ≡ false → s ≡ spent
 goes-on spent h = refl
-goes-on met h = absurd (true≢false h)
-goes-on full h = absurd (true≢false h)
-goes-on (by q) h = absurd (true≢false h)
+goes-on met h = never h
+goes-on full h = never h
+goes-on (by q) h = never h
 
 -- the loop from where it stands
-module _ {program : List ℕ} {order : RunOrder} {first : RunAnswer} {here₀ log₀ : List ℕ} (g : Standing program order first here₀ log₀) where
+module _ {program : List ℕ} {order : RunOrder} {first : RunAnswer} {here₀ log₀ : List ℕ} (g : RunStands program order first here₀ log₀) where
   -- what the loop keeps
   abbrev pub Keeps : RunAnswer → List ℕ → List ℕ → Type 0
-  Keeps r here log = (run-so-far g (r .taken) .why ≡ spent) × Holds g (r .taken) r here log
+  Keeps r here log = (run-so-far g (r .taken) .why ≡ spent) × RunHolds g (r .taken) r here log
 
-  abbrev pub standing-on : {r : RunAnswer} {here log : List ℕ} → Keeps r here log → Standing program order r here log
+  abbrev pub standing-on : {r : RunAnswer} {here log : List ℕ} → Keeps r here log → RunStands program order r here log
   standing-on k = record {
     definitions = g .definitions;
     program-reads = g .program-reads;
@@ -289,26 +290,26 @@ module _ {program : List ℕ} {order : RunOrder} {first : RunAnswer} {here₀ lo
     held = k .1;
   }
 
-  module _ (n : ℕ) {r : RunAnswer} {here log : List ℕ} (h : Holds g (n + 1) r here log) where
+  module _ (n : ℕ) {r : RunAnswer} {here log : List ℕ} (h : RunHolds g (n + 1) r here log) where
     -- after a turn that leaves steps to take
     pub keeps-on : stopped-case (r .stop) ≡ false → (r .taken ≡ n + 1) × Keeps r here log
     keeps-on s =
         let spends : run-so-far g (n + 1) .why ≡ spent = goes-on (run-so-far g (n + 1) .why) (rw (h .tells .stop-is) at s) in
         let all : run-so-far g (n + 1) .taken ≡ n + 1 =
-        subst (Told (machine layers (g .definitions)) (asked order (g .before)) (n + 1) (run-so-far g (n + 1))) spends (run-told (machine layers (g .definitions)) (asked order (g .before)) (n + 1) (g .start)) in
+        subst (StopTold (machine layers (g .definitions)) (asked order (g .before)) (n + 1) (run-so-far g (n + 1))) spends (run-told (machine layers (g .definitions)) (asked order (g .before)) (n + 1) (g .start)) in
         let taken : r .taken ≡ n + 1 = h .tells .taken-is ∙ all in
-        (taken, subst (λ k. (run-so-far g k .why ≡ spent) × Holds g k r here log) (sym taken) (spends, h))
+        (taken, subst (λ k. (run-so-far g k .why ≡ spent) × RunHolds g k r here log) (sym taken) (spends, h))
 
     -- after one that stops the run
-    pub keeps-stopped : (steps : ℕ) → n < steps → stopped-case (r .stop) ≡ true → Holds g steps r here log
+    pub keeps-stopped : (steps : ℕ) → n < steps → stopped-case (r .stop) ≡ true → RunHolds g steps r here log
     keeps-stopped steps l s =
         let more : steps ≡ n + 1 + (steps - (n + 1)) = omega arith in
-        let over = run-over (machine layers (g .definitions)) (asked order (g .before)) (n + 1) (g .start) (steps - (n + 1)) (λ y. true≢false (sym s ∙ ap stopped-case (h .tells .stop-is ∙ ap stop-case y))) in
+        let over = run-over (machine layers (g .definitions)) (asked order (g .before)) (n + 1) (g .start) (steps - (n + 1)) (λ y. never (sym s ∙ ap stopped-case (h .tells .stop-is ∙ ap stop-case y))) in
         rw (ap (run-so-far g) more ∙ over) h
 
   -- all steps are taken
-  pub keeps-all : {r : RunAnswer} {here log : List ℕ} (steps : ℕ) → Keeps r here log → r .taken ≡ steps → Holds g steps r here log
-  keeps-all {r} {here} {log} steps k e = subst (λ n. Holds g n r here log) e (k .1)
+  pub keeps-all : {r : RunAnswer} {here log : List ℕ} (steps : ℕ) → Keeps r here log → r .taken ≡ steps → RunHolds g steps r here log
+  keeps-all {r} {here} {log} steps k e = subst (λ n. RunHolds g n r here log) e (k .1)
 
 -- an empty log
 log-none : (logged : Bool) (log : List ℕ) → log ≡ with-log logged log []
@@ -317,7 +318,7 @@ log-none true log = sym (patched-nil log 0)
 log-none false log = refl
 
 -- the start of a run: the event is in the buffer, and no step is taken
-module _ {program s here : List ℕ} (order : RunOrder) {n : ℕ} {ends : PartEnds} (zeros log : List ℕ) (known : Known s) (w : Passed program s) (room : length s ≤ length zeros)
+module _ {program s here : List ℕ} (order : RunOrder) {n : ℕ} {ends : PartEnds} (zeros log : List ℕ) (known : Known s) (w : BothPassed program s) (room : length s ≤ length zeros)
     (p : Put zeros 0 s here n) (k : EndsOf s ends) where
   abbrev pub start-run : RunEnd
   start-run = run (machine layers (w .definitions)) (asked order log) 0 (w .event)
@@ -339,7 +340,7 @@ module _ {program s here : List ℕ} (order : RunOrder) {n : ℕ} {ends : PartEn
         log-is = log-none (order .logged) log;
       }
 
-  abbrev pub standing-first : Standing program order (record { number = 0; stop = Spent; taken = 0; length = n; ends = ends }) here log
+  abbrev pub standing-first : RunStands program order (record { number = 0; stop = Spent; taken = 0; length = n; ends = ends }) here log
   standing-first = record {
     definitions = w .definitions;
     program-reads = w .program-reads;
@@ -351,7 +352,7 @@ module _ {program s here : List ℕ} (order : RunOrder) {n : ℕ} {ends : PartEn
   }
 
 -- its end: the record reached is put into the output
-module _ {program s here log log′ : List ℕ} (byte : Known program) (known : Known s) (w : Passed program s) (order : RunOrder) (steps : ℕ) {r : RunAnswer}
+module _ {program s here log log′ : List ℕ} (byte : Known program) (known : Known s) (w : BothPassed program s) (order : RunOrder) (steps : ℕ) {r : RunAnswer}
     (h : Held (order .logged) log (run (machine layers (w .definitions)) (asked order log) steps (w .event)) r here log′) where
   abbrev end : RunEnd
   end = run (machine layers (w .definitions)) (asked order log) steps (w .event)
@@ -389,7 +390,7 @@ run-gate-refused d steps program s out e z =
     rw (w .refuses) (record { number-is = w .number-is; taken-is = refl; output-is = refl })
 
 -- or the run goes
-pub run-replied : {program s out log log′ out′ : List ℕ} {r : RunAnswer} (d : Direction) (steps : ℕ) (w : Passed program s) → 32768 ≤ length out
+pub run-replied : {program s out log log′ out′ : List ℕ} {r : RunAnswer} (d : Direction) (steps : ℕ) (w : BothPassed program s) → 32768 ≤ length out
     → RanTo (run (machine layers (w .definitions)) (plain d) steps (w .event)) false log out r log′ out′
     → RunReplied (run-record layers d steps program s out) (r .number) (r .taken) out′
 unfolding run-record through run-done

@@ -1,26 +1,25 @@
 -- Laws of the run service on bytes: it does what that many single steps do, its number is that of the step that stopped it, and its output
 -- keeps its length.
 use mathlib.Core.Path.{_≡_, refl, sym, _∙_, ap}
-use mathlib.Core.Bool.{true, false, true≢false}
 use mathlib.Core.List.{List}
 use mathlib.Core.Option.{Option·none-ne-some}
 use Prim.Native.Nat.{ℕ, _≤_}
 use native.Mathlib.Nat.{zero-add}
 use native.Mathlib.Omega.{arith}
 use lib.ListN.{length, drop, replicate}
+use Rattle.records.specs.Format.Never.{never}
 use Rattle.records.specs.Format.Syntax.{Event, Definition}
 use Rattle.records.specs.Format.Encode.{event-record}
 use Rattle.records.specs.Gate.Question.{Question}
 use Rattle.records.specs.Format.HeadLaws.{Bytes}
-use Rattle.records.specs.Gate.Gate.{tree}
-use Rattle.records.specs.Gate.GateLaws.{front}
+use Rattle.records.specs.Gate.Gate.{tree, front-record}
 use Rattle.records.specs.Gate.Reply.{Answer as AnswerOf, through, reply-with}
 use Rattle.stepper.specs.Services.Layers.{Layers, Lawful}
 use Rattle.stepper.specs.Rules.Machine.{Machine, refused, gives}
 use Rattle.stepper.specs.Rules.Rules.{step, accepted, Lent}
 use Rattle.stepper.specs.Walks.Walk.{Direction, forward, back, Tally, encoded, at-start, walk}
 use Rattle.stepper.specs.Run.Run.{meets, Order, plain, Stop, spent, met, full, by, RunEnd, past, run, RunReply, stop-number, run-refused, run-done, run-record}
-use Rattle.stepper.specs.Run.RunLaws.{Course, no-count, no-room, no-step, last-step, one-step, course, Told, run-told, and-run, run-is-steps}
+use Rattle.stepper.specs.Run.RunLaws.{Course, no-count, no-room, no-step, last-step, one-step, course, StopTold, run-told, and-run, run-is-steps}
 use Rattle.stepper.specs.Walks.Reached.{attempted}
 use Rattle.stepper.specs.Walks.ReachedLaws.{steps-attempt}
 use Rattle.stepper.specs.Services.Services.{machine, reply, step-answer, step-record, Move, serve, Program, rules-of}
@@ -31,9 +30,9 @@ use Rattle.records.specs.Gate.DoorLaws.{gate-both, gate-gives}
 
 -- what a run's reply says of a walk: the record in its output, and the steps taken
 unfoldable pub served-run : Direction → RunReply → Tally (List ℕ)
-unfolding front
-served-run forward r = record { event = front (r .output); forwards = r .taken; backs = 0 }
-served-run back r = record { event = front (r .output); forwards = 0; backs = r .taken }
+unfolding front-record
+served-run forward r = record { event = front-record (r .output); forwards = r .taken; backs = 0 }
+served-run back r = record { event = front-record (r .output); forwards = 0; backs = r .taken }
 
 run-encoded : (d : Direction) (r : RunEnd) (e : Event) (out : List ℕ) → Recordable (r .event)
     → encoded event-record (and-run d (at-start e) r) ≡ served-run d (run-done out r)
@@ -43,14 +42,14 @@ run-encoded back r e out f = rw (front-event (r .event) (drop (length (event-rec
 
 -- what the number of steps alone says: none of them met an aim or filled a log
 module _ (M : Machine) (d : Direction) (n : ℕ) (r : RunEnd) where
-  all-taken : (s : Stop) → Told M (plain d) n r s → stop-number s ≡ 0 → r .taken ≡ n
+  all-taken : (s : Stop) → StopTold M (plain d) n r s → stop-number s ≡ 0 → r .taken ≡ n
   unfolding stop-number meets
   all-taken spent t z = t
-  all-taken met t z = absurd (true≢false (sym t))
+  all-taken met t z = never (sym t)
   all-taken full t z = absurd (Option·none-ne-some _ t)
   all-taken (by q) t z = absurd (number-positive q z)
 
-  stopped-by : (s : Stop) → Told M (plain d) n r s → (stop-number s ≡ 0 → ⊥) → (q : Question) × (s ≡ by q) × (step M d (r .event) ≡ refused q)
+  stopped-by : (s : Stop) → StopTold M (plain d) n r s → (stop-number s ≡ 0 → ⊥) → (q : Question) × (s ≡ by q) × (step M d (r .event) ≡ refused q)
   unfolding stop-number
   stopped-by spent t z = absurd (z refl)
   stopped-by met t z = absurd (z refl)
@@ -101,7 +100,7 @@ module _ (L : Layers) (laws : Lawful L) (c : Program L) where
   -- any other number is that of the single step that would come next
   pub run-number-stopped : (d : Direction) (n : ℕ) (s : List ℕ) → Bytes s → (e : Event) (out : List ℕ) → L .read-event s ≡ tree e → 32768 ≤ length out
       → (run-record L d n (c .program) s out .number ≡ 0 → ⊥)
-      → step-record L d (c .program) (front (run-record L d n (c .program) s out .output)) out .number ≡ run-record L d n (c .program) s out .number
+      → step-record L d (c .program) (front-record (run-record L d n (c .program) s out .output)) out .number ≡ run-record L d n (c .program) s out .number
   unfolding run-done step-record reply-with stop-number
   run-number-stopped d n s i e out h k z =
       let M = rules-of c in
@@ -110,8 +109,8 @@ module _ (L : Layers) (laws : Lawful L) (c : Program L) where
       let f = run-recordable (plain d) n e (read-recordable L laws s i e h) in
       let same = run-of-tree d n s e out h k in
       let q = stopped-by M d n r (r .why) (run-told M (plain d) n e) (λ y. z (ap (λ r. r .number) same ∙ y)) in
-      let reached : front (run-record L d n (c .program) s out .output) ≡ event-record (r .event)
-      = ap (λ r. front (r .output)) same ∙ front-event (r .event) _ (f .1) in
+      let reached : front-record (run-record L d n (c .program) s out .output) ≡ event-record (r .event)
+      = ap (λ r. front-record (r .output)) same ∙ front-event (r .event) _ (f .1) in
       let answer : step-answer L (c .program) l (event-record (r .event)) ≡ refused (q .0)
       = step-of-record L laws c l (r .event) f ∙ steps-attempt M l (r .event) k ∙ q .2 in
       ap (λ x. reply out (step-answer L (c .program) l x) .number) reached ∙ ap (λ a. reply out a .number) answer

@@ -1,4 +1,4 @@
--- The counter (SPECIFICATION 8.8): it adds an event's port to the walk's four counts; a count at 4,294,967,295 stays, and a refused event changes none.
+-- The counter (SPECIFICATION 8.8): the count of the event's port grows by one unless it is 4,294,967,295; where the event is refused, all stay.
 use mathlib.Core.Bool.{cond}
 use mathlib.Core.List.{List}
 use Prim.Native.Nat.{ℕ, suc}

@@ -20,7 +20,7 @@ use Rattle.records.specs.Ends.Stands.{Stands, body-stands}
 use Rattle.records.specs.Ends.Range.{cut-at}
 use Rattle.records.specs.Writing.Plan.{planned, PlanInside}
 use Rattle.records.specs.Writing.PlanLaws.{nothing-inside, nothing-bytes, stack-kept}
-use Rattle.records.specs.Writing.Emitted.{Emitted, outcome, outcome-short, outcome-long, outcome-whole, Fit, short, long, whole, fit, length-record-of}
+use Rattle.records.specs.Writing.Emitted.{Emitted, outcome, outcome-short, outcome-long, outcome-whole, EmitCase, short, long, whole, fit, length-record-of}
 use Rattle.records.specs.declared.put.Receipt.{Receipt}
 use Rattle.records.specs.declared.plan.Lead.the-variants.{Bare}
 use Rattle.stepper.specs.Rules.Machine.{gives}
@@ -37,7 +37,7 @@ pub emitted-replied : (e : Event) (out after : List ℕ) (emit : Receipt) → Em
 unfolding outcome reply-with fitting record-limit too-long question-number
 emitted-replied e out after emit m = by (fit out (event-record e))
   where
-    by : Fit out (event-record e) → Replied (reply out (with-room (length out) (fitting false (record-limit e) (gives e)))) (emit .number) after
+    by : EmitCase out (event-record e) → Replied (reply out (with-room (length out) (fitting false (record-limit e) (gives e)))) (emit .number) after
     by (short h) = rw (room-short (fitting false (record-limit e) (gives e)) h) (record { number-is = m .number ∙ rw outcome-short; output-is = m .output ∙ rw outcome-short })
     by (long h k) =
         rw (room-enough (fitting false (record-limit e) (gives e)) h, lt-ltb 32768 (length (event-record e)) k)

@@ -20,7 +20,7 @@ use Rattle.records.specs.Ends.Places.{event-places}
 use Rattle.records.specs.Gate.Gate.{Reading, tree, Accepted, read-program, read-event}
 use Rattle.records.specs.Gate.Reply.{Answer, refused, gives, through, answer-number}
 use Rattle.records.specs.Gate.ReplyLaws.{number-refuses}
-use Rattle.records.specs.Gate.Door.{Trees, door, Passed}
+use Rattle.records.specs.Gate.Door.{Trees, door, BothPassed}
 use Rattle.records.specs.Gate.DoorLaws.{door-gives, door-both}
 use Rattle.records.specs.Gate.GateLaws.{program-tree}
 use Rattle.records.specs.declared.heads.GoalHead.{GoalHead}
@@ -33,7 +33,7 @@ use Rattle.terms.specs.Body.Body.{defines, definition-of}
 use Rattle.terms.specs.Body.Definitions.{ProgramAt, definition-place, find-definition}
 use Rattle.terms.specs.declared.definitions.Lookup.{Lookup}
 use Rattle.terms.specs.declared.definitions.Lookup.the-variants.{Absent, Present}
-use Rattle.stepper.specs.Services.Lookup.{Part, empty, part-of, named, found, definition-part, lookup, range-of, named-part, LookedUp}
+use Rattle.stepper.specs.Services.Lookup.{ProgramPart, empty, part-of, named, found, definition-part, lookup, range-of, named-part, LookedUp}
 
 -- the bytes of a definition, if there is one
 abbrev pub found-bytes : Option Definition → List ℕ
@@ -41,17 +41,17 @@ found-bytes none = []
 found-bytes (some d) = definition-bytes d
 
 -- the part of s for what was found
-pub record Holds (s : List ℕ) (r : Part) (o : Option Definition) : Type 0 where
+pub record PartHolds (s : List ℕ) (r : ProgramPart) (o : Option Definition) : Type 0 where
   pub within : r .at + r .size ≤ length s
   pub bytes : part-of s r ≡ found-bytes o
   pub empty-exactly : (r .size ≡ 0) ↔ (o ≡ none)
 
-holds-none : (s : List ℕ) → Holds s empty none
+holds-none : (s : List ℕ) → PartHolds s empty none
 unfolding part-of
 holds-none s = record { within = omega arith; bytes = refl; empty-exactly = (λ h. refl, λ h. refl) }
 
 holds-some : (pre : List ℕ) (d : Definition) (rest : List ℕ)
-    → Holds (pre ++ (definition-bytes d ++ rest)) (record { at = length pre; size = length (definition-bytes d) }) (some d)
+    → PartHolds (pre ++ (definition-bytes d ++ rest)) (record { at = length pre; size = length (definition-bytes d) }) (some d)
 unfolding part-of
 holds-some pre (definition p n l g) rest =
     let d = definition p n l g in
@@ -63,25 +63,25 @@ holds-some pre (definition p n l g) rest =
     }
 
 definitions-hold : (pre : List ℕ) (ds : List Definition) (p n : ℕ)
-    → Holds (pre ++ each definition-bytes ds) (definition-part (length pre) ds p n) (definition-of ds p n)
+    → PartHolds (pre ++ each definition-bytes ds) (definition-part (length pre) ds p n) (definition-of ds p n)
 unfolding definition-part definition-of
 definitions-hold pre [] p n = holds-none (pre ++ [])
 definitions-hold pre (d ∷ ds) p n = go (defines p n d) (definitions-hold (pre ++ definition-bytes d) ds p n)
   where
     go : (b : Bool)
-        → Holds ((pre ++ definition-bytes d) ++ each definition-bytes ds) (definition-part (length (pre ++ definition-bytes d)) ds p n) (definition-of ds p n)
-        → Holds (pre ++ (definition-bytes d ++ each definition-bytes ds))
+        → PartHolds ((pre ++ definition-bytes d) ++ each definition-bytes ds) (definition-part (length (pre ++ definition-bytes d)) ds p n) (definition-of ds p n)
+        → PartHolds (pre ++ (definition-bytes d ++ each definition-bytes ds))
         (cond b (record { at = length pre; size = length (definition-bytes d) }) (definition-part (length pre + length (definition-bytes d)) ds p n))
         (cond b (some d) (definition-of ds p n))
     go true h = holds-some pre d (each definition-bytes ds)
     go false h = rw (← append-assoc pre (definition-bytes d) (each definition-bytes ds), ← length-append pre (definition-bytes d)) h
 
-pub lookup-holds : (program s : List ℕ) → Bytes program → Holds program (lookup program s) (found program s)
+pub lookup-holds : (program s : List ℕ) → Bytes program → PartHolds program (lookup program s) (found program s)
 unfolding lookup found through named record-of
 lookup-holds program s b = go (door (read-program program) (read-event s)) refl
   where
     goal : (P : List Definition) → read-program program ≡ tree P → (e : Event)
-        → Holds program (named empty (definition-part 5 P) e) (named none (definition-of P) e)
+        → PartHolds program (named empty (definition-part 5 P) e) (named none (definition-of P) e)
     goal P h (event p truth u s) = holds-none program
     goal P h (event p failure u s) = holds-none program
     goal P h (event p (equal l r) u s) = holds-none program
@@ -92,7 +92,7 @@ lookup-holds program s b = go (door (read-program program) (read-event s)) refl
         (definitions-hold (word (1 + length (counted definition-bytes P)) ++ (1 ∷ word (length P))) P f (arity ts))
 
     go : (a : Answer (Trees (List Definition) Event)) → door (read-program program) (read-event s) ≡ a
-        → Holds program (through (λ q. empty) a (λ t. named empty (definition-part 5 (t .program)) (t .event)))
+        → PartHolds program (through (λ q. empty) a (λ t. named empty (definition-part 5 (t .program)) (t .event)))
         (through (λ q. none) a (λ t. named none (definition-of (t .program)) (t .event)))
     go (refused q) h = holds-none program
     go (gives t) h = goal (t .program) (door-gives (read-program program) (read-event s) h .0) (t .event)
@@ -181,7 +181,7 @@ module _ (program event : List ℕ) {r : Range} where
   no-record is z w = let p = number-refuses (door (read-program program) (read-event event)) is z in w ∙ rw (p .refuses)
 
   -- both are accepted
-  pub both-accepted : (w : Passed program event)
+  pub both-accepted : (w : BothPassed program event)
       → ((ds : List Definition) (e : Event) → read-program program ≡ tree ds → read-event event ≡ tree e → r ≡ range-of (named-part ds e)) → r ≡ range-of (lookup program event)
   unfolding lookup through named-part
   both-accepted w f =

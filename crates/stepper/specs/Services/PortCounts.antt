@@ -4,7 +4,7 @@ use lib.Dec.{eqb}
 use Rattle.records.specs.Format.Heads.{pick}
 use Rattle.stepper.specs.Services.Counts.{Counts, CountReply, one-more}
 use Rattle.stepper.specs.declared.counts.Counts.{Counts as PortCounts}
-use Rattle.stepper.specs.declared.counts.Counted.{Counted}
+use Rattle.stepper.specs.declared.counts.CountAnswer.{CountAnswer}
 
 -- the counts that a struct of four holds
 abbrev pub counts-of : PortCounts → Counts
@@ -14,7 +14,7 @@ counts-of c = record { calls = c .calls; exits = c .exits; fails = c .fails; red
 abbrev pub counts-reply : ℕ → PortCounts → CountReply
 counts-reply n c = record { number = n; counts = counts-of c }
 
-abbrev pub reply-of : Counted → CountReply
+abbrev pub reply-of : CountAnswer → CountReply
 reply-of r = counts-reply (r .number) (r .counts)
 
 -- one more at the port of this number, 1 to 4

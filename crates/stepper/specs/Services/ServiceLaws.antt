@@ -16,12 +16,12 @@ use Rattle.records.specs.Gate.Door.{event-door, with-room}
 use Rattle.records.specs.Gate.DoorLaws.{room-gives, room-then, event-gives, gate-room}
 use Rattle.records.specs.Gate.ReplyLaws.{number-positive, through-gives, reply-gives}
 use Rattle.records.specs.Format.HeadLaws.{Bytes}
-use Rattle.records.specs.Gate.Gate.{tree}
-use Rattle.records.specs.Gate.GateLaws.{front, front-record}
-use Rattle.records.specs.Format.Written.{event-written}
+use Rattle.records.specs.Gate.Gate.{tree, front-record}
+use Rattle.records.specs.Gate.GateLaws.{front-is-record}
+use Rattle.records.specs.Format.WrittenLaws.{event-written}
 use Rattle.records.specs.Gate.Reply.{through, reply-with}
 use Rattle.stepper.specs.Services.Layers.{Layers, ProgramSound, Lawful}
-use Rattle.stepper.specs.Rules.Machine.{LimitLaws, Answer, refused, gives}
+use Rattle.stepper.specs.Rules.Machine.{LimitLaws, StepOutcome, refused, gives}
 use Rattle.stepper.specs.Rules.Rules.{fitting, step, first-event, accepted, Lent, attempt}
 use Rattle.stepper.specs.Rules.Formed.{EventSound, CountsFit, LawfulMachine}
 use Rattle.stepper.specs.Rules.AnswerLaws.{Given, fitting-put, accepted-gives}
@@ -50,9 +50,9 @@ unfolding record-limit too-long
 fits-limit e h = ap too-long (le-ltb 32768 (length (event-record e)) h)
 
 -- the front of a buffer that begins with an event's record is that record
-pub front-event : (e : Event) (rest : List ℕ) → record-limit e ≡ none → front (event-record e ++ rest) ≡ event-record e
+pub front-event : (e : Event) (rest : List ℕ) → record-limit e ≡ none → front-record (event-record e ++ rest) ≡ event-record e
 unfolding record-of
-front-event e rest h = front-record (event-bytes e) rest (omega (arith, limit-fits e h))
+front-event e rest h = front-is-record (event-bytes e) rest (omega (arith, limit-fits e h))
 
 -- each part takes a byte or more, so a record has no more parts than bytes
 each-long : {A : Type 0} (f : A → List ℕ) → ((x : A) → 1 ≤ length (f x)) → (l : List A) → length l ≤ length (each f l)
@@ -101,7 +101,7 @@ not-done zero out h = absurd (h refl)
 not-done (suc n) out h = refl
 
 -- what the next step gets is the record of the event that the answer gives
-next-reply : (out : List ℕ) (a : Answer) → Given Recordable a
+next-reply : (out : List ℕ) (a : StepOutcome) → Given Recordable a
     → next-record (reply out a .number) (reply out a .output) ≡ Option·map event-record (accepted a)
 unfolding next-record reply-with accepted
 next-reply out (refused q) f = not-done (question-number q) out (number-positive q)
@@ -128,7 +128,7 @@ start-record L laws q =
     let given = reply-gives event-record (q .buffer) (first-answer L (q .query) n) (q .done) in
     let r = fitting-put (record-limit e) (gives e) (given .0) (room-gives n _ (sym answer ∙ given .1) .1) in
     let formed = laws .query-read (q .query) (q .bytes) (q .goal) (q .reads) in (
-      ap (λ a. front (reply (q .buffer) a .output)) (given .1 ∙ sym (r .1)) ∙ front-event e _ (r .0),
+      ap (λ a. front-record (reply (q .buffer) a .output)) (given .1 ∙ sym (r .1)) ∙ front-event e _ (r .0),
       (((formed, (omega arith, tt), (omega arith, tt)), refl), r .0),
     )
 
@@ -154,7 +154,7 @@ module _ (L : Layers) (laws : Lawful L) (c : Program L) where
   given-recordable : (l : Lent) (d : Event) → Recordable d → Given Recordable (attempt (rules-of c) l d)
   given-recordable l d f = go (attempt (rules-of c) l d) refl
     where
-      go : (a : Answer) → attempt (rules-of c) l d ≡ a → Given Recordable a
+      go : (a : StepOutcome) → attempt (rules-of c) l d ≡ a → Given Recordable a
       go (refused q) h = tt
       go (gives e) h = attempt-recordable l d e f h
 
@@ -196,7 +196,7 @@ module _ (L : Layers) (laws : Lawful L) (c : Program L) where
   unfolding accepted
   serve-accepts m e r f h = go (attempt (rules-of c) (lent m) e) (sym (serve-agrees m e f) ∙ h)
     where
-      go : (a : Answer) → Option·map event-record (accepted a) ≡ some r → (d : Event) × (r ≡ event-record d) × (a ≡ gives d)
+      go : (a : StepOutcome) → Option·map event-record (accepted a) ≡ some r → (d : Event) × (r ≡ event-record d) × (a ≡ gives d)
       go (refused q) k = absurd (Option·none-ne-some r k)
       go (gives d) k = (d, sym (Option·some-injective (event-record d) r k), refl)
 

@@ -1,4 +1,4 @@
--- The services on bytes: first event, step forward and step back, each a number and an output afterwards, for every input; and lists of steps.
+-- The services on bytes (SPECIFICATION 8.2 to 8.4, 9.1): first event, step forward and step back, each a number and an output afterwards, for every input; and lists of steps.
 use mathlib.Core.Path.{_≡_}
 use mathlib.Core.Bool.{Bool, true, false}
 use mathlib.Core.List.{List}
@@ -10,12 +10,11 @@ use Rattle.records.specs.Format.Syntax.{Goal, Event, Definition}
 use Rattle.records.specs.Format.Encode.{event-record}
 use Rattle.records.specs.Gate.Question.{Question, fits}
 use Rattle.records.specs.Format.HeadLaws.{Bytes}
-use Rattle.records.specs.Gate.Gate.{tree}
-use Rattle.records.specs.Gate.GateLaws.{front}
+use Rattle.records.specs.Gate.Gate.{tree, front-record}
 use Rattle.records.specs.Gate.Reply.{Reply, through, reply-with}
 use Rattle.records.specs.Gate.Door.{event-door, with-room, gate}
 use Rattle.stepper.specs.Services.Layers.{Layers}
-use Rattle.stepper.specs.Rules.Machine.{Machine, Answer, refused, gives}
+use Rattle.stepper.specs.Rules.Machine.{Machine, StepOutcome, refused, gives}
 use Rattle.stepper.specs.Rules.Rules.{fitting, first-event, Lent, step}
 use Rattle.stepper.specs.Walks.Walk.{Direction, forward, back, Tally, walk}
 
@@ -33,12 +32,12 @@ abbrev pub machine : Layers → List Definition → Machine
 machine L P = record { unify = L .unify; body = L .body P; result-limit = record-limit; candidate-limit = record-limit }
 
 -- a refusal leaves the output untouched, and a written record the bytes after it
-abbrev pub reply : List ℕ → Answer → Reply
+abbrev pub reply : List ℕ → StepOutcome → Reply
 reply out a = reply-with event-record out a
 
 module _ (L : Layers) where
   -- query to first event: 11 to 14 of the query, then 5 and 10
-  unfoldable pub first-answer : List ℕ → ℕ → Answer
+  unfoldable pub first-answer : List ℕ → ℕ → StepOutcome
   unfolding through event-door with-room fitting record-limit first-event
   first-answer query room =
       through refused (event-door (L .read-query query))
@@ -49,7 +48,7 @@ module _ (L : Layers) where
   first-record query out = reply out (first-answer query (length out))
 
   -- one step: 1 to 4 of the program, 11 to 14 of the event, then 5, then 6 to 10 and the last 7
-  unfoldable pub step-answer : List ℕ → Lent → List ℕ → Answer
+  unfoldable pub step-answer : List ℕ → Lent → List ℕ → StepOutcome
   unfolding through gate step
   step-answer program l event =
       through refused (gate (L .read-program program) (L .read-event event) (l .room)) (λ t. step (machine L (t .program)) (l .direction) (t .event))
@@ -60,8 +59,8 @@ module _ (L : Layers) where
 
 -- what the next step gets: the record at the front of the output, if the number is 0
 unfoldable pub next-record : ℕ → List ℕ → Option (List ℕ)
-unfolding front
-next-record zero out = some (front out)
+unfolding front-record
+next-record zero out = some (front-record out)
 next-record (suc n) out = none
 
 -- one step of a list: its direction, and the output that it is lent, of any length and content
@@ -108,7 +107,7 @@ pub record Start (L : Layers) : Type 0 where
 
 -- the record of that first event
 abbrev pub start : {L : Layers} → Start L → List ℕ
-start {L} q = front (first-record L (q .query) (q .buffer) .output)
+start {L} q = front-record (first-record L (q .query) (q .buffer) .output)
 
 -- a list of steps under a program, from there: the record at which it ends, and how many steps were accepted
 abbrev pub served : {L : Layers} → Program L → Start L → List Move → Tally (List ℕ)

@@ -23,7 +23,7 @@ use Rattle.stepper.specs.Rules.RefusalLaws.{forward-refused-iff}
 use Rattle.stepper.specs.Rules.Sources.{Source}
 use Rattle.stepper.specs.Rules.SourceLaws.{back-iff}
 use Rattle.stepper.specs.Rules.BackRefusalLaws.{back-refused-iff}
-use Rattle.stepper.specs.Rules.Limits.{step-admitted}
+use Rattle.stepper.specs.Rules.AdmittedLaws.{step-admitted}
 use Rattle.stepper.specs.Services.Services.{reply, step-answer, step-record, Program, rules-of}
 use Rattle.stepper.specs.Services.ServiceLaws.{limit-fits, fits-limit, rules-lawful, read-recordable}
 

@@ -7,14 +7,14 @@ use Rattle.records.specs.Format.Syntax.{Terms, atom, Ancestor, called, Bet, Por
 use Rattle.records.specs.Gate.Gate.{tree, read-program, read-event}
 use Rattle.terms.specs.Body.Body.{body}
 use Rattle.terms.specs.declared.variables.Frame.{Frame}
-use Rattle.stepper.specs.Rules.Machine.{Answer}
+use Rattle.stepper.specs.Rules.Machine.{StepOutcome}
 use Rattle.stepper.specs.Rules.Rules.{by-body, limited-by}
 use Rattle.stepper.specs.Services.Services.{record-limit}
 use Rattle.stepper.specs.Plans.View.{event-view}
 use Rattle.stepper.specs.declared.view.View.{View}
 
 -- an atom stays, with another port, if it has no definition, else its body is reached under it
-unfoldable pub settled-atom : List Definition → (undefined-port defined-port : Port) → ℕ → Terms → List Ancestor → List Bet → Answer
+unfoldable pub settled-atom : List Definition → (undefined-port defined-port : Port) → ℕ → Terms → List Ancestor → List Bet → StepOutcome
 unfolding limited-by by-body
 settled-atom P p q k ts u s = limited-by record-limit false (by-body (body P k ts u s) (event p (atom k ts) u s) (λ g. event q g (called k ts ∷ u) s))
 

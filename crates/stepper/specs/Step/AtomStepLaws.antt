@@ -22,18 +22,18 @@ use Rattle.terms.specs.Standing.Accepted.{frame-of, atom-moved, accepted-atom}
 use Rattle.terms.specs.Unifier.Told.{BodyHere, BodyLong, BodyTold, body-told}
 use Rattle.terms.specs.declared.body.BodyAnswer.{BodyAnswer}
 use Rattle.stepper.specs.declared.emit.StepAnswer.{StepAnswer}
-use Rattle.stepper.specs.Rules.Machine.{Answer, gives}
+use Rattle.stepper.specs.Rules.Machine.{StepOutcome, gives}
 use Rattle.stepper.specs.Rules.Rules.{by-body, limited-by, from-call, rule, step-forward, into-fail, candidate, step-back}
 use Rattle.stepper.specs.Services.Services.{record-limit, machine}
 use Rattle.stepper.specs.Plans.View.{event-view}
 use Rattle.stepper.specs.Plans.Layouts.{kept}
 use Rattle.stepper.specs.Plans.Made.{Plans}
 use Rattle.stepper.specs.Plans.LayoutLaws.{kept-within, kept-plans}
-use Rattle.stepper.specs.Step.Stepped.{Stepped, refusal-of, Passed}
+use Rattle.stepper.specs.Step.Stepped.{Stepped, refusal-of, BothPassed}
 use Rattle.stepper.specs.Step.SteppedLaws.{stepped-refused, long-refused, event-short, event-limited}
 use Rattle.stepper.specs.Step.Completed.{Gap, lent-part, handed-back, InOrder, body-front, body-back, body-ends, Completed}
 use Rattle.stepper.specs.Step.CompletedLaws.{lent-room, lent-fits, lent-put, stepped-completed, in-order, body-place, body-record, body-record-length, body-ends-are}
-use Rattle.stepper.specs.Rules.Limits.{back-settled, put-always}
+use Rattle.stepper.specs.Rules.AdmittedLaws.{back-settled, put-always}
 use Rattle.stepper.specs.Step.AtomStep.{settled-atom, AtomViewed, goal-frame, ProgramRead}
 use Rattle.stepper.specs.declared.view.View.{View}
 use Rattle.stepper.specs.Rules.AnswerLaws.{given-body}
@@ -69,7 +69,7 @@ module _ {s : List ℕ} {v : View} (known : Known s) (w : AtomViewed s v) (p q :
     abbrev its-body : Body
     its-body = body P (w .predicate) (w .terms) (w .ancestors) (w .bets)
 
-    abbrev its-answer : Answer
+    abbrev its-answer : StepOutcome
     its-answer = settled-atom P p q (w .predicate) (w .terms) (w .ancestors) (w .bets)
 
     module _ {before after : List ℕ} where
@@ -130,7 +130,7 @@ module _ (P : List Definition) (u : List Ancestor) (s : List Bet) where
       back-settled (machine layers P) (machine-limits layers P) (event fail (atom k ts) u s) n
       (given-body (λ c. Rule (machine layers P) c (event fail (atom k ts) u s)) (body P k ts u s) _ _ (λ h. atom-undefined h) (λ g h. atom-fail))
 
-module _ {program s : List ℕ} (known : Known s) (w : Passed program s) {before after : List ℕ} {answer : StepAnswer} where
+module _ {program s : List ℕ} (known : Known s) (w : BothPassed program s) {before after : List ℕ} {answer : StepAnswer} where
   pub forward-atom : (f : AtomOf call (w .event)) → Stepped (settled-atom (w .definitions) fail call (f .predicate) (f .terms) (f .ancestors) (f .bets)) before answer after
       → Stepped (step-forward (machine layers (w .definitions)) (w .event)) before answer after
   forward-atom f m = rw (f .is, call-atom (w .definitions) (f .ancestors) (f .bets) (f .predicate) (f .terms) (event-limited s known _ (w .reads ∙ ap tree (f .is)))) m
@@ -140,7 +140,7 @@ module _ {program s : List ℕ} (known : Known s) (w : Passed program s) {before
   back-atom f m = rw (f .is, fail-atom (w .definitions) (f .ancestors) (f .bets) (f .predicate) (f .terms) (event-limited s known _ (w .reads ∙ ap tree (f .is)))) m
 
 -- from an accepted event and its view to what the code asks for
-module _ {program s : List ℕ} (known : Known s) (w : Passed program s) {v : View} (same : v ≡ event-view (w .event)) where
+module _ {program s : List ℕ} (known : Known s) (w : BothPassed program s) {v : View} (same : v ≡ event-view (w .event)) where
   abbrev pub program-read : ProgramRead program
   program-read = record { definitions = w .definitions; reads = w .program-reads }
 

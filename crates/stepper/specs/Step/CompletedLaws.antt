@@ -7,6 +7,7 @@ use native.Mathlib.Nat.{zero-add}
 use native.Mathlib.Numerals.{add-one}
 use native.Mathlib.Omega.{arith}
 use lib.ListN.{length, length-append, length-take, length-drop, take-append-drop}
+use Rattle.records.specs.Gate.ReplyLaws.{gives-injective}
 use Rattle.records.specs.Format.Syntax.{Terms, Goal, atom, Ancestor, called, Binding, Bet, unifier, Port, Event, event}
 use Rattle.records.specs.Format.Encode.{word, each, counted, goal-bytes, ancestor-bytes, bet-bytes, port-byte, event-bytes, event-record, record-of, record-head}
 use Rattle.records.specs.Writing.Patched.{Put, put-length, put-part, put-around, put-front}
@@ -83,15 +84,12 @@ stepped-completed e {before} {after = after} {answer = answer} h l a m is ends p
     rw (fits-limit e l, fitting-none) (record {
       number-is = ap (λ x. x .number) (c .is);
       length-is = whole .place ∙ zero-add _;
-      ends-are = λ d k. ap (λ x. x .ends) (c .is) ∙ ends ∙ ap part-ends (same d k);
+      ends-are = λ d k. ap (λ x. x .ends) (c .is) ∙ ends ∙ ap part-ends (gives-injective k);
       output-is = put-front whole (omega arith);
     })
   where
     whole : Put before 0 (event-record e) after (answer .length)
     whole = rw is at (put-around a m put (c .around))
-
-    same : (d : Event) → gives e ≡ gives d → e ≡ d
-    same d k = cc
 
 regrouped : (a b c d : List ℕ) → ((a ++ b) ++ c) ++ d ≡ a ++ (b ++ (c ++ d))
 regrouped a b c d = simp append-assoc

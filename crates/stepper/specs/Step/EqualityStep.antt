@@ -6,14 +6,14 @@ use Prim.Native.Nat.{ℕ}
 use Rattle.records.specs.Format.Syntax.{Term, equal, Ancestor, Bet, unifier, Port, event}
 use Rattle.records.specs.Gate.Gate.{tree, read-event}
 use Rattle.terms.specs.Theory.Outcome.{unified-under}
-use Rattle.stepper.specs.Rules.Machine.{Answer}
+use Rattle.stepper.specs.Rules.Machine.{StepOutcome}
 use Rattle.stepper.specs.Rules.Rules.{by-unifier, limited-by}
 use Rattle.stepper.specs.Services.Services.{record-limit}
 use Rattle.stepper.specs.Plans.View.{event-view}
 use Rattle.stepper.specs.declared.view.View.{View}
 
 -- an equality goes to one port if its terms have no unifier, else to another with the unifier put on S
-unfoldable pub settled-equality : (clash-port found-port : Port) → Term → Term → List Ancestor → List Bet → Answer
+unfoldable pub settled-equality : (clash-port found-port : Port) → Term → Term → List Ancestor → List Bet → StepOutcome
 unfolding limited-by by-unifier
 settled-equality p q l r u s = limited-by record-limit false (by-unifier (unified-under s l r) (event p (equal l r) u s) (λ m. event q (equal l r) u (unifier m ∷ s)))
 

@@ -17,25 +17,25 @@ use Rattle.records.specs.Ends.Places.{goal-end, EventParts, event-parts}
 use Rattle.records.specs.declared.put.Range.{Range}
 use Rattle.records.specs.Gate.Gate.{tree}
 use Rattle.terms.specs.Theory.Outcome.{Unified, too-large, clash, unified-under}
-use Rattle.terms.specs.Standing.BetRow.{Bets}
+use Rattle.terms.specs.Standing.BetRow.{RuledBets}
 use Rattle.terms.specs.Values.Applied.{TermAt}
 use Rattle.terms.specs.Standing.Accepted.{bets-at, bets-moved, term-moved, accepted-bets, left-side, right-side}
 use Rattle.terms.specs.Unifier.Equality.{unifier-bytes, UnifierAnswered}
 use Rattle.terms.specs.Unifier.Told.{UnifierHere, UnifierLong, Told, told}
 use Rattle.terms.specs.declared.equality.UnifierAnswer.{UnifierAnswer}
 use Rattle.stepper.specs.declared.emit.StepAnswer.{StepAnswer}
-use Rattle.stepper.specs.Rules.Machine.{Answer, gives}
+use Rattle.stepper.specs.Rules.Machine.{StepOutcome, gives}
 use Rattle.stepper.specs.Rules.Rules.{by-unifier, limited-by, from-call, rule, step-forward, into-fail, candidate, step-back}
 use Rattle.stepper.specs.Services.Services.{record-limit, machine}
 use Rattle.stepper.specs.Plans.View.{event-view}
 use Rattle.stepper.specs.Plans.Layouts.{kept}
 use Rattle.stepper.specs.Plans.Made.{Plans}
 use Rattle.stepper.specs.Plans.LayoutLaws.{kept-within, kept-plans}
-use Rattle.stepper.specs.Step.Stepped.{Stepped, refusal-of, Passed}
+use Rattle.stepper.specs.Step.Stepped.{Stepped, refusal-of, BothPassed}
 use Rattle.stepper.specs.Step.SteppedLaws.{stepped-refused, long-refused, event-short, event-limited}
 use Rattle.stepper.specs.Step.Completed.{Gap, lent-part, handed-back, InOrder, unifier-front, unifier-back, unifier-ends, Completed}
 use Rattle.stepper.specs.Step.CompletedLaws.{lent-room, lent-fits, lent-put, stepped-completed, in-order, unifier-place, unifier-record, unifier-record-length, unifier-ends-are}
-use Rattle.stepper.specs.Rules.Limits.{back-settled, put-always}
+use Rattle.stepper.specs.Rules.AdmittedLaws.{back-settled, put-always}
 use Rattle.stepper.specs.Step.EqualityStep.{settled-equality, EqualityViewed}
 use Rattle.stepper.specs.declared.view.View.{View}
 use Rattle.stepper.specs.Rules.AnswerLaws.{given-unifier}
@@ -67,7 +67,7 @@ module _ {s : List ℕ} {v : View} (known : Known s) (w : EqualityViewed s v) wh
     end = ap (λ x. x .goal .to) (w .same);
   }
 
-  abbrev pub equality-bets : Bets s (v .bets .from) (v .bets .count)
+  abbrev pub equality-bets : RuledBets s (v .bets .from) (v .bets .count)
   equality-bets = bets-moved (equality-places .bets-from) (equality-places .bets-count) (accepted-bets s known (equal (w .left) (w .right)) (w .reads))
 
   abbrev pub equality-left : TermAt s (v .goal .content) (v .goal .middle)
@@ -88,7 +88,7 @@ module _ {s : List ℕ} {v : View} (known : Known s) (w : EqualityViewed s v) (p
   abbrev its-unifier : Unified
   its-unifier = unified-under (w .bets) (w .left) (w .right)
 
-  abbrev its-answer : Answer
+  abbrev its-answer : StepOutcome
   its-answer = settled-equality p q (w .left) (w .right) (w .ancestors) (w .bets)
 
   module _ {before after : List ℕ} where
@@ -149,7 +149,7 @@ module _ (P : List Definition) (u : List Ancestor) (s : List Bet) where
       back-settled (machine layers P) (machine-limits layers P) (event fail (equal l r) u s) n
       (given-unifier (λ c. Rule (machine layers P) c (event fail (equal l r) u s)) (unified-under s l r) _ _ (λ h. equal-clash h) (λ m h. equal-redo))
 
-module _ {program s : List ℕ} (known : Known s) (w : Passed program s) {before after : List ℕ} {answer : StepAnswer} where
+module _ {program s : List ℕ} (known : Known s) (w : BothPassed program s) {before after : List ℕ} {answer : StepAnswer} where
   pub forward-equality : (f : EqualityOf call (w .event)) → Stepped (settled-equality fail exit (f .left) (f .right) (f .ancestors) (f .bets)) before answer after
       → Stepped (step-forward (machine layers (w .definitions)) (w .event)) before answer after
   forward-equality f m = rw (f .is, call-equality (w .definitions) (f .ancestors) (f .bets) (f .left) (f .right) (event-limited s known _ (w .reads ∙ ap tree (f .is)))) m
@@ -159,7 +159,7 @@ module _ {program s : List ℕ} (known : Known s) (w : Passed program s) {before
   back-equality f m = rw (f .is, fail-equality (w .definitions) (f .ancestors) (f .bets) (f .left) (f .right) (event-limited s known _ (w .reads ∙ ap tree (f .is)))) m
 
 -- from an accepted event and its view to what the code asks for
-module _ {program s : List ℕ} (known : Known s) (w : Passed program s) {v : View} (same : v ≡ event-view (w .event)) where
+module _ {program s : List ℕ} (known : Known s) (w : BothPassed program s) {v : View} (same : v ≡ event-view (w .event)) where
   abbrev pub equality-viewed : {p : Port} → EqualityOf p (w .event) → EqualityViewed s v
   equality-viewed {p} f = record {
     port = p;

@@ -1,12 +1,13 @@
 -- The last question 7 where it is a comparison: equal bytes are the same unifier, and the same body; and the number determines the step.
 use mathlib.Core.Path.{_≡_, refl, sym, ap, _∙_}
-use mathlib.Core.Bool.{Bool, true, false, true≢false}
+use mathlib.Core.Bool.{Bool, true, false}
 use mathlib.Core.List.{List, [], _∷_}
 use mathlib.Core.Logic.{⊎-elim}
 use mathlib.Core.Option.{none}
 use Prim.Native.Nat.{ℕ, _+_, _≤_, _<_}
 use native.Mathlib.Omega.{arith}
 use lib.ListN.{length, length-append}
+use Rattle.records.specs.Format.Never.{never}
 use Rattle.records.specs.Format.Syntax.{Goal, equal, called, Binding, unifier, Term, Terms, atom, Ancestor, Bet, event, Definition, Event, call, exit}
 use Rattle.records.specs.Format.Encode.{term-bytes, goal-bytes, bet-bytes, event-record, record-of}
 use Rattle.records.specs.Format.Formed.{GoalFormed, BetFormed}
@@ -26,26 +27,26 @@ use Rattle.terms.specs.Theory.Outcome.{Unified, too-large, clash, unified, unif
 use Rattle.terms.specs.Theory.OutcomeLaws.{unified-formed}
 use Rattle.terms.specs.Body.Body.{Body, too-many, undefined, defined, body}
 use Rattle.terms.specs.Body.BodyLaws.{body-formed}
-use Rattle.terms.specs.Standing.BetRow.{Bets}
+use Rattle.terms.specs.Standing.BetRow.{RuledBets}
 use Rattle.terms.specs.Values.Applied.{TermAt}
 use Rattle.terms.specs.Body.BodyBytes.{AtomAt}
 use Rattle.terms.specs.Unifier.Equality.{unifier-bytes}
 use Rattle.terms.specs.Standing.Accepted.{top-end, bets-at, frame-under, bets-moved, term-moved, atom-moved, accepted-rest, left-side, right-side, parts-under}
 use Rattle.terms.specs.declared.variables.Frame.{Frame}
 use Rattle.terms.specs.Unifier.Told.{UnifierHere, UnifierLong, BodyHere, BodyLong}
-use Rattle.stepper.specs.Rules.Machine.{unified?, body?, Answer, gives, Machine, refused}
+use Rattle.stepper.specs.Rules.Machine.{unified?, body?, StepOutcome, gives, Machine, refused}
 use Rattle.stepper.specs.Plans.View.{event-view}
 use Rattle.stepper.specs.Plans.ViewLaws.{top-stands, rest-stands}
 use Rattle.stepper.specs.Plans.Made.{Cuts, cuts, put-cuts, Plans}
 use Rattle.stepper.specs.Plans.LayoutLaws.{goal-starts, goal-ends, goal-stops, bet-dropped-plans, atom-left-plans}
-use Rattle.stepper.specs.Rules.Limits.{back-refuses}
+use Rattle.stepper.specs.Rules.AdmittedLaws.{back-refuses}
 use Rattle.stepper.specs.Step.AtomStep.{ProgramRead}
 use Rattle.stepper.specs.Step.LastSeven.{compared-number, unifier-number, body-number, UnifierViewed, BodyViewed, ancestor-frame}
 use Rattle.stepper.specs.Step.SteppedLaws.{event-limited}
 use Rattle.stepper.specs.declared.view.View.{View}
 use Rattle.stepper.specs.Rules.Rules.{by-unifier, by-body, limited-by, fitting, matching, top-unifier, ununifiable, into-call, into-exit, candidate, step-back}
 use Rattle.stepper.specs.Services.Services.{record-limit, machine}
-use Rattle.stepper.specs.Step.Stepped.{Passed, Determines, refuses, emits}
+use Rattle.stepper.specs.Step.Stepped.{BothPassed, Determines, refuses, emits}
 use Rattle.stepper.specs.Rules.AnswerLaws.{fitting-none}
 use Rattle.stepper.specs.Rules.Back.{body-compared, unifier-compared, compared, checked-directly, step-back-direct}
 use Rattle.stepper.specs.Rules.BackLaws.{step-back-directly}
@@ -67,7 +68,7 @@ compared-no (no p) h = refl
 
 compared-by {ℓ} : {P : Type ℓ} (d : Dec P) (b : Bool) → (b ≡ true → P) → (P → b ≡ true) → pick b 0 7 ≡ compared-number d
 compared-by d true f g = sym (compared-yes d (f refl))
-compared-by d false f g = sym (compared-no d (λ p. true≢false (sym (g p))))
+compared-by d false f g = sym (compared-no d (λ p. never (sym (g p))))
 
 -- the bet on top is as long as its bytes, so a longer unifier is another
 module _ {s : List ℕ} {v : View} (known : Known s) (w : UnifierViewed s v) where
@@ -94,7 +95,7 @@ module _ {s : List ℕ} {v : View} (known : Known s) (w : UnifierViewed s v) whe
   unfolding event-view
   unifier-end = ap (λ x. x .goal .to) (w .same)
 
-  abbrev pub rest-bets : Bets s (v .bets .rest) (v .bets .fewer)
+  abbrev pub rest-bets : RuledBets s (v .bets .rest) (v .bets .fewer)
   rest-bets = bets-moved rest-from rest-count (accepted-rest s known (equal (w .left) (w .right)) (unifier (w .bindings)) (w .reads))
 
   abbrev pub unifier-left : TermAt s (v .goal .content) (v .goal .middle)
@@ -120,7 +121,7 @@ module _ {s : List ℕ} {v : View} (known : Known s) (w : UnifierViewed s v) whe
 
   pub unifier-clash : its-unifier ≡ clash → 7 ≡ unifier-number its-unifier (w .bindings)
   unfolding unifier-number
-  unifier-clash h = rw h (sym (compared-no (unified? clash (unified (w .bindings))) (λ e. let z : _≡_ {A = ℕ} 0 1 = cc in omega arith)))
+  unifier-clash h = rw h (sym (compared-no (unified? clash (unified (w .bindings))) (λ e. never cc)))
 
   pub unifier-same : {before x : List ℕ} {n : ℕ} {r : ℕ} → UnifierHere its-unifier before x n
       → r ≡ pick (same-bytes (cut x (record { from = 0; to = n })) (cut s (record { from = v .bet .content; to = v .bet .to }))) 0 7
@@ -183,7 +184,7 @@ module _ {program s : List ℕ} {v : View} (byte : Known program) (known : Known
 
   pub body-missing : its-body ≡ undefined → 7 ≡ body-number its-body (w .goal)
   unfolding body-number
-  body-missing h = rw h (sym (compared-no (body? undefined (defined (w .goal))) (λ e. let z : _≡_ {A = ℕ} 0 1 = cc in omega arith)))
+  body-missing h = rw h (sym (compared-no (body? undefined (defined (w .goal))) (λ e. never cc)))
 
   pub body-same : {before x : List ℕ} {n : ℕ} {r : ℕ} → BodyHere its-body before x n
       → r ≡ pick (same-bytes (cut x (record { from = 0; to = n })) (cut s (record { from = v .goal .from; to = v .goal .to }))) 0 7
@@ -216,7 +217,7 @@ module _ {program s : List ℕ} {v : View} (byte : Known program) (known : Known
       far l = let e = event-tree s (bytes-all s known) _ (w .reads) .short in omega (arith, goal-stops body-parts)
 
 -- a step back that ends in a comparison
-compared-determined {ℓ} : {P : Type ℓ} {s : List ℕ} {p : Plan} {a : Answer} {k : ℕ} (b : Bool) (c : Event) (d : Dec P)
+compared-determined {ℓ} : {P : Type ℓ} {s : List ℕ} {p : Plan} {a : StepOutcome} {k : ℕ} (b : Bool) (c : Event) (d : Dec P)
     → record-limit c ≡ none → a ≡ fitting b (record-limit c) (matching d c) → k ≡ compared-number d → Plans s p c → Determines k p s a
 unfolding matching compared-number question-number limited-by
 compared-determined b c (yes p) l e i w = emits i w (e ∙ rw l (fitting-none b (gives c) ∙ sym (fitting-none false (gives c))))
@@ -296,7 +297,7 @@ module _ (P : List Definition) {k : ℕ} {t : List ℕ} {plan : Plan} where
           compared-determined (ununifiable M c) c (body? (defined b) (defined g)) short (asked (defined b) q refl) (i ∙ ap (λ z. body-number z g) q) w
 
 -- from an accepted event and its view to what the code asks for, and to the step
-module _ {program s : List ℕ} (known : Known s) (w : Passed program s) {v : View} (same : v ≡ event-view (w .event)) where
+module _ {program s : List ℕ} (known : Known s) (w : BothPassed program s) {v : View} (same : v ≡ event-view (w .event)) where
   abbrev pub unifier-viewed : UnifierOf (w .event) → UnifierViewed s v
   unifier-viewed f = record {
     port = exit;

@@ -21,8 +21,8 @@ use Rattle.stepper.specs.Plans.Dispatch.{no-rule-number, no-source-numbe
 use Rattle.stepper.specs.Plans.DispatchLaws.{Not, forward-found, forward-led, back-found, back-led}
 use Rattle.stepper.specs.Plans.Halves.{HalfWhere, half-refusal, Leaves, LeavesBack, Like}
 use Rattle.stepper.specs.Plans.HalfLaws.{half-where, Half?, right, wrong, forward-half, back-half}
-use Rattle.stepper.specs.Rules.Limits.{forward-put, back-put, forward-refuses, back-refuses}
-use Rattle.stepper.specs.Step.Stepped.{Stepped, refusal-of, Passed, Determines, refuses, emits}
+use Rattle.stepper.specs.Rules.AdmittedLaws.{forward-put, back-put, forward-refuses, back-refuses}
+use Rattle.stepper.specs.Step.Stepped.{Stepped, refusal-of, BothPassed, Determines, refuses, emits}
 use Rattle.stepper.specs.Step.SteppedLaws.{stepped-refused, event-limited}
 use Rattle.stepper.specs.declared.view.View.{View}
 
@@ -30,7 +30,7 @@ use Rattle.stepper.specs.declared.view.View.{View}
 parts-of : (s : List ℕ) → Known s → (e : Event) → read-event s ≡ tree e → PartsOf s e
 parts-of s known (event p g u b) h = event-parts s known p g u b h
 
-module _ {program s : List ℕ} (known : Known s) (w : Passed program s) {v : View} (same : v ≡ event-view (w .event)) where
+module _ {program s : List ℕ} (known : Known s) (w : BothPassed program s) {v : View} (same : v ≡ event-view (w .event)) where
   abbrev M : Machine
   M = machine layers (w .definitions)
 

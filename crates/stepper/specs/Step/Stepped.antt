@@ -10,24 +10,24 @@ use Rattle.records.specs.Format.Encode.{event-record}
 use Rattle.records.specs.Gate.Question.{Question, question-number}
 use Rattle.records.specs.Gate.Reply.{answer-number}
 use Rattle.records.specs.Gate.Door.{gate}
-pub use Rattle.records.specs.Gate.Door.{Passed}
+pub use Rattle.records.specs.Gate.Door.{BothPassed}
 use Rattle.records.specs.Gate.Gate.{read-program, read-event}
 use Rattle.records.specs.Ends.Places.{part-ends}
 use Rattle.records.specs.declared.plan.Plan.{Plan}
 use Rattle.records.specs.declared.places.PartEnds.{PartEnds}
 use Rattle.stepper.specs.declared.emit.StepAnswer.{StepAnswer}
-use Rattle.stepper.specs.Rules.Machine.{Answer, refused, gives}
+use Rattle.stepper.specs.Rules.Machine.{StepOutcome, refused, gives}
 use Rattle.stepper.specs.Rules.Rules.{limited-by}
 use Rattle.stepper.specs.Services.Services.{record-limit, reply}
 use Rattle.stepper.specs.Plans.Made.{Plans}
 
 -- how long the record of an answer's event is; a refusal has none
-unfoldable pub given-length : Answer → ℕ
+unfoldable pub given-length : StepOutcome → ℕ
 given-length (refused q) = 0
 given-length (gives e) = length (event-record e)
 
 -- the number, the length of the record that was written, where its parts end, and the output afterwards are the answer's
-pub record Stepped (a : Answer) (before : List ℕ) (answer : StepAnswer) (after : List ℕ) : Type 0 where
+pub record Stepped (a : StepOutcome) (before : List ℕ) (answer : StepAnswer) (after : List ℕ) : Type 0 where
   pub number-is : answer .number ≡ reply before a .number
   pub length-is : answer .length ≡ given-length a
   pub ends-are : (e : Event) → a ≡ gives e → answer .ends ≡ part-ends e
@@ -41,7 +41,7 @@ abbrev pub accepted-of : ℕ → PartEnds → StepAnswer
 accepted-of n ends = record { number = 0; length = n; ends = ends }
 
 -- the number of a question and a plan over s determine a step's answer: the question refuses, or the plan's event is given under question 10
-pub data Determines (n : ℕ) (p : Plan) (s : List ℕ) (a : Answer) : Type 0 where
+pub data Determines (n : ℕ) (p : Plan) (s : List ℕ) (a : StepOutcome) : Type 0 where
   refuses : (q : Question) → n ≡ question-number q → a ≡ refused q → Determines n p s a
   emits : {e : Event} → n ≡ 0 → Plans s p e → a ≡ limited-by record-limit false (gives e) → Determines n p s a
 

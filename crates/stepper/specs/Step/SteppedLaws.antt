@@ -4,7 +4,6 @@ use mathlib.Core.Bool.{Bool, true, false}
 use mathlib.Core.List.{List}
 use mathlib.Core.Option.{none}
 use Prim.Native.Nat.{ℕ, _≤_, _<_}
-use native.Mathlib.Omega.{arith}
 use lib.Dec.{ltb}
 use lib.ListN.{length}
 use borrow.Author.Tests.{le-ltb, ltb-false, lt-ltb}
@@ -20,26 +19,22 @@ use Rattle.records.specs.declared.put.Receipt.{Receipt}
 use Rattle.records.specs.Format.HeadLaws.{Known, bytes-all}
 use Rattle.records.specs.Gate.GateLaws.{event-tree}
 use Rattle.records.specs.Gate.Reply.{through, reply-with, Replied}
-use Rattle.records.specs.Gate.ReplyLaws.{number-positive, number-refuses}
+use Rattle.records.specs.Gate.ReplyLaws.{number-positive, number-refuses, gives-injective, refused-not-gives}
 use Rattle.records.specs.Gate.Door.{gate}
 use Rattle.records.specs.Gate.DoorLaws.{gate-both, gate-open}
 use Rattle.stepper.specs.declared.emit.StepAnswer.{StepAnswer}
-use Rattle.stepper.specs.Rules.Machine.{Answer, refused, gives}
+use Rattle.stepper.specs.Rules.Machine.{StepOutcome, refused, gives}
 use Rattle.stepper.specs.Walks.Walk.{Direction}
 use Rattle.stepper.specs.Rules.Rules.{fitting, limited-by, step}
 use Rattle.stepper.specs.Services.Services.{too-long, record-limit, machine, step-answer, step-record}
 use Rattle.stepper.specs.Services.ServiceLaws.{read-recordable}
 use Rattle.stepper.specs.Services.Desk.{layers, lawful}
 use Rattle.stepper.specs.Plans.Made.{Plans}
-use Rattle.stepper.specs.Step.Stepped.{given-length, Stepped, refusal-of, accepted-of, Determines, refuses, emits, Passed, gate-number}
-
--- a refusal gives no event
-not-given : (q : Question) (c : Event) → refused q ≡ gives c → ⊥
-not-given q c e = let y : _≡_ {A = ℕ} 0 1 = cc in omega arith
+use Rattle.stepper.specs.Step.Stepped.{given-length, Stepped, refusal-of, accepted-of, Determines, refuses, emits, BothPassed, gate-number}
 
 pub stepped-refused : {before : List ℕ} {n : ℕ} (q : Question) → n ≡ question-number q → Stepped (refused q) before (refusal-of n) before
 unfolding given-length reply-with question-number
-stepped-refused q e = record { number-is = e; length-is = refl; ends-are = λ c k. absurd (not-given q c k); output-is = refl }
+stepped-refused q e = record { number-is = e; length-is = refl; ends-are = λ c k. absurd (refused-not-gives k); output-is = refl }
 
 -- a record that is too long is refused
 pub long-refused : {before : List ℕ} (e : Event) → 32768 < length (event-record e) → Stepped (limited-by record-limit false (gives e)) before (refusal-of 10) before
@@ -48,7 +43,7 @@ long-refused e h = rw (lt-ltb 32768 (length (event-record e)) h) (stepped-refuse
 
 -- what is emitted of an event's plan, where the output passes question 5, is the answer under question 10
 module _ {s : List ℕ} {p : Plan} {e : Event} {before after : List ℕ} {emit : Receipt} (h : 32768 ≤ length before) (w : Plans s p e) (m : Emitted before (planned p s) emit after) where
-  abbrev its-answer : Answer
+  abbrev its-answer : StepOutcome
   its-answer = limited-by record-limit false (gives e)
 
   abbrev is-long : Bool
@@ -56,9 +51,6 @@ module _ {s : List ℕ} {p : Plan} {e : Event} {before after : List ℕ} {emit :
 
   emitted : Emitted before (event-record e) emit after
   emitted = rw (w .is) at m
-
-  same : (c : Event) → gives e ≡ gives c → e ≡ c
-  same c k = cc
 
   pub stepped-unemitted : (emit .number ≡ 0 → ⊥) → Stepped its-answer before (refusal-of (emit .number)) after
   unfolding outcome limited-by fitting record-limit too-long question-number
@@ -80,12 +72,12 @@ module _ {s : List ℕ} {p : Plan} {e : Event} {before after : List ℕ} {emit :
       go false q = rw q (record {
         number-is = refl;
         length-is = emitted .length ∙ rw (le-ltb _ _ h, q);
-        ends-are = λ c k. w .ends (ltb-false _ _ q) ∙ ap part-ends (same c k);
+        ends-are = λ c k. w .ends (ltb-false _ _ q) ∙ ap part-ends (gives-injective k);
         output-is = emitted .output ∙ rw (le-ltb _ _ h, q);
       })
 
 -- what a number and a plan determine
-module _ {n : ℕ} {p : Plan} {s : List ℕ} {a : Answer} {before : List ℕ} where
+module _ {n : ℕ} {p : Plan} {s : List ℕ} {a : StepOutcome} {before : List ℕ} where
   pub determined-no : Determines n p s a → (n ≡ 0 → ⊥) → Stepped a before (refusal-of n) before
   determined-no (refuses q i k) z = rw k (stepped-refused q i)
   determined-no (emits i w k) z = absurd (z i)
@@ -95,12 +87,12 @@ module _ {n : ℕ} {p : Plan} {s : List ℕ} {a : Answer} {before : List ℕ} wh
   determined-yes (refuses q i k) z f = absurd (number-positive q (sym i ∙ z))
   determined-yes (emits {e} i w k) z f = rw k (f e w)
 
-pub determined-within : {n : ℕ} {p : Plan} {s : List ℕ} {a : Answer} → Determines n p s a → n ≡ 0 → PlanInside p s
+pub determined-within : {n : ℕ} {p : Plan} {s : List ℕ} {a : StepOutcome} → Determines n p s a → n ≡ 0 → PlanInside p s
 determined-within (refuses q i k) z = absurd (number-positive q (sym i ∙ z))
 determined-within (emits i w k) z = w .within
 
 -- the gate says yes
-pub gate-passed : (program s : List ℕ) {room : ℕ} → gate-number program s room ≡ 0 → Passed program s × (32768 ≤ room)
+pub gate-passed : (program s : List ℕ) {room : ℕ} → gate-number program s room ≡ 0 → BothPassed program s × (32768 ≤ room)
 gate-passed program s {room} h = gate-open program s room (sym h) refl
 
 -- the gate says no
@@ -112,7 +104,7 @@ gate-refused d program s out e z =
     rw (w .refuses) (record { number-is = w .number-is; output-is = refl })
 
 -- a step inside is the service's, once the gate said yes
-pub stepped-replied : (d : Direction) (program s : List ℕ) {out after : List ℕ} {answer : StepAnswer} (w : Passed program s) → 32768 ≤ length out
+pub stepped-replied : (d : Direction) (program s : List ℕ) {out after : List ℕ} {answer : StepAnswer} (w : BothPassed program s) → 32768 ≤ length out
     → Stepped (step (machine layers (w .definitions)) d (w .event)) out answer after → Replied (step-record layers d program s out) (answer .number) after
 unfolding step-record step-answer through
 stepped-replied d program s w h m = rw (gate-both (read-program program) (read-event s) (w .program-reads) (w .reads) h) (record { number-is = m .number-is; output-is = m .output-is })

@@ -5,6 +5,7 @@ use mathlib.Core.List.{List}
 use mathlib.Core.Option.{Option, none, some, Option·map}
 use Prim.Native.Nat.{ℕ, zero, suc, _+_, _≤_}
 use lib.ListN.{length}
+use Rattle.records.specs.Gate.GateLaws.{tree-injective}
 use Rattle.records.specs.Format.Syntax.{Event}
 use Rattle.records.specs.Format.Encode.{event-record}
 use Rattle.records.specs.Gate.Gate.{tree}
@@ -87,8 +88,8 @@ module _ (L : Layers) (laws : Lawful L) (c : Program L) where
             λ a j. serve-gives L laws c _ d t kept (steps-attempt M _ d j ∙ ahead) ∙ ap {B = Option (List ℕ)} some (sym ends),
           )
 
-  -- Demand 3. Two lists of steps, each from the first event of a query, end at records of events d and e; these are equal exactly when the
-  -- two queries' goals are equal and the accepted steps forward less the accepted steps back come to the same number in both.
+  -- Demand 3. Two lists of steps, each from a query's first event, end at the records of two events d and e; these are equal exactly where the goals
+  -- of the queries are and so are the net numbers.
   pub same-end : (p q : Start L) (ms ns : List Move)
       → (d : Event) × (e : Event)
       × (L .read-event (served c p ms .event) ≡ tree d)
@@ -116,9 +117,6 @@ module _ (L : Layers) (laws : Lawful L) (c : Program L) where
       let r = same-end p q ms ns in
       let d = r .0 in
       let e = r .1 in (
-        (λ h. r .4 .0 (same d e (sym (r .2) ∙ ap (L .read-event) h ∙ r .3))),
+        (λ h. r .4 .0 (tree-injective (sym (r .2) ∙ ap (L .read-event) h ∙ r .3))),
         (λ h. laws .event-read _ (served-bytes L laws c p ms) d (r .2) .0 ∙ ap event-record (r .4 .1 h) ∙ sym (laws .event-read _ (served-bytes L laws c q ns) e (r .3) .0)),
       )
-    where
-      same : (d e : Event) → tree d ≡ tree e → d ≡ e
-      same d e h = cc

@@ -1,4 +1,4 @@
--- The demands are not about nothing: the example program and query (SPECIFICATION 8), and a list of steps under them, by evaluation. The query service and the
+-- The demands are not about nothing: the example program and query (SPECIFICATION 8.10), and a list of steps under them, by evaluation. The query service and the
 -- step are lent any buffers that pass question 5, and there is one.
 use mathlib.Core.Path.{_≡_, refl}
 use mathlib.Core.List.{List, [], _∷_}

@@ -6,7 +6,7 @@ use Rattle.stepper.specs.Rules.Machine.{Machine, Admits, LimitLaws, give
 use Rattle.stepper.specs.Rules.Rules.{selected, matching, rule, ununifiable, step-forward, candidate, checked, step-back}
 use Rattle.stepper.specs.Rules.AnswerLaws.{Given, given-matching, given-unifier, given-body, matching-yes, fitting-none}
 use Rattle.stepper.specs.Rules.ListedLaws.{forward-by-rule}
-use Rattle.stepper.specs.Walks.Legal.{Solved, by-truth, by-equal, by-conj, by-disj, by-atom, Called, Legal}
+use Rattle.stepper.specs.Walks.Legal.{Solved, by-truth, by-equal, by-conj, by-disj, by-atom, CalledUnder, Legal}
 
 module _ (M : Machine) (Q : Goal) (Seen : Event → Type 0) where
   -- a step's result is legal, and read back it names the event as its source
@@ -55,7 +55,7 @@ module _ (M : Machine) (Q : Goal) (Seen : Event → Type 0) where
   fail-good g (in-disj second a b ∷ u) s c n = on-goal fail _ s g b _ c n (λ c n. ((c .0 .1, c .0 .2), refl))
   fail-good g (called p ts ∷ u) s c n = ((c .0 .1, c .0 .2), rw (c .0 .0))
 
-  redo-good : (g : Goal) (u : List Ancestor) (r s : List Bet) → Called M Q Seen u g r → Seen (event call g u r) → Solved M Q Seen g u r s
+  redo-good : (g : Goal) (u : List Ancestor) (r s : List Bet) → CalledUnder M Q Seen u g r → Seen (event call g u r) → Solved M Q Seen g u r s
       → Given (Good (event redo g u s)) (rule M (event redo g u s))
   unfolding rule candidate
   redo-good g u r s c n by-truth = ((c, n), refl)

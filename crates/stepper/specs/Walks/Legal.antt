@@ -33,19 +33,19 @@ module _ (M : Machine) (Q : Goal) (Seen : Event → Type 0) where
         → Solved (atom p ts) u s (by g ∷ t)
 
   -- the goal is called under the ancestors with the bet stack, on the way from the query
-  abbrev pub Called : List Ancestor → Goal → List Bet → Type 0
-  Called [] g s = (g ≡ Q) × (s ≡ [])
-  Called (in-conj first a b ∷ u) g s = (g ≡ a) × Called u (conj a b) s × Seen (event call (conj a b) u s)
-  Called (in-conj second a b ∷ u) g s =
+  abbrev pub CalledUnder : List Ancestor → Goal → List Bet → Type 0
+  CalledUnder [] g s = (g ≡ Q) × (s ≡ [])
+  CalledUnder (in-conj first a b ∷ u) g s = (g ≡ a) × CalledUnder u (conj a b) s × Seen (event call (conj a b) u s)
+  CalledUnder (in-conj second a b ∷ u) g s =
       (g ≡ b)
-      × ((r : List Bet) × Called u (conj a b) r × Seen (event call (conj a b) u r) × Solved a (in-conj first a b ∷ u) r s
+      × ((r : List Bet) × CalledUnder u (conj a b) r × Seen (event call (conj a b) u r) × Solved a (in-conj first a b ∷ u) r s
       × Seen (event exit a (in-conj first a b ∷ u) s) × Seen (event call a (in-conj first a b ∷ u) r))
-  Called (in-disj n a b ∷ u) g s = (g ≡ selected n a b) × Called u (disj a b) s × Seen (event call (disj a b) u s)
-  Called (called p ts ∷ u) g s = (M .body p ts u s ≡ defined g) × Called u (atom p ts) s × Seen (event call (atom p ts) u s)
+  CalledUnder (in-disj n a b ∷ u) g s = (g ≡ selected n a b) × CalledUnder u (disj a b) s × Seen (event call (disj a b) u s)
+  CalledUnder (called p ts ∷ u) g s = (M .body p ts u s ≡ defined g) × CalledUnder u (atom p ts) s × Seen (event call (atom p ts) u s)
 
   -- call and fail: the goal is called with these stacks; exit and redo: it is called with some bets, and solved from them with these
   abbrev pub Legal : Event → Type 0
-  Legal (event call g u s) = Called u g s
-  Legal (event fail g u s) = Called u g s × Seen (event call g u s)
-  Legal (event exit g u s) = (r : List Bet) × Called u g r × Seen (event call g u r) × Solved g u r s
-  Legal (event redo g u s) = (r : List Bet) × Called u g r × Seen (event call g u r) × Solved g u r s × Seen (event exit g u s)
+  Legal (event call g u s) = CalledUnder u g s
+  Legal (event fail g u s) = CalledUnder u g s × Seen (event call g u s)
+  Legal (event exit g u s) = (r : List Bet) × CalledUnder u g r × Seen (event call g u r) × Solved g u r s
+  Legal (event redo g u s) = (r : List Bet) × CalledUnder u g r × Seen (event call g u r) × Solved g u r s × Seen (event exit g u s)

@@ -1,4 +1,4 @@
--- Lists of steps on events, and the events that they reach (SPECIFICATION 9).
+-- Lists of steps on events, and the events that they reach (SPECIFICATION 9.1, 9.2).
 use mathlib.Core.List.{List}
 use mathlib.Core.Option.{Option}
 use Prim.Native.Nat.{ℕ}

@@ -5,14 +5,14 @@ use mathlib.Core.Option.{Option, none, some}
 use Prim.Native.Nat.{ℕ, zero, suc, _≤_}
 use Rattle.records.specs.Format.Syntax.{Goal, Event}
 use Rattle.records.specs.Gate.DoorLaws.{room-enough, room-gives}
-use Rattle.stepper.specs.Rules.Machine.{Machine, Admits, LimitLaws, Answer, refused, gives, answer?}
+use Rattle.stepper.specs.Rules.Machine.{Machine, Admits, LimitLaws, StepOutcome, refused, gives, answer?}
 use Rattle.stepper.specs.Rules.Rules.{matching, rule, candidate, ununifiable, step-forward, checked, step-back, step, first-event, accepted, Lent, attempt}
 use Rattle.stepper.specs.Walks.Walk.{Direction, forward, back, Reach}
 use Rattle.stepper.specs.Rules.AnswerLaws.{matching-yes, matching-gives, fitting-gives, accepted-gives, gives-accepted}
 use Rattle.stepper.specs.Rules.ListedLaws.{forward-by-rule}
 use Rattle.stepper.specs.Walks.Legal.{Legal}
 use Rattle.stepper.specs.Walks.Inverse.{Good, rule-good}
-use Rattle.stepper.specs.Rules.Limits.{step-admitted}
+use Rattle.stepper.specs.Rules.AdmittedLaws.{step-admitted}
 use Rattle.stepper.specs.Walks.Reached.{attempted, Fit, Reached}
 
 -- nothing is known of the events passed on the way
@@ -26,7 +26,7 @@ first-injective p q h = cc
 
 module _ (M : Machine) where
   -- the rules read either way, with no limit on the result
-  unfoldable pub unlimited-check : Event → Answer → Answer
+  unfoldable pub unlimited-check : Event → StepOutcome → StepOutcome
   unlimited-check e (refused q) = refused q
   unlimited-check e (gives c) = matching (answer? (rule M c) (gives e)) c
 
@@ -63,7 +63,7 @@ module _ (M : Machine) where
   step-unlimited forward d e h = gives-accepted (rule M d) e (forward-by-rule M d e h)
   step-unlimited back d e h = gives-accepted _ e (go (candidate M d) h)
     where
-      go : (a : Answer) → checked M d a ≡ gives e → unlimited-check d a ≡ gives e
+      go : (a : StepOutcome) → checked M d a ≡ gives e → unlimited-check d a ≡ gives e
       go (refused q) k = k
       go (gives c) k =
           let r = matching-gives (answer? (step-forward M c) (gives d)) c e (fitting-gives (ununifiable M c) (M .candidate-limit c) _ e k) in

@@ -15,8 +15,8 @@ use Rattle.stepper.specs.Walks.Reached.{accepted-step, attempted, steps,
 use Rattle.stepper.specs.Walks.ReachedLaws.{Anything, first-injective, unlimited, unlimited-undone, unlimited-no-before, attempt-unlimited, attempt-steps, reached-legal, reached-admitted}
 
 module _ (M : Machine) where
-  -- Demand 3, on events. Two lists of steps, in any mixture and refused ones included, end at the same event exactly when their queries are
-  -- equal and the accepted steps forward less the accepted steps back come to the same number.
+  -- Demand 3, on events. Two lists of any steps, refused ones among them, end at the same event exactly where their queries and their net numbers
+  -- are the same.
   pub same-end-always : {Move : Type 0} (lent : Move → Lent) (p q : Goal) (ms ns : List Move)
       → (steps M lent p ms .event ≡ steps M lent q ns .event) ↔ ((p ≡ q) × (net (steps M lent p ms) ≡ net (steps M lent q ns)))
   same-end-always lent p q ms ns =
@@ -29,7 +29,7 @@ module _ (M : Machine) where
   first-back q = refl
 
   module _ (limits : LimitLaws M) where
-    -- Demand 2, on events. A step back from a reached event gives the event that it came from.
+    -- Demand 2, on events. A step back undoes an accepted step forward from a reached event.
     pub reached-back : (q : Goal) (n : ℕ) (d e : Event) → Fit M q → Reached M q n d → step-forward M d ≡ gives e → step-back M e ≡ gives d
     reached-back q n d e f r h =
         forward-back M q Anything limits d e (reached-legal M q n d r) tt (reached-admitted M limits q n d f r) h .1

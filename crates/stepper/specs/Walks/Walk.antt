@@ -25,7 +25,7 @@ module _ {Event : Type 0} where
   after forward (some e) t = record { event = e; forwards = suc (t .forwards); backs = t .backs }
   after back (some e) t = record { event = e; forwards = t .forwards; backs = suc (t .backs) }
 
-  -- the accepted steps forward less the accepted steps back
+  -- the net number (SPECIFICATION 9.4)
   unfoldable pub net : Tally Event → ℤ
   net t = pos (t .forwards) -ℤ pos (t .backs)
 

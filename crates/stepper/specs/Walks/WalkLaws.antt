@@ -79,8 +79,7 @@ module _ {Query Event : Type 0} (first : Query → Event) (step : Direction → 
       unfolding walk Reach
       at-walk q ms f = at-moves q ms (at-start (first q)) f (0, refl, refl)
 
-      -- Two lists of moves, each from the first event of its query, end at the same event exactly when the queries are equal and
-      -- the accepted steps forward less the accepted steps back are the same number.
+      -- Two lists of moves, each from its query's first event, end at the same event exactly where queries and net numbers are the same.
       pub ends-equal : (p q : Query) (ms ns : List Move) → Fit p → Fit q
           → (walk direction attempt (first p) ms .event ≡ walk direction attempt (first q) ns .event)
           ↔ ((p ≡ q) × (net (walk direction attempt (first p) ms) ≡ net (walk direction attempt (first q) ns)))

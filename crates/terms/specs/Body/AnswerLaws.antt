@@ -1,11 +1,12 @@
 -- The answer for an atom's body, by what the code found: its definition, question 9, the body's length, and what was written.
 use mathlib.Core.Path.{_≡_, refl, sym, ap, _∙_}
 use mathlib.Core.List.{List, [], _∷_, _++_}
-use mathlib.Core.Bool.{Bool, true, false, true≢false}
+use mathlib.Core.Bool.{Bool, true, false}
 use Prim.Native.Nat.{ℕ, _+_, _≤_, _<_, min}
 use native.Mathlib.Omega.{arith}
 use lib.ListN.{length, take}
 use borrow.Author.Tests.{le-leb, lt-leb}
+use Rattle.records.specs.Format.Never.{never}
 use Rattle.records.specs.Format.Syntax.{Goal, arity}
 use Rattle.records.specs.Format.Syntax.Goal.{atom}
 use Rattle.records.specs.Format.Encode.{word, terms-bytes, goal-bytes}
@@ -50,10 +51,10 @@ long-answer {before} g is h = record {
 
 -- nothing was written
 too-many-answer : (out : List ℕ) → BodyAnswered out out too-many TooMany
-too-many-answer out = record { is = refl; written = λ f q k. absurd (true≢false cc); kept = λ n. refl }
+too-many-answer out = record { is = refl; written = λ f q k. never cc; kept = λ n. refl }
 
 undefined-answer : (out : List ℕ) → BodyAnswered out out undefined Undefined
-undefined-answer out = record { is = refl; written = λ f q k. absurd (true≢false cc); kept = λ n. refl }
+undefined-answer out = record { is = refl; written = λ f q k. never cc; kept = λ n. refl }
 
 module _ {s : List ℕ} {f : Frame} (a : AtomAt s f) where
   atom-here : Stands s (f .goal) (goal-bytes (atom (a .predicate) (a .terms))) (a .frame .goal .end)

@@ -7,17 +7,16 @@ use native.Mathlib.Numerals.{add-one}
 use native.Mathlib.Omega.{arith}
 use lib.ListN.{length, take, set, getD, length-take}
 use lib.Seq.{take-suc-set, getD-take}
-use Rattle.records.specs.Format.Syntax.{Term, Terms, arity}
+use Rattle.records.specs.Format.Syntax.{Terms, arity}
 use Rattle.records.specs.Format.Syntax.Term.{var}
 use Rattle.records.specs.Format.Syntax.Terms.{nil, cons}
 use Rattle.records.specs.Format.Encode.{term-bytes, terms-bytes}
-use Rattle.records.specs.Format.Formed.{TermFormed, TermsFormed}
+use Rattle.records.specs.Format.Formed.{TermsFormed}
 use Rattle.records.specs.Ends.EndLaws.{term-long}
 use Rattle.records.specs.Ends.Range.{cut, Inside}
-use Rattle.records.specs.Ends.Stands.{Stands, stands-first, stands-second, stands-within, stands-cut, stands-inside, traverse-term}
-use Rattle.records.specs.Ends.Traversal.{position, traversal-end, end-at}
+use Rattle.records.specs.Ends.Stands.{Stands, stands-first, stands-second, stands-within, stands-cut, stands-inside, term-ends}
+use Rattle.records.specs.Ends.Traversal.{position, end-at}
 use Rattle.records.specs.declared.ends.Found.{Found}
-use Rattle.records.specs.declared.ends.Found.the-variants.{At}
 use Rattle.records.specs.declared.put.Range.{Range}
 use Rattle.terms.specs.Body.Arguments.{ArgumentsAt, TermTable, ArgumentTable, term-places, argument-range}
 use Rattle.terms.specs.Body.Body.{numbered}
@@ -34,10 +33,6 @@ pub record ArgumentsListing (s places : List ℕ) (k : ℕ) (table : List ℕ) (
 
 pub arguments-start : {s : List ℕ} {args : Arguments} {table : List ℕ} (a : ArgumentsAt s args) → ArgumentsListing s (term-places (args .at) (a .terms)) (args .arity) table (args .at) 0
 arguments-start a = record { left = a .terms; formed = a .formed; many = omega (arith, a .many); end = a .end; stands = a .stands; whole = refl }
-
-term-ends : {s : List ℕ} {at e : ℕ} (t : Term) → TermFormed t → Stands s at (term-bytes t) e → end-at s at 1 0 ≡ At e
-unfolding end-at
-term-ends t f w = ap traversal-end (traverse-term t f w)
 
 module _ {s places : List ℕ} {k : ℕ} {table : List ℕ} {pos i : ℕ} (u : ArgumentsListing s places k table pos i) (room : k < length table) where
   -- the place of one more term

@@ -36,7 +36,7 @@ body-answer room too-many = TooMany
 body-answer room undefined = Undefined
 body-answer room (defined g) = cond (leb (length (goal-bytes g)) room) (Defined (length (goal-bytes g))) TooLong
 
--- the number (SPECIFICATION 7) for an answer: question 9 or 10 says no, else 0
+-- the number (SPECIFICATION 7.6) for an answer: question 9 or 10 says no, else 0
 abbrev pub body-refusal : BodyAnswer → ℕ
 body-refusal TooMany = 9
 body-refusal Undefined = 0

@@ -1,13 +1,14 @@
 -- The laws of the search for a definition in a program's record.
 use mathlib.Core.Path.{_≡_, refl, sym, ap, _∙_}
 use mathlib.Core.List.{List, [], _∷_, _++_}
-use mathlib.Core.Bool.{Bool, true, false, cond, _&&_, true≢false}
+use mathlib.Core.Bool.{Bool, true, false, cond, _&&_}
 use mathlib.Core.Option.{none, some}
 use Prim.Native.Nat.{ℕ, _+_, _-_, _<_, _≤_}
 use native.Mathlib.Omega.{arith}
 use lib.Dec.{eqb}
 use lib.ListN.{length}
 use borrow.Author.Tests.{eqb-true}
+use Rattle.records.specs.Format.Never.{never}
 use Rattle.records.specs.Format.Syntax.{Definition}
 use Rattle.records.specs.Format.Syntax.Definition.{definition}
 use Rattle.records.specs.Format.Encode.{word, each, goal-bytes, definition-bytes}
@@ -24,8 +25,8 @@ use Rattle.records.specs.declared.heads.Signature.the-variants.{Predicate, NoPr
 use Rattle.records.specs.declared.heads.Word.{Word}
 use Rattle.records.specs.declared.heads.Word.the-variants.{Number, Short}
 use Rattle.terms.specs.Body.Body.{defines, definition-of}
-use Rattle.terms.specs.Standing.Rows.{FirstOf, row-first, row-none}
-use Rattle.terms.specs.declared.definitions.Entry.{Entry}
+use Rattle.terms.specs.Standing.Rows.{FirstOf, standing-first, standing-none}
+use Rattle.terms.specs.declared.definitions.DefinitionHead.{DefinitionHead}
 use Rattle.terms.specs.declared.definitions.Place.{Place}
 use Rattle.terms.specs.declared.definitions.Lookup.{Lookup}
 use Rattle.terms.specs.declared.definitions.Lookup.the-variants.{Absent, Present}
@@ -51,7 +52,7 @@ module _ {s : List ℕ} {at : ℕ} (d : DefinitionAt s at) where
     entry-headed e = go (d .item) (sym e ∙ is ∙ entry-head)
       where
         go : {P : Type 0} (i : Definition) → NoPredicate ≡ signature i → P
-        go (definition p k n g) q = absurd (true≢false cc)
+        go (definition p k n g) q = never cc
 
     pub entry-is : {p k n e : ℕ} {f : Found} → h ≡ Predicate p k n → f ≡ end-of read-definition s at → f ≡ At e
         → EntryOf d (record { predicate = p; arity = k; locals = n; end = e })
@@ -63,7 +64,7 @@ module _ {s : List ℕ} {at : ℕ} (d : DefinitionAt s at) where
             record { goal = g; same = x ∙ (let u : p′ ≡ p = cc in let v : k′ ≡ k = cc in let w : n′ ≡ n = cc in cc); end = cc }
 
   pub entry-ended : {P : Type 0} {f : Found} → f ≡ end-of read-definition s at → f ≡ Nothing → P
-  entry-ended is e = absurd (let q : Nothing ≡ At (d .end) = sym e ∙ is ∙ entry-end in absurd (true≢false cc))
+  entry-ended is e = absurd (let q : Nothing ≡ At (d .end) = sym e ∙ is ∙ entry-end in never cc)
 
   -- a definition has four bytes before its goal
   pub entry-room : at + 4 ≤ length s
@@ -97,12 +98,12 @@ searched-start s n p k = record {
 
 module _ {s : List ℕ} {n p k at i : ℕ} (w : Searched s n p k at i) (h : i < n) where
   first-left : (ds : DefinitionsAt s 5 n) → FirstOf (w .rest ds)
-  first-left ds = row-first (w .rest ds) (omega arith)
+  first-left ds = standing-first (w .rest ds) (omega arith)
 
   pub searched-item : DefinitionsAt s 5 n → DefinitionAt s at
   searched-item ds = first-left ds .first
 
-  module _ {r : Entry} (entry : (d : DefinitionAt s at) → EntryOf d r) {b : Bool} (is : b ≡ (eqb p (r .predicate) && eqb k (r .arity))) where
+  module _ {r : DefinitionHead} (entry : (d : DefinitionAt s at) → EntryOf d r) {b : Bool} (is : b ≡ (eqb p (r .predicate) && eqb k (r .arity))) where
     tested : (d : DefinitionAt s at) → defines p k (d .item) ≡ b
     tested d = ap (defines p k) (entry d .same) ∙ sym is
 
@@ -136,7 +137,7 @@ module _ {s : List ℕ} {n p k at i : ℕ} (w : Searched s n p k at i) (h : i < 
 
 pub searched-none : {s : List ℕ} {n p k at i : ℕ} → Searched s n p k at i → n ≤ i → (ds : DefinitionsAt s 5 n) → Absent ≡ find-definition 5 0 (ds .items) p k
 unfolding find-definition
-searched-none {p = p} {k = k} {at = at} {i = i} w h ds = sym (w .same ds ∙ ap (λ (l : List Definition). find-definition at i l p k) (row-none (w .rest ds) (omega (arith, w .within))))
+searched-none {p = p} {k = k} {at = at} {i = i} w h ds = sym (w .same ds ∙ ap (λ (l : List Definition). find-definition at i l p k) (standing-none (w .rest ds) (omega (arith, w .within))))
 
 -- the count of a program's definitions, and the definitions after it
 module _ {s : List ℕ} (d : ProgramAt s) where
@@ -153,7 +154,7 @@ module _ {s : List ℕ} (d : ProgramAt s) where
   }
 
   pub program-counted : {P : Type 0} {w : Word} → w ≡ word-at s 3 → w ≡ Short → P
-  program-counted is e = absurd (let q : Number (length (d .definitions)) ≡ Short = sym program-count ∙ sym is ∙ e in absurd (true≢false cc))
+  program-counted is e = absurd (let q : Number (length (d .definitions)) ≡ Short = sym program-count ∙ sym is ∙ e in never cc)
 
   pub program-searched : (p k : ℕ) {w : Word} {n : ℕ} {r : Lookup} → w ≡ word-at s 3 → w ≡ Number n
       → ((ds : DefinitionsAt s 5 n) → r ≡ find-definition 5 0 (ds .items) p k) → r ≡ find-definition 5 0 (d .definitions) p k
@@ -168,14 +169,14 @@ absent-none at i (d ∷ ds) p k e = go (defines p k d) e (absent-none (at + leng
   where
     go : (b : Bool) → cond b (Present (definition-place at i d)) (find-definition (at + length (definition-bytes d)) (i + 1) ds p k) ≡ Absent
         → (find-definition (at + length (definition-bytes d)) (i + 1) ds p k ≡ Absent → definition-of ds p k ≡ none) → cond b (some d) (definition-of ds p k) ≡ none
-    go true q ih = absurd (true≢false cc)
+    go true q ih = never cc
     go false q ih = ih q
 
 -- what is found is the definition, and its goal stands there
 found-at : {s : List ℕ} {e : ℕ} (at i : ℕ) (ds : List Definition) → All DefinitionFormed ds → Stands s at (each definition-bytes ds) e → (p k : ℕ) {a : Place}
     → find-definition at i ds p k ≡ Present a → FoundAt s ds p k a
 unfolding find-definition definition-of
-found-at at i [] f w p k q = absurd (true≢false cc)
+found-at at i [] f w p k q = never cc
 found-at {s} {e} at i (definition x y l g ∷ ds) f w p k {a} q = go (eqb p x) refl (eqb k y) refl q (λ z. found-at (at + length (definition-bytes d)) (i + 1) ds (f .1) (stands-second (definition-bytes d) (each definition-bytes ds) w) p k z)
   where
     d : Definition

@@ -11,9 +11,9 @@ use Rattle.records.specs.Format.Encode.{counted, definition-bytes}
 use Rattle.records.specs.Format.Formed.{DefinitionFormed, Counted}
 use Rattle.records.specs.Ends.Stands.{Stands}
 use Rattle.terms.specs.Body.Body.{defines, definition-of}
-use Rattle.terms.specs.Standing.Rows.{Item, StandingRow}
+use Rattle.terms.specs.Standing.Rows.{StandingItem, StandingRow}
 use Rattle.terms.specs.Standing.Frames.{GoalAt}
-use Rattle.terms.specs.declared.definitions.Entry.{Entry}
+use Rattle.terms.specs.declared.definitions.DefinitionHead.{DefinitionHead}
 use Rattle.terms.specs.declared.definitions.Place.{Place}
 use Rattle.terms.specs.declared.definitions.Lookup.{Lookup}
 use Rattle.terms.specs.declared.definitions.Lookup.the-variants.{Absent, Present}
@@ -27,13 +27,13 @@ pub record ProgramAt (s : List ℕ) : Type 0 where
 
 -- a definition that stands somewhere, and n of them
 abbrev pub DefinitionAt : List ℕ → ℕ → Type 0
-DefinitionAt s at = Item definition-bytes DefinitionFormed s at
+DefinitionAt s at = StandingItem definition-bytes DefinitionFormed s at
 
 abbrev pub DefinitionsAt : List ℕ → ℕ → ℕ → Type 0
 DefinitionsAt s at n = StandingRow definition-bytes DefinitionFormed s at n
 
 -- what is read of it: all but its goal
-pub record EntryOf {s : List ℕ} {at : ℕ} (d : DefinitionAt s at) (r : Entry) : Type 0 where
+pub record EntryOf {s : List ℕ} {at : ℕ} (d : DefinitionAt s at) (r : DefinitionHead) : Type 0 where
   pub goal : Goal
   pub same : d .item ≡ definition (r .predicate) (r .arity) (r .locals) goal
   pub end : r .end ≡ d .end

@@ -1,26 +1,25 @@
 -- The greatest variable of what stands somewhere: what a traversal meets are the variables of the tree.
-use mathlib.Core.Bool.{true≢false}
-use mathlib.Core.Path.{_≡_, refl, sym, ap, ap₂, _∙_}
+use mathlib.Core.Path.{_≡_, refl, sym, ap, _∙_}
 use mathlib.Core.List.{List, [], _∷_, _++_, append-nil}
 use Prim.Native.Nat.{ℕ, _+_, _-_, _<_, max}
 use native.Mathlib.Omega.{arith}
 use lib.ListN.{length}
-use Rattle.records.specs.Format.Syntax.{Term, Terms, Goal, Ancestor, Binding, Bet, arity}
-use Rattle.records.specs.Format.Syntax.Term.{var, app}
-use Rattle.records.specs.Format.Syntax.Terms.{nil, cons}
-use Rattle.records.specs.Format.Syntax.Goal.{truth, failure, equal, conj, disj, atom}
+use Rattle.records.specs.Format.Never.{never}
+use Rattle.records.specs.Format.Syntax.{Goal, Ancestor, Binding, Bet, arity}
+use Rattle.records.specs.Format.Syntax.Terms.{nil}
+use Rattle.records.specs.Format.Syntax.Goal.{conj, disj}
 use Rattle.records.specs.Format.Syntax.Ancestor.{called, in-conj, in-disj}
 use Rattle.records.specs.Format.Syntax.Bet.{unifier, or, by}
 use Rattle.records.specs.Format.Encode.{word, tag, each, terms-bytes, goal-bytes, ancestor-bytes, binding-bytes, bet-bytes}
 use Rattle.records.specs.Format.Formed.{GoalFormed, AncestorFormed, BetFormed}
-use Rattle.records.specs.Gate.RecordRules.{term-variables, terms-variables, goal-variables, ancestor-variables}
+use Rattle.records.specs.Gate.RecordRules.{goal-variables, ancestor-variables}
 use Rattle.records.specs.Gate.Kept.{term-met, terms-met, goal-met, along-raised}
 use Rattle.records.specs.Format.Heads.{ancestor-head-at, bet-head-at, word-at}
 use Rattle.records.specs.Format.Reader.Parts.{parts}
 use Rattle.records.specs.Format.ReaderLaws.{parts-bytes}
 use Rattle.records.specs.Format.ItemLaws.{parts-exact}
 use Rattle.records.specs.Ends.Traversal.{Node, Traversal, term-nodes, terms-nodes, goal-nodes, node-variables, traversed, traverse}
-use Rattle.records.specs.Ends.Traversal.Node.{variable, other}
+use Rattle.records.specs.Ends.Traversal.Node.{variable}
 use Rattle.records.specs.Ends.Traversal.Traversal.{off, on}
 use Rattle.records.specs.Ends.Steps.{On, Tops}
 use Rattle.records.specs.Ends.Stands.{Stands, stands-second, stands-read, head-of-ancestor, ancestor-stands, head-of-bet, bet-stands, traverse-term, traverse-terms, traverse-goal}
@@ -35,11 +34,11 @@ use Rattle.records.specs.Ends.Above.{above}
 use Rattle.terms.specs.Body.Body.{ancestors-variables, next-variable}
 use Rattle.terms.specs.Body.Tops.{pair-variables, bet-variables, Member, member-variables, members-variables, MemberAt, StackAt, TopOf, PieceOf}
 use Rattle.terms.specs.Standing.Frames.{GoalAt, AncestorAt, PairAt, PairsAt, BetAt}
-use Rattle.terms.specs.Standing.Rows.{FirstOf, row-first, row-none, row-none-end, row-empty, row-moved}
+use Rattle.terms.specs.Standing.Rows.{FirstOf, standing-first, standing-none, standing-none-end, standing-empty, standing-moved}
 use Rattle.terms.specs.Standing.BetRow.{pair-parts}
-use Rattle.terms.specs.declared.variables.Piece.{Piece}
-use Rattle.terms.specs.declared.variables.Stack.{Stack}
-use Rattle.terms.specs.declared.variables.Stack.the-variants.{Ancestors, Bets}
+use Rattle.terms.specs.declared.variables.MemberTop.{MemberTop}
+use Rattle.terms.specs.declared.variables.StackKind.{StackKind}
+use Rattle.terms.specs.declared.variables.StackKind.the-variants.{Ancestors, Bets}
 
 -- the least number above two lists
 pub above-append : (l m : List ℕ) → above (l ++ m) ≡ max (above l) (above m)
@@ -123,13 +122,13 @@ module _ {s : List ℕ} {at : ℕ} (p : PairAt s at) where
         record { top = rw (q .is) (omega (arith, z .top)); end = z .end }
 
     pub pair-never : {P : Type 0} → w ≡ Short → P
-    pair-never e = let x : Short ≡ Number (pair-parts p .variable) = sym e ∙ is ∙ pair-parts p .number in absurd (true≢false cc)
+    pair-never e = let x : Short ≡ Number (pair-parts p .variable) = sym e ∙ is ∙ pair-parts p .number in never cc
 
 -- what no pairs follow is a whole piece
-pub whole-piece : {s x : List ℕ} {e : ℕ} {t : Top} {r : Piece} → (r .top ≡ t .top) × (r .end ≡ t .end) × (r .pairs ≡ 0) → TopOf x e t → PieceOf s x e r
+pub whole-piece : {s x : List ℕ} {e : ℕ} {t : Top} {r : MemberTop} → (r .top ≡ t .top) × (r .end ≡ t .end) × (r .pairs ≡ 0) → TopOf x e t → PieceOf s x e r
 whole-piece {s} {x} {e} {t} {r} q w = record {
   few = omega arith;
-  pairs = rw (q .2) (row-empty s (r .end));
+  pairs = rw (q .2) (standing-empty s (r .end));
   end = q .1 ∙ w .end;
   top = omega (arith, w .top);
 }
@@ -152,10 +151,10 @@ module _ {s : List ℕ} {at : ℕ} (b : BetAt s at) {h : BetHead} (is : h ≡ be
         end = refl;
         top = rw q (omega arith);
       }
-      go (or k) q f w = record { few = omega arith; pairs = row-empty s (at + 2); end = sym (w .end); top = rw q (omega arith) }
+      go (or k) q f w = record { few = omega arith; pairs = standing-empty s (at + 2); end = sym (w .end); top = rw q (omega arith) }
       go (by g) q f w = (record { item = g; formed = f; end = b .end; stands = stands-second (0x22 ∷ []) (goal-bytes g) w }, refl, ap bet-variables q)
 
-  pub by-piece : h ≡ By → {t : Top} → Tops (traverse s (at + 1) 0 1) t → {r : Piece} → (r .top ≡ t .top) × (r .end ≡ t .end) × (r .pairs ≡ 0)
+  pub by-piece : h ≡ By → {t : Top} → Tops (traverse s (at + 1) 0 1) t → {r : MemberTop} → (r .top ≡ t .top) × (r .end ≡ t .end) × (r .pairs ≡ 0)
       → PieceOf s (bet-variables (b .item)) (b .end) r
   by-piece e u q =
       let y = bet-arm By e in
@@ -163,18 +162,18 @@ module _ {s : List ℕ} {at : ℕ} (b : BetAt s at) {h : BetHead} (is : h ≡ be
       whole-piece q (record { top = w .top ∙ ap above (sym (y .2)); end = w .end ∙ y .1 })
 
 -- a member is what its stack holds
-module _ {s : List ℕ} {at : ℕ} {k : Stack} where
+module _ {s : List ℕ} {at : ℕ} {k : StackKind} where
   pub as-ancestor : k ≡ Ancestors → MemberAt k s at → AncestorAt s at
   as-ancestor e = rw e (λ a. a)
 
   pub as-bet : k ≡ Bets → MemberAt k s at → BetAt s at
   as-bet e = rw e (λ a. a)
 
-  pub ancestor-piece : {r : Piece} → k ≡ Ancestors → ((a : AncestorAt s at) → PieceOf s (ancestor-variables (a .item)) (a .end) r)
+  pub ancestor-piece : {r : MemberTop} → k ≡ Ancestors → ((a : AncestorAt s at) → PieceOf s (ancestor-variables (a .item)) (a .end) r)
       → (a : MemberAt k s at) → PieceOf s (member-variables k (a .item)) (a .end) r
   ancestor-piece e h = rw e h
 
-  pub bet-piece : {r : Piece} → k ≡ Bets → ((a : BetAt s at) → PieceOf s (bet-variables (a .item)) (a .end) r)
+  pub bet-piece : {r : MemberTop} → k ≡ Bets → ((a : BetAt s at) → PieceOf s (bet-variables (a .item)) (a .end) r)
       → (a : MemberAt k s at) → PieceOf s (member-variables k (a .item)) (a .end) r
   bet-piece e h = rw e h
 
@@ -182,27 +181,27 @@ regrouped : (m a b c : ℕ) → max m (max (max a b) c) ≡ max (max m a) (max b
 regrouped m a b c = omega arith
 
 -- a stack on the way: m is gathered, so many pairs stand from pos on and then `left` members
-pub record Gathered (k : Stack) (s : List ℕ) (at n low pos pairs left m : ℕ) : Type 0 where
+pub record Gathered (k : StackKind) (s : List ℕ) (at n low pos pairs left m : ℕ) : Type 0 where
   pub own : StackAt k s at n → PairsAt s pos pairs
   pub rest : (u : StackAt k s at n) → StackAt k s (own u .end) left
   pub same : (u : StackAt k s at n)
       → max low (above (members-variables k (u .items))) ≡ max m (max (above (each pair-variables (own u .items))) (above (members-variables k (rest u .items))))
 
-pub gathered-start : (k : Stack) (s : List ℕ) (at n low : ℕ) → Gathered k s at n low at 0 n low
-gathered-start k s at n low = record { own = λ u. row-empty s at; rest = λ u. u; same = λ u. omega arith }
+pub gathered-start : (k : StackKind) (s : List ℕ) (at n low : ℕ) → Gathered k s at n low at 0 n low
+gathered-start k s at n low = record { own = λ u. standing-empty s at; rest = λ u. u; same = λ u. omega arith }
 
-module _ {k : Stack} {s : List ℕ} {at n low pos pairs left m : ℕ} (g : Gathered k s at n low pos pairs left m) where
+module _ {k : StackKind} {s : List ℕ} {at n low pos pairs left m : ℕ} (g : Gathered k s at n low pos pairs left m) where
   -- the next pair
   module _ (h : 0 < pairs) where
     pub gathered-pair : StackAt k s at n → PairAt s pos
-    gathered-pair u = row-first (g .own u) h .first
+    gathered-pair u = standing-first (g .own u) h .first
 
     pub gathered-past-pair : {r : Top} {b : ℕ} → ((p : PairAt s pos) → TopOf (pair-variables (p .item)) (p .end) r) → b ≡ max m (r .top)
         → Gathered k s at n low (r .end) (pairs - 1) left b
     gathered-past-pair {r} {b} t e = record {
-      own = λ u. row-moved (t (row-first (g .own u) h .first) .end) (row-first (g .own u) h .rest);
-      rest = λ u. row-moved (row-first (g .own u) h .same-end) (g .rest u);
-      same = λ u. g .same u ∙ split u (row-first (g .own u) h);
+      own = λ u. standing-moved (t (standing-first (g .own u) h .first) .end) (standing-first (g .own u) h .rest);
+      rest = λ u. standing-moved (standing-first (g .own u) h .same-end) (g .rest u);
+      same = λ u. g .same u ∙ split u (standing-first (g .own u) h);
     }
       where
         split : (u : StackAt k s at n) (f : FirstOf (g .own u))
@@ -216,26 +215,26 @@ module _ {k : Stack} {s : List ℕ} {at n low pos pairs left m : ℕ} (g : Gathe
   -- the next member, once no pairs are left
   module _ (z : pairs ≡ 0) where
     abbrev rest-here : StackAt k s at n → StackAt k s pos left
-    rest-here u = row-moved (sym (row-none-end (g .own u) z)) (g .rest u)
+    rest-here u = standing-moved (sym (standing-none-end (g .own u) z)) (g .rest u)
 
     none-left : (u : StackAt k s at n) → above (each pair-variables (g .own u .items)) ≡ 0
-    none-left u = ap (λ (l : List Binding). above (each pair-variables l)) (row-none (g .own u) z)
+    none-left u = ap (λ (l : List Binding). above (each pair-variables l)) (standing-none (g .own u) z)
 
     pub gathered-end : left ≡ 0 → (u : StackAt k s at n) → m ≡ max low (above (members-variables k (u .items)))
     gathered-end e u =
-        let x : above (members-variables k (g .rest u .items)) ≡ 0 = ap (λ (l : List (Member k)). above (members-variables k l)) (row-none (g .rest u) e) in
+        let x : above (members-variables k (g .rest u .items)) ≡ 0 = ap (λ (l : List (Member k)). above (members-variables k l)) (standing-none (g .rest u) e) in
         omega (arith, x, none-left u, g .same u)
 
     module _ (h : 0 < left) where
       pub gathered-member : StackAt k s at n → MemberAt k s pos
-      gathered-member u = row-first (rest-here u) h .first
+      gathered-member u = standing-first (rest-here u) h .first
 
-      pub gathered-past-member : {r : Piece} {b : ℕ} → ((a : MemberAt k s pos) → PieceOf s (member-variables k (a .item)) (a .end) r) → b ≡ max m (r .top)
+      pub gathered-past-member : {r : MemberTop} {b : ℕ} → ((a : MemberAt k s pos) → PieceOf s (member-variables k (a .item)) (a .end) r) → b ≡ max m (r .top)
           → Gathered k s at n low (r .end) (r .pairs) (left - 1) b
       gathered-past-member {r} {b} t e = record {
-        own = λ u. t (row-first (rest-here u) h .first) .pairs;
-        rest = λ u. row-moved (t (row-first (rest-here u) h .first) .end) (row-first (rest-here u) h .rest);
-        same = λ u. g .same u ∙ split u (row-first (rest-here u) h);
+        own = λ u. t (standing-first (rest-here u) h .first) .pairs;
+        rest = λ u. standing-moved (t (standing-first (rest-here u) h .first) .end) (standing-first (rest-here u) h .rest);
+        same = λ u. g .same u ∙ split u (standing-first (rest-here u) h);
       }
         where
           split : (u : StackAt k s at n) (f : FirstOf (rest-here u))

@@ -10,11 +10,11 @@ use Rattle.records.specs.Format.Formed.{AncestorFormed, BetFormed}
 use Rattle.records.specs.Gate.RecordRules.{term-variables, goal-variables, ancestor-variables}
 use Rattle.records.specs.declared.traverse.Top.{Top}
 use Rattle.records.specs.Ends.Above.{above}
-use Rattle.terms.specs.Standing.Rows.{Item, StandingRow}
+use Rattle.terms.specs.Standing.Rows.{StandingItem, StandingRow}
 use Rattle.terms.specs.Standing.Frames.{PairsAt}
-use Rattle.terms.specs.declared.variables.Piece.{Piece}
-use Rattle.terms.specs.declared.variables.Stack.{Stack}
-use Rattle.terms.specs.declared.variables.Stack.the-variants.{Ancestors, Bets}
+use Rattle.terms.specs.declared.variables.MemberTop.{MemberTop}
+use Rattle.terms.specs.declared.variables.StackKind.{StackKind}
+use Rattle.terms.specs.declared.variables.StackKind.the-variants.{Ancestors, Bets}
 
 -- the variables of a pair, its own first, and of a bet
 abbrev pub pair-variables : Binding → List ℕ
@@ -26,30 +26,30 @@ bet-variables (or h) = []
 bet-variables (by g) = goal-variables g
 
 -- the members of a stack: ancestors or bets
-abbrev pub Member : Stack → Type 0
+abbrev pub Member : StackKind → Type 0
 Member Ancestors = Ancestor
 Member Bets = Bet
 
-abbrev pub member-bytes : (k : Stack) → Member k → List ℕ
+abbrev pub member-bytes : (k : StackKind) → Member k → List ℕ
 member-bytes Ancestors = ancestor-bytes
 member-bytes Bets = bet-bytes
 
-abbrev pub MemberFormed : (k : Stack) → Member k → Type 0
+abbrev pub MemberFormed : (k : StackKind) → Member k → Type 0
 MemberFormed Ancestors = AncestorFormed
 MemberFormed Bets = BetFormed
 
-abbrev pub member-variables : (k : Stack) → Member k → List ℕ
+abbrev pub member-variables : (k : StackKind) → Member k → List ℕ
 member-variables Ancestors = ancestor-variables
 member-variables Bets = bet-variables
 
-abbrev pub members-variables : (k : Stack) → List (Member k) → List ℕ
+abbrev pub members-variables : (k : StackKind) → List (Member k) → List ℕ
 members-variables k l = each (member-variables k) l
 
 -- a member, and a stack of n of them, that stand somewhere
-abbrev pub MemberAt : Stack → List ℕ → ℕ → Type 0
-MemberAt k s at = Item (member-bytes k) (MemberFormed k) s at
+abbrev pub MemberAt : StackKind → List ℕ → ℕ → Type 0
+MemberAt k s at = StandingItem (member-bytes k) (MemberFormed k) s at
 
-abbrev pub StackAt : Stack → List ℕ → ℕ → ℕ → Type 0
+abbrev pub StackAt : StackKind → List ℕ → ℕ → ℕ → Type 0
 StackAt k s at n = StandingRow (member-bytes k) (MemberFormed k) s at n
 
 -- what ends at e has these variables
@@ -58,7 +58,7 @@ pub record TopOf (variables : List ℕ) (e : ℕ) (r : Top) : Type 0 where
   pub end : r .end ≡ e
 
 -- the same, where some of them stand in pairs that are still to come
-pub record PieceOf (s : List ℕ) (variables : List ℕ) (e : ℕ) (r : Piece) : Type 0 where
+pub record PieceOf (s : List ℕ) (variables : List ℕ) (e : ℕ) (r : MemberTop) : Type 0 where
   pub few : r .pairs < 65536
   pub pairs : PairsAt s (r .end) (r .pairs)
   pub end : pairs .end ≡ e

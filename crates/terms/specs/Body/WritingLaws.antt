@@ -14,8 +14,8 @@ use Rattle.records.specs.Ends.Traversal.{Traversal, traverse}
 use Rattle.records.specs.Ends.Steps.{On, end-place, traverse-from, next-step}
 use Rattle.records.specs.Ends.Stands.{traverse-goal}
 use Rattle.records.specs.declared.traverse.Cursor.{Cursor}
-use Rattle.records.specs.declared.traverse.Step.{Step}
-use Rattle.records.specs.declared.traverse.Step.the-variants.{Variable, Other, Done}
+use Rattle.records.specs.declared.traverse.NodeStep.{NodeStep}
+use Rattle.records.specs.declared.traverse.NodeStep.the-variants.{Variable, Other, Done}
 use Rattle.terms.specs.Theory.Substitution.{Substitution}
 use Rattle.terms.specs.Body.Body.{numbered}
 use Rattle.terms.specs.Standing.Frames.{GoalAt}
@@ -53,7 +53,7 @@ module _ {s : List ℕ} {goal : ℕ} (g : GoalAt s goal) (ts : Terms) (m : ℕ) 
   counting-start = record { done = []; long = omega arith; end = end-place (traverse s goal 0 1); ahead = rw (← numbered-bytes) (ahead-start (numbered ts m) s (record { pos = goal; terms = 0; goals = 1 }) (goal-on g)) }
 
 -- a node that is no variable stands from the cursor to the next one
-module _ {θ : Substitution} {s whole done : List ℕ} {c : Cursor} {end : ℕ} (a : Ahead θ s whole done c end) (known : Known s) {r : Step} (is : r ≡ next-step s (c .pos) (c .terms) (c .goals)) {d : Cursor} (e : r ≡ Other d) where
+module _ {θ : Substitution} {s whole done : List ℕ} {c : Cursor} {end : ℕ} (a : Ahead θ s whole done c end) (known : Known s) {r : NodeStep} (is : r ≡ next-step s (c .pos) (c .terms) (c .goals)) {d : Cursor} (e : r ≡ Other d) where
   pub node-inside : Inside (record { from = c .pos; to = d .pos }) s
   node-inside = let y = ahead-less-other a known is e in record { order = omega arith; stop = y .1 }
 
@@ -70,7 +70,7 @@ module _ {θ : Substitution} {s whole : List ℕ} {room : ℕ} {c : Cursor} {n :
   pub counting-full : room < n → n ≡ min (room + 1) (length whole)
   counting-full h = omega (arith, u .long, ahead-room (u .ahead))
 
-  module _ (known : Known s) {r : Step} (is : r ≡ next-step s (c .pos) (c .terms) (c .goals)) (h : n ≤ room) where
+  module _ (known : Known s) {r : NodeStep} (is : r ≡ next-step s (c .pos) (c .terms) (c .goals)) (h : n ≤ room) where
     pub counting-variable : {v : ℕ} {d : Cursor} → r ≡ Variable v d → {k to : ℕ} → k ≡ length (term-bytes (θ v)) → to ≡ min (room + 1) (n + k)
         → Counting θ s whole room d to
     counting-variable {v} e p q = counting-more (term-bytes (θ v)) p h q (ahead-variable (u .ahead) known is e)
@@ -87,7 +87,7 @@ module _ {θ : Substitution} {s before after : List ℕ} {w : Traversal} {c : Cu
   more-room : {d : Cursor} (x : List ℕ) → Ahead θ s (traversal-bytes θ w) (u .done ++ x) d (end-place w) → first + length (traversal-bytes θ w) ≤ length before → at + length x ≤ length after
   more-room x a h = omega (arith, ahead-room a, length-append (u .done) x, u .put .place, put-length (u .put))
 
-  module _ (known : Known s) {r : Step} (is : r ≡ next-step s (c .pos) (c .terms) (c .goals)) where
+  module _ (known : Known s) {r : NodeStep} (is : r ≡ next-step s (c .pos) (c .terms) (c .goals)) where
     module _ {v : ℕ} {d : Cursor} (e : r ≡ Variable v d) where
       pub variable-room : first + length (traversal-bytes θ w) ≤ length before → at + length (term-bytes (θ v)) ≤ length after
       variable-room = more-room (term-bytes (θ v)) (ahead-variable (u .ahead) known is e)

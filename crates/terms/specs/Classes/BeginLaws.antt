@@ -12,11 +12,11 @@ use Rattle.terms.specs.Theory.Substitution.{substitute}
 use Rattle.terms.specs.Theory.Unify.{less, same, more, compare}
 use Rattle.terms.specs.Classes.Nodes.{at, Nodes, count, In, node-number, IsVariable, Table}
 use Rattle.terms.specs.Classes.ClassesLaws.{variable-term}
-use Rattle.terms.specs.Classes.ClassState.{Better, Partition, State, Unitable, United, First, Firsts}
+use Rattle.terms.specs.Classes.ClassState.{Better, Partition, State, Unitable, United, FirstOfVariable, Firsts}
 use Rattle.terms.specs.Classes.CloseLaws.{united-unites, unitable}
 
 -- a node that is no variable is its own first
-pub first-itself : (n : Nodes) (i : ℕ) → (IsVariable n i → ⊥) → First n i i
+pub first-itself : (n : Nodes) (i : ℕ) → (IsVariable n i → ⊥) → FirstOfVariable n i i
 first-itself n i h = record { low = omega arith; other = λ _. refl; variables = λ a. a; numbers = refl; least = λ a. absurd (h a) }
 
 -- looking for the first node of i's variable: there is none below j
@@ -32,10 +32,10 @@ module _ (n : Nodes) (i : ℕ) where
     pub seeking-next : j < i → (IsVariable n j → node-number n j ≡ node-number n i → ⊥) → Seeking n i (j + 1)
     seeking-next l k = record { bound = omega arith; none = below-more _ _ (h .none) k }
 
-    pub seeking-found : IsVariable n i → IsVariable n j → node-number n j ≡ node-number n i → First n i j
+    pub seeking-found : IsVariable n i → IsVariable n j → node-number n j ≡ node-number n i → FirstOfVariable n i j
     seeking-found a b e = record { low = h .bound; other = λ k. absurd (k a); variables = λ _. b; numbers = e; least = λ _. h .none }
 
-    pub seeking-end : IsVariable n i → i ≤ j → First n i i
+    pub seeking-end : IsVariable n i → i ≤ j → FirstOfVariable n i i
     seeking-end a l =
         record { low = omega arith; other = λ _. refl; variables = λ _. a; numbers = refl; least = λ _ k b. h .none k (omega arith) }
 
@@ -43,20 +43,20 @@ module _ (n : Nodes) (i : ℕ) where
 pub firsts-start : (n : Nodes) (rep : List ℕ) → length rep ≡ count n → Firsts n rep 0
 firsts-start n rep e = record { long = e; bound = omega arith; each = λ i l. absurd (omega arith) }
 
-pub firsts-more : (n : Nodes) (rep : List ℕ) (m r : ℕ) → Firsts n rep m → In n m → First n m r → Firsts n (set rep m r) (m + 1)
+pub firsts-more : (n : Nodes) (rep : List ℕ) (m r : ℕ) → Firsts n rep m → In n m → FirstOfVariable n m r → Firsts n (set rep m r) (m + 1)
 firsts-more n rep m r f l h = record {
   long = length-set rep m r ∙ f .long;
   bound = omega arith;
   each = below-more _ _
-      (λ i k. subst (First n i) (sym (getD-set-other rep m i r 0 (λ z. omega arith))) (f .each i k))
-      (subst (First n m) (sym (getD-set-same rep m r 0 (omega (arith, f .long)))) h);
+      (λ i k. subst (FirstOfVariable n i) (sym (getD-set-other rep m i r 0 (λ z. omega arith))) (f .each i k))
+      (subst (FirstOfVariable n m) (sym (getD-set-same rep m r 0 (omega (arith, f .long)))) h);
 }
 
 pub firsts-end : (n : Nodes) (rep : List ℕ) (m : ℕ) → Firsts n rep m → count n ≤ m → Firsts n rep (count n)
 firsts-end n rep m f l = subst (Firsts n rep) (omega (arith, f .bound)) f
 
 -- nodes of one variable have one first
-first-shared : (n : Nodes) (i j x y : ℕ) → IsVariable n i → IsVariable n j → node-number n i ≡ node-number n j → First n i x → First n j y → x ≡ y
+first-shared : (n : Nodes) (i j x y : ℕ) → IsVariable n i → IsVariable n j → node-number n i ≡ node-number n j → FirstOfVariable n i x → FirstOfVariable n j y → x ≡ y
 first-shared n i j x y a b e f g = elim (compare x y) [
   | same p ↦ p
   | less p ↦ absurd (g .least b x p (f .variables a) (f .numbers ∙ e))

@@ -97,8 +97,8 @@ NodesCompared numbers nexts rep i r (Differ p q) =
     × ((cs ds : List ℕ) → Children nexts i cs → Children nexts r ds → Paired p q cs ds)
 
 -- node i agrees with its representative
-abbrev pub Settled : Nodes → List ℕ → ℕ → Type 0
-Settled n rep i = IsSymbol n i → NodesCompared (n .numbers) (n .nexts) rep i (at rep i) Same
+abbrev pub AgreesWithRepresentative : Nodes → List ℕ → ℕ → Type 0
+AgreesWithRepresentative n rep i = IsSymbol n i → NodesCompared (n .numbers) (n .nexts) rep i (at rep i) Same
 
 -- how many nodes from k on represent themselves
 abbrev pub roots : ℕ → List ℕ → ℕ
@@ -107,14 +107,14 @@ roots k (x ∷ l) = ite (ℕ-discrete x k) 1 0 + roots (suc k) l
 
 -- one turn at node i: it agrees with its representative, or two classes have become one, or there is no unifier
 unfoldable pub Visited : Nodes → ℕ → ℕ → ℕ → List ℕ → List ℕ → Turn → Type 0
-Visited n s t i old new Fine = (new ≡ old) × Settled n old i
+Visited n s t i old new Fine = (new ≡ old) × AgreesWithRepresentative n old i
 Visited n s t i old new Joined = State n s t new × (roots 0 new < roots 0 old)
 Visited n s t i old new Stuck = Apart n s t
 
 -- every node agrees with its representative
 pub record Finished (n : Nodes) (s t : ℕ) (rep : List ℕ) : Type 0 where
   pub state : State n s t rep
-  pub settled : (i : ℕ) → In n i → Settled n rep i
+  pub settled : (i : ℕ) → In n i → AgreesWithRepresentative n rep i
 
 -- what closing the classes gives: true with closed classes, false where there is no unifier
 unfoldable pub Ended : Nodes → ℕ → ℕ → List ℕ → Bool → Type 0
@@ -122,7 +122,7 @@ Ended n s t rep true = Finished n s t rep
 Ended n s t rep false = Apart n s t
 
 -- r is the first node of node i's variable, and i itself where it is no variable
-pub record First (n : Nodes) (i r : ℕ) : Type 0 where
+pub record FirstOfVariable (n : Nodes) (i r : ℕ) : Type 0 where
   pub low : r ≤ i
   pub other : (IsVariable n i → ⊥) → r ≡ i
   pub variables : IsVariable n i → IsVariable n r
@@ -133,4 +133,4 @@ pub record First (n : Nodes) (i r : ℕ) : Type 0 where
 pub record Firsts (n : Nodes) (rep : List ℕ) (m : ℕ) : Type 0 where
   pub long : length rep ≡ count n
   pub bound : m ≤ count n
-  pub each : (i : ℕ) → i < m → First n i (at rep i)
+  pub each : (i : ℕ) → i < m → FirstOfVariable n i (at rep i)

@@ -36,13 +36,13 @@ pub record Expands (n : Nodes) (children : ℕ → List ℕ) (rep : ℕ → ℕ)
       → expansion (rep i) ≡ app (node-number n (rep i)) (terms-at expansion (map rep (children (rep i))))
 
 -- x is the variable of a node
-abbrev pub Met : Nodes → ℕ → Type 0
-Met n x = (i : ℕ) × In n i × IsVariable n i × (node-number n i ≡ x)
+abbrev pub NodeVariable : Nodes → ℕ → Type 0
+NodeVariable n x = (i : ℕ) × In n i × IsVariable n i × (node-number n i ≡ x)
 
 -- σ gives the variables of the nodes the terms of their classes, and leaves every other variable as it is
 pub record Reads (n : Nodes) (rep : ℕ → ℕ) (expansion : ℕ → Term) (σ : Substitution) : Type 0 where
   pub met : (i : ℕ) → In n i → IsVariable n i → σ (node-number n i) ≡ expansion (rep i)
-  pub each : (x : ℕ) → Met n x ⊎ (σ x ≡ var x)
+  pub each : (x : ℕ) → NodeVariable n x ⊎ (σ x ≡ var x)
 
 -- p and q stand at one place of two lists
 abbrev pub Paired : ℕ → ℕ → List ℕ → List ℕ → Type 0

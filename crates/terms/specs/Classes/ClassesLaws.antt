@@ -1,20 +1,20 @@
 -- The theorem behind the unifier's code: closed classes without a clash or a cycle give the most general unifier; and what a unifier tells of
 -- two nodes of one class, so that a clash or a cycle shows that there is none.
-use mathlib.Core.Bool.{true≢false}
 use mathlib.Core.Path.{_≡_, refl, sym, _∙_, ap, ap₂}
 use mathlib.Core.Logic.{inl, inr}
 use mathlib.Core.List.{List, [], _∷_, map}
 use native.Mathlib.Omega.{arith}
 use Prim.Native.Nat.{ℕ, zero, suc, _≤_, _<_}
 use lib.ListN.{length}
+use Rattle.records.specs.Format.Never.{never}
 use Rattle.records.specs.Format.Syntax.{Term, Terms}
 use Rattle.records.specs.Format.Syntax.Term.{var, app}
 use Rattle.records.specs.Format.Syntax.Terms.{nil, cons}
 use Rattle.records.specs.Format.Formed.{All}
 use Rattle.terms.specs.Theory.Substitution.{Substitution, substitute, substitute-all, term-length, terms-length}
 use Rattle.terms.specs.Theory.SubstitutionLaws.{terms-length-cons}
-use Rattle.terms.specs.Theory.Variables.{Listed}
-use Rattle.terms.specs.Theory.TestLaws.{all-listed}
+use Rattle.terms.specs.Theory.Variables.{Among}
+use Rattle.terms.specs.Theory.TestLaws.{all-among}
 use Rattle.terms.specs.Theory.MostGeneral.{MostGeneral}
 use Rattle.terms.specs.Classes.Nodes.{Nodes, node-number, IsVariable, IsSymbol, In, terms-at, TableNode, variable, symbol}
 use Rattle.terms.specs.Classes.Classes.{Respects, ClassesSound, Closed, Expands, Reads, Paired}
@@ -36,7 +36,7 @@ paired-equal term θ p q (c ∷ cs) (d ∷ ds) e (inl k) = rw (k .0, k .1) (cc)
 paired-equal term θ p q (c ∷ cs) (d ∷ ds) e (inr o) = paired-equal term θ p q cs ds (cc) o
 
 -- a child's image is no longer than the children's images
-child-length : (term : ℕ → Term) (θ : Substitution) (c : ℕ) (cs : List ℕ) → Listed c cs
+child-length : (term : ℕ → Term) (θ : Substitution) (c : ℕ) (cs : List ℕ) → Among c cs
     → term-length (substitute θ (term c)) ≤ terms-length (substitute-all θ (terms-at term cs))
 child-length term θ c [] o = absurd o
 child-length term θ c (d ∷ ds) (inl e) =
@@ -57,10 +57,10 @@ module _ (n : Nodes) (children : ℕ → List ℕ) (term : ℕ → Term) (node :
       becomes : (u : Term) (i : ℕ) → In n i → term i ≡ u → substitute σ u ≡ expansion (rep i)
       becomes (var x) i l p = elim (node i l) [
         | variable a b ↦ (let z : x ≡ node-number n i = cc in ap σ z ∙ r .met i l a)
-        | symbol a b k ↦ (absurd (true≢false cc))
+        | symbol a b k ↦ (never cc)
       ]
       becomes (app f us) i l p = elim (node i l) [
-        | variable a b ↦ (absurd (true≢false cc))
+        | variable a b ↦ (never cc)
         | symbol a b k ↦
             (let g = c .agrees i l .symbols (omega arith) in
             let h : substitute-all σ us ≡ terms-at expansion (map rep (children i)) = become us (children i) k (cc) in
@@ -85,10 +85,10 @@ module _ (n : Nodes) (children : ℕ → List ℕ) (term : ℕ → Term) (node :
               let z : x ≡ node-number n (rep i) = cc in
               let y : substitute θ (term (rep i)) ≡ θ (node-number n (rep i)) = ap (substitute θ) b in
               ap θ z ∙ sym y ∙ h i l)
-          | symbol a b k ↦ (let q = e .symbols i l (omega arith) in absurd (true≢false cc))
+          | symbol a b k ↦ (let q = e .symbols i l (omega arith) in never cc)
         ]
         expansion-equal (app f us) i l p = elim (node (rep i) (c .inside i l)) [
-          | variable a b ↦ (let q = e .variables i l a in absurd (true≢false cc))
+          | variable a b ↦ (let q = e .variables i l a in never cc)
           | symbol a b k ↦
               (let q = e .symbols i l (omega arith) in
               let z : f ≡ node-number n (rep i) = cc in
@@ -100,15 +100,15 @@ module _ (n : Nodes) (children : ℕ → List ℕ) (term : ℕ → Term) (node :
         expansions-equal : (us : Terms) (cs : List ℕ) → All (In n) cs → terms-at expansion (map rep cs) ≡ us
             → substitute-all θ us ≡ substitute-all θ (terms-at term cs)
         expansions-equal nil [] k p = refl
-        expansions-equal nil (d ∷ ds) k p = absurd (true≢false cc)
-        expansions-equal (cons u us) [] k p = absurd (true≢false cc)
+        expansions-equal nil (d ∷ ds) k p = never cc
+        expansions-equal (cons u us) [] k p = never cc
         expansions-equal (cons u us) (d ∷ ds) k p =
             ap₂ cons (expansion-equal u d (k .0) (cc)) (expansions-equal us ds (k .1) (cc))
 
     lower-class : (i w : ℕ) → In n i → IsVariable n i → expansion (rep i) ≡ var w → w ≤ node-number n i
     lower-class i w l a p = elim (node (rep i) (c .inside i l)) [
       | variable b q ↦ (let k = c .agrees i l .variables a b in let z : w ≡ node-number n (rep i) = cc (e .variables i l b) in omega arith)
-      | symbol b q k ↦ (let z : _≡_ {A = ℕ} 0 1 = cc (e .symbols i l (omega arith)) in absurd (omega arith))
+      | symbol b q k ↦ never (cc (e .symbols i l (omega arith)))
     ]
 
     -- the theorem
@@ -145,7 +145,7 @@ module _ (n : Nodes) (children : ℕ → List ℕ) (term : ℕ → Term) (node :
             (cc, cc)
 
     -- a child's image is shorter
-    child-shorter : (r : ℕ) → In n r → IsSymbol n r → (d : ℕ) → Listed d (children r)
+    child-shorter : (r : ℕ) → In n r → IsSymbol n r → (d : ℕ) → Among d (children r)
         → In n d × (term-length (substitute θ (term d)) < term-length (substitute θ (term r)))
     child-shorter r l a d o = elim (node r l) [
       | variable b q ↦ absurd (omega arith)
@@ -153,12 +153,12 @@ module _ (n : Nodes) (children : ℕ → List ℕ) (term : ℕ → Term) (node :
           (let z : term-length (substitute θ (term r)) ≡ term-length (app (node-number n r) (substitute-all θ (terms-at term (children r)))) =
           ap (λ u. term-length (substitute θ u)) q in
           let y = child-length term θ d (children r) o in
-          (all-listed (In n) (children r) k d o, omega arith))
+          (all-among (In n) (children r) k d o, omega arith))
     ]
 
     -- symbols each of which has a child in the class of another of them: there are none
     pub no-cycle : (Waiting : ℕ → Type 0)
-        → ((r : ℕ) → Waiting r → In n r × IsSymbol n r × ((d : ℕ) × Listed d (children r) × Waiting (rep d))) → (r : ℕ) → Waiting r → ⊥
+        → ((r : ℕ) → Waiting r → In n r × IsSymbol n r × ((d : ℕ) × Among d (children r) × Waiting (rep d))) → (r : ℕ) → Waiting r → ⊥
     no-cycle Waiting step r w = go (term-length (substitute θ (term r))) r (omega arith) w
       where
         go : (k : ℕ) (r : ℕ) → term-length (substitute θ (term r)) ≤ k → Waiting r → ⊥

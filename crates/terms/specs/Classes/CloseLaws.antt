@@ -32,7 +32,7 @@ use Rattle.terms.specs.Classes.ClassState.{
   United,
   Comparable,
   NodesCompared,
-  Settled,
+  AgreesWithRepresentative,
   roots,
   Visited,
   Ended,
@@ -208,7 +208,7 @@ turned-variable n s t i rep h = (refl, (λ a. absurd (h a)))
 pub record Closing (n : Nodes) (s t : ℕ) (rep : List ℕ) (i : ℕ) : Type 0 where
   pub state : State n s t rep
   pub bound : i ≤ count n
-  pub settled : (k : ℕ) → k < i → Settled n rep k
+  pub settled : (k : ℕ) → k < i → AgreesWithRepresentative n rep k
 
 -- its measure: the classes, and then the nodes that are left
 abbrev pub closing-left : List ℕ → ℕ → ℕ → ℕ
@@ -222,7 +222,7 @@ unfolding Ended
 closing-end n s t rep i c l = record { state = c .state; settled = λ k m. c .settled k (omega arith) }
 
 module _ (n : Nodes) (s t i : ℕ) (rep new : List ℕ) (o : Turn) (h : Visited n s t i rep new o) where
-  fine : o ≡ Fine → (new ≡ rep) × Settled n rep i
+  fine : o ≡ Fine → (new ≡ rep) × AgreesWithRepresentative n rep i
   unfolding Visited
   fine e = subst (Visited n s t i rep new) e h
 

@@ -13,7 +13,7 @@ use Rattle.records.specs.declared.heads.TermHead.the-variants.{Variable, Symbol
 use Rattle.terms.specs.Classes.Nodes.{at, Nodes, nodes, count, In, kind, node-number}
 use Rattle.terms.specs.Classes.Forest.{node-count, nodes-count, row, rows, term-kind, term-number, term-at}
 use Rattle.terms.specs.declared.load.NodeHead.{NodeHead}
-use Rattle.terms.specs.declared.load.Places.{Places}
+use Rattle.terms.specs.declared.load.NodeCounts.{NodeCounts}
 
 -- a node's kind and number by its head, and how many bytes the head has
 abbrev pub head-of : TermHead → NodeHead
@@ -82,10 +82,10 @@ pub record SmallNodes (n : Nodes) : Type 0 where
   pub numbers : (i : ℕ) → In n i → node-number n i < 65536
 
 -- the first nodes of the tables hold the two terms, whatever terms the bytes are
-pub record Lay (kinds numbers nexts : List ℕ) (p : Places) (s t : Term) : Type 0 where
+pub record Lay (kinds numbers nexts : List ℕ) (p : NodeCounts) (s t : Term) : Type 0 where
   pub fits : p .count ≤ length kinds
   pub all : p .count ≡ nodes-count (pair s t)
   pub laid : TermsLaid (nodes (take (p .count) kinds) (take (p .count) numbers) (take (p .count) nexts)) s t (p .middle)
 
-pub record Lays (a b kinds numbers nexts : List ℕ) (p : Places) : Type 0 where
+pub record Lays (a b kinds numbers nexts : List ℕ) (p : NodeCounts) : Type 0 where
   pub each : (s t : Term) → TermFormed s → TermFormed t → a ≡ term-bytes s → b ≡ term-bytes t → Lay kinds numbers nexts p s t

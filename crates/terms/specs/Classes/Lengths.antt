@@ -11,7 +11,7 @@ use Rattle.records.specs.Format.Syntax.Term.{var, app}
 use Rattle.records.specs.Format.Syntax.Terms.{nil, cons}
 use Rattle.records.specs.Format.Formed.{All}
 use Rattle.terms.specs.Theory.Substitution.{term-length}
-use Rattle.terms.specs.Theory.Variables.{Listed}
+use Rattle.terms.specs.Theory.Variables.{Among}
 use Rattle.terms.specs.Classes.Nodes.{at, Nodes, count, In, node-number, IsVariable, IsSymbol, Children, Nested, Graph}
 use Rattle.terms.specs.Classes.ClassState.{Apart, Finished}
 
@@ -55,7 +55,7 @@ pub record Weighable (kinds nexts rep size : List ℕ) : Type 0 where
 -- the symbol at r waits for the length of a child's class
 pub record Waits (kinds nexts rep size : List ℕ) (r : ℕ) : Type 0 where
   pub symbols : 2 ≤ at kinds r
-  pub child : (cs : List ℕ) → Children nexts r cs → (c : ℕ) × Listed c cs × (at size (at rep c) ≡ 0)
+  pub child : (cs : List ℕ) → Children nexts r cs → (c : ℕ) × Among c cs × (at size (at rep c) ≡ 0)
 
 -- w is the length of r's term: three bytes for a variable, for a symbol four and those of its children
 pub record Weighs (kinds nexts rep size : List ℕ) (r w : ℕ) : Type 0 where
@@ -112,6 +112,6 @@ pub record Solution (n : Nodes) (s t : ℕ) (rep size : List ℕ) : Type 0 where
   pub complete : Complete n rep size
 
 -- true with the classes and their lengths, false where there is no unifier
-unfoldable pub Solved : Nodes → ℕ → ℕ → List ℕ → List ℕ → Bool → Type 0
-Solved n s t rep size true = Solution n s t rep size
-Solved n s t rep size false = Apart n s t
+unfoldable pub SolvedTables : Nodes → ℕ → ℕ → List ℕ → List ℕ → Bool → Type 0
+SolvedTables n s t rep size true = Solution n s t rep size
+SolvedTables n s t rep size false = Apart n s t

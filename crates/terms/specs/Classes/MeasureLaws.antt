@@ -10,7 +10,7 @@ use Prim.Native.Nat.{ℕ, zero, suc, _+_, _-_, _*_, _≤_, _<_}
 use borrow.Author.Count.{below-more}
 use lib.ListN.{length, set, length-set}
 use lib.Seq.{getD-set-same, getD-set-other}
-use Rattle.terms.specs.Theory.TestLaws.{all-listed}
+use Rattle.terms.specs.Theory.TestLaws.{all-among}
 use Rattle.terms.specs.Classes.Nodes.{at, Nodes, count, In, Table, variable, symbol}
 use Rattle.terms.specs.Classes.ClassesLaws.{no-cycle}
 use Rattle.terms.specs.Classes.ClassState.{Apart, State, Finished}
@@ -163,7 +163,7 @@ waiting-apart n s t rep size f m r l o children term g θ u =
     let c = w .child (children x) (g .path x (p .0) (w .symbols)) in
     let k : In n (c .0) = elim (g .node x (p .0)) [
       | variable a q ↦ absurd (omega (arith, w .symbols))
-      | symbol a q k ↦ all-listed (In n) (children x) k (c .0) (c .1)
+      | symbol a q k ↦ all-among (In n) (children x) k (c .0) (c .1)
     ] in
     (p .0, w .symbols, (c .0, c .1, (f .state .partition .inside (c .0) k, (f .state .partition .root (c .0) k, c .2)))))
     r (l, o)

@@ -18,10 +18,10 @@ use Rattle.terms.specs.Theory.Unify.{bindings, unify}
 use Rattle.terms.specs.Theory.MostGeneral.{MostGeneral}
 use Rattle.terms.specs.Theory.UnifyLaws.{is-unify, most-general-unify}
 use Rattle.terms.specs.Classes.Nodes.{at, Nodes, count, In, node-number, IsVariable, IsSymbol, Children, terms-at, TableNode, variable, symbol, Graph}
-use Rattle.terms.specs.Classes.Classes.{Closed, Expands, Met, Reads}
+use Rattle.terms.specs.Classes.Classes.{Closed, Expands, NodeVariable, Reads}
 use Rattle.terms.specs.Classes.ClassesLaws.{closed-most-general}
 use Rattle.terms.specs.Classes.ClassState.{Apart, State, NodesCompared, Finished, Ended}
-use Rattle.terms.specs.Classes.Lengths.{Expansion, Expansions, Measuring, Checked, Solution, Solved}
+use Rattle.terms.specs.Classes.Lengths.{Expansion, Expansions, Measuring, Checked, Solution, SolvedTables}
 use Rattle.terms.specs.Classes.MeasureLaws.{waiting-apart}
 
 -- a class has at most one term
@@ -131,7 +131,7 @@ module _ (n : Nodes) (s t : ℕ) (rep size : List ℕ) (solution : Solution n s 
       class-term-by-expansion (at rep i) (decLt (at rep i) (count n)) (ℕ-discrete (at size (at rep i)) 0) (inside i l)
       (solution .complete .all (at rep i) (inside i l) (solution .finished .state .partition .root i l))
 
-  found-by : (x : ℕ) → Met n x ⊎ Unmet n x (count n) → Term
+  found-by : (x : ℕ) → NodeVariable n x ⊎ Unmet n x (count n) → Term
   found-by x (inl p) = class-term (at rep (p .0))
   found-by x (inr h) = var x
 
@@ -139,13 +139,13 @@ module _ (n : Nodes) (s t : ℕ) (rep size : List ℕ) (solution : Solution n s 
   pub found : Substitution
   found x = found-by x (met? n x (count n))
 
-  found-by-met : (i : ℕ) → In n i → IsVariable n i → (d : Met n (node-number n i) ⊎ Unmet n (node-number n i) (count n))
+  found-by-met : (i : ℕ) → In n i → IsVariable n i → (d : NodeVariable n (node-number n i) ⊎ Unmet n (node-number n i) (count n))
       → found-by (node-number n i) d ≡ class-term (at rep i)
   unfolding found-by
   found-by-met i l a (inl p) = ap class-term (solution .finished .state .partition .shared (p .0) i (p .1) l (p .2) a (p .3))
   found-by-met i l a (inr h) = absurd (h i l a refl)
 
-  found-by-each : (x : ℕ) (d : Met n x ⊎ Unmet n x (count n)) → Met n x ⊎ (found-by x d ≡ var x)
+  found-by-each : (x : ℕ) (d : NodeVariable n x ⊎ Unmet n x (count n)) → NodeVariable n x ⊎ (found-by x d ≡ var x)
   unfolding found-by
   found-by-each x (inl p) = inl p
   found-by-each x (inr h) = inr refl
@@ -172,7 +172,7 @@ module _ (n : Nodes) (s t : ℕ) (rep size : List ℕ) (solution : Solution n s 
   found-expansion i l a = subst (Expansion n children (at rep) (at rep i)) (sym (found-reads .met i l a)) (class-expansion i l)
 
   -- and leaves the others
-  unmet-by : (x : ℕ) → Unmet n x (count n) → (d : Met n x ⊎ Unmet n x (count n)) → found-by x d ≡ var x
+  unmet-by : (x : ℕ) → Unmet n x (count n) → (d : NodeVariable n x ⊎ Unmet n x (count n)) → found-by x d ≡ var x
   unfolding found-by
   unmet-by x h (inl p) = absurd (h (p .0) (p .1) (p .2) (p .3))
   unmet-by x h (inr k) = refl
@@ -199,11 +199,11 @@ module _ (n : Nodes) (s t : ℕ) (rep : List ℕ) (r : Bool) (h : Ended n s t re
   pub ended-state : r ≡ true → State n s t rep
   ended-state e = ended-finished e .state
 
-  pub ended-solved : r ≡ false → (size : List ℕ) → Solved n s t rep size false
-  unfolding Ended Solved
+  pub ended-solved : r ≡ false → (size : List ℕ) → SolvedTables n s t rep size false
+  unfolding Ended SolvedTables
   ended-solved e size = subst (Ended n s t rep) e h
 
-  pub checked-solved : (size : List ℕ) → r ≡ true → Measuring n rep size (count n) → (b : Bool) → Checked n rep size b → Solved n s t rep size b
-  unfolding Checked Solved
+  pub checked-solved : (size : List ℕ) → r ≡ true → Measuring n rep size (count n) → (b : Bool) → Checked n rep size b → SolvedTables n s t rep size b
+  unfolding Checked SolvedTables
   checked-solved size e m true c = record { finished = ended-finished e; measuring = m; complete = c }
   checked-solved size e m false c = waiting-apart n s t rep size (ended-finished e) m (c .0) (c .1) (c .2)

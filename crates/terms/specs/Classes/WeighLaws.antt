@@ -11,7 +11,7 @@ use Rattle.records.specs.Format.Syntax.Terms.{nil, cons}
 use Rattle.records.specs.Format.Formed.{All}
 use Rattle.terms.specs.Theory.Substitution.{term-length, terms-length}
 use Rattle.terms.specs.Theory.SubstitutionLaws.{terms-length-cons}
-use Rattle.terms.specs.Theory.Variables.{Listed}
+use Rattle.terms.specs.Theory.Variables.{Among}
 use Rattle.terms.specs.Classes.Nodes.{at, Nodes, In, node-number, Path, Children, variable, symbol, Graph}
 use Rattle.terms.specs.Classes.CompareLaws.{path-more, path-end}
 use Rattle.terms.specs.Classes.Lengths.{Expansion, Expansions, length-cap, total, LengthsKnown, Weighable, Weighs, Weighed, ClassesMeasured}
@@ -28,7 +28,7 @@ pub record Unweighed (nexts rep size : List ℕ) (e p w : ℕ) (cs : List ℕ) :
   pub path : Path nexts p e left
   pub known : LengthsKnown rep size left → LengthsKnown rep size cs
   pub sum : min length-cap (w + total rep size left) ≡ min length-cap (4 + total rep size cs)
-  pub listed : (c : ℕ) → Listed c left → Listed c cs
+  pub listed : (c : ℕ) → Among c left → Among c cs
 
 -- the loop
 pub record Weighing (nexts rep size : List ℕ) (r p w : ℕ) : Type 0 where
@@ -59,7 +59,7 @@ unweighed-step nexts rep size e p w cs h l k v q =
       path = mp;
       known = λ z. h .known (subst (LengthsKnown rep size) (sym me) (k, z));
       sum = omega (arith, h .sum);
-      listed = λ c z. h .listed c (subst (Listed c) (sym me) (inr z));
+      listed = λ c z. h .listed c (subst (Among c) (sym me) (inr z));
     }
 
 module _ (kinds nexts rep size : List ℕ) (r p w : ℕ) (c : Weighable kinds nexts rep size) (h : Weighing nexts rep size r p w) where
@@ -96,7 +96,7 @@ module _ (kinds nexts rep size : List ℕ) (r p w : ℕ) (c : Weighable kinds ne
       child = λ cs k.
           let f = h .rest cs k in
           let (m, me, mp) = path-more nexts p (at nexts r) (f .left) (f .path) l in
-          (p, f .listed p (subst (Listed p) (sym me) (inl refl)), z);
+          (p, f .listed p (subst (Among p) (sym me) (inl refl)), z);
     },
   )
 

@@ -5,6 +5,7 @@ use mathlib.Core.Bool.{true}
 use mathlib.Core.List.{List, _∷_}
 use Prim.Native.Nat.{ℕ, _+_}
 use lib.ListN.{length}
+use Rattle.records.specs.Gate.BoolLaws.{and-both}
 use Rattle.records.specs.Format.Syntax.{Term, Terms, Goal, Ancestor, Bet, Port, Event, Definition}
 use Rattle.records.specs.Format.Syntax.Goal.{equal, atom}
 use Rattle.records.specs.Format.Syntax.Ancestor.{called}
@@ -18,12 +19,11 @@ use Rattle.records.specs.Gate.GateLaws.{event-tree, program-tree}
 use Rattle.records.specs.Ends.Places.{goal-end, EventParts, event-parts}
 use Rattle.records.specs.Ends.Stands.{equal-parts, stack-parts}
 use Rattle.records.specs.Ends.Stands.{Stands, body-stands, stands-second}
-use Rattle.terms.specs.Standing.BetRow.{Bets}
+use Rattle.terms.specs.Standing.BetRow.{RuledBets}
 use Rattle.terms.specs.Values.Applied.{TermAt}
 use Rattle.terms.specs.Standing.Frames.{FrameAt}
 use Rattle.terms.specs.Body.Definitions.{ProgramAt}
 use Rattle.terms.specs.Body.BodyBytes.{AtomAt}
-use Rattle.terms.specs.Theory.TestLaws.{and-right}
 use Rattle.terms.specs.declared.variables.Frame.{Frame}
 
 -- where the count of an event's ancestors stands, and that of its bets
@@ -59,8 +59,11 @@ frame-under g k ts u b = record {
 
 -- the same bets, term and atom, their places by other names
 module _ {s : List ℕ} where
-  abbrev pub bets-moved : {at to n m : ℕ} → to ≡ at → m ≡ n → Bets s at n → Bets s to m
-  bets-moved i j b = record { bets = b .bets; count = b .count ∙ sym j; formed = b .formed; rules = b .rules; end = b .end; stands = rw i (b .stands) }
+  abbrev pub bets-moved : {at to n m : ℕ} → to ≡ at → m ≡ n → RuledBets s at n → RuledBets s to m
+  bets-moved i j b = record {
+    row = record { items = b .row .items; formed = b .row .formed; many = b .row .many ∙ sym j; end = b .row .end; stands = rw i (b .row .stands) };
+    rules = b .rules;
+  }
 
   abbrev pub term-moved : {at to e d : ℕ} → to ≡ at → d ≡ e → TermAt s at e → TermAt s to d
   term-moved i j t = record { term = t .term; formed = t .formed; stands = rw (i, j) (t .stands) }
@@ -143,26 +146,30 @@ accepted-rules s known {p} g {u} {b} e = event-tree s (bytes-all s known) (event
 module _ (s : List ℕ) (known : Known s) {p : Port} {u : List Ancestor} {b : List Bet} where
   module _ (g : Goal) (e : read-event s ≡ tree (event p g u b)) where
     -- the bets of an event
-    abbrev pub accepted-bets : Bets s (bets-at g u + 2) (length b)
+    abbrev pub accepted-bets : RuledBets s (bets-at g u + 2) (length b)
     accepted-bets = record {
-      bets = b;
-      count = refl;
-      formed = event-parts s known p g u b e .formed .2 .1;
+      row = record {
+        items = b;
+        formed = event-parts s known p g u b e .formed .2 .1;
+        many = refl;
+        end = length s;
+        stands = stands-second (word (length b)) (each bet-bytes b) (event-parts s known p g u b e .bets-stand);
+      };
       rules = accepted-rules s known g e;
-      end = length s;
-      stands = stands-second (word (length b)) (each bet-bytes b) (event-parts s known p g u b e .bets-stand);
     }
 
   -- the bets below the top
   module _ (g : Goal) (x : Bet) (e : read-event s ≡ tree (event p g u (x ∷ b))) where
-    abbrev pub accepted-rest : Bets s (top-end (bets-at g u) (bet-bytes x)) (length b)
+    abbrev pub accepted-rest : RuledBets s (top-end (bets-at g u) (bet-bytes x)) (length b)
     accepted-rest = record {
-      bets = b;
-      count = refl;
-      formed = event-parts s known p g u (x ∷ b) e .formed .2 .1 .1;
-      rules = and-right (bet-rules x) (every bet-rules b) (accepted-rules s known g e);
-      end = length s;
-      stands = stack-parts bet-bytes x b (event-parts s known p g u (x ∷ b) e .bets-stand) .other;
+      row = record {
+        items = b;
+        formed = event-parts s known p g u (x ∷ b) e .formed .2 .1 .1;
+        many = refl;
+        end = length s;
+        stands = stack-parts bet-bytes x b (event-parts s known p g u (x ∷ b) e .bets-stand) .other;
+      };
+      rules = and-both (bet-rules x) (every bet-rules b) (accepted-rules s known g e) .1;
     }
 
   -- the sides of an equality

@@ -1,5 +1,5 @@
 -- What the bytes of an accepted event tell: the head of its goal, and where the left side of an equality ends.
-use mathlib.Core.Path.{_≡_, ap}
+use mathlib.Core.Path.{_≡_}
 use mathlib.Core.List.{List}
 use Prim.Native.Nat.{ℕ, _+_}
 use lib.ListN.{length}
@@ -7,21 +7,15 @@ use Rattle.records.specs.Format.Syntax.{Term, Goal, Ancestor, Bet, Port}
 use Rattle.records.specs.Format.Syntax.Goal.{equal}
 use Rattle.records.specs.Format.Syntax.Event.{event}
 use Rattle.records.specs.Format.Encode.{term-bytes}
-use Rattle.records.specs.Format.Formed.{TermFormed}
 use Rattle.records.specs.Format.Heads.{goal-head-at}
 use Rattle.records.specs.Format.HeadLaws.{Known}
 use Rattle.records.specs.Gate.Gate.{read-event}
 use Rattle.records.specs.Gate.Gate.Reading.{tree}
 use Rattle.records.specs.Ends.Places.{event-parts}
-use Rattle.records.specs.Ends.Stands.{Stands, traverse-term, head-of-goal, goal-stands}
-use Rattle.records.specs.Ends.Traversal.{end-at, traversal-end}
+use Rattle.records.specs.Ends.Stands.{head-of-goal, goal-stands, term-ends}
+use Rattle.records.specs.Ends.Traversal.{end-at}
 use Rattle.records.specs.declared.ends.Found.the-variants.{At}
 use Rattle.terms.specs.Standing.Accepted.{left-side}
-
--- a term that stands somewhere ends there
-pub term-ends : {s : List ℕ} {at e : ℕ} (t : Term) → TermFormed t → Stands s at (term-bytes t) e → end-at s at 1 0 ≡ At e
-unfolding end-at
-term-ends t f w = ap traversal-end (traverse-term t f w)
 
 module _ (s : List ℕ) (known : Known s) where
   -- the head at position 4 is the goal's

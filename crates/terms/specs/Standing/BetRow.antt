@@ -9,7 +9,7 @@ use Rattle.records.specs.Format.Syntax.{Term, Binding, Bet}
 use Rattle.records.specs.Format.Syntax.Binding.{bind}
 use Rattle.records.specs.Format.Syntax.Bet.{unifier, or, by}
 use Rattle.records.specs.Format.Encode.{word, each, term-bytes, binding-bytes, bet-bytes}
-use Rattle.records.specs.Format.Formed.{All, TermFormed, BindingFormed, BetFormed}
+use Rattle.records.specs.Format.Formed.{TermFormed, BindingFormed, BetFormed}
 use Rattle.records.specs.Gate.RecordRules.{every, bet-rules}
 use Rattle.records.specs.Format.Heads.{word-at, bet-head-at}
 use Rattle.records.specs.Ends.Stands.{Stands, stands-second, stands-within, word-stands, bet-stands, head-of-bet}
@@ -20,16 +20,9 @@ use Rattle.terms.specs.Theory.SubstitutionLaws.{term-length-least}
 use Rattle.terms.specs.Standing.Frames.{PairAt, PairsAt, BetAt, BetsAt}
 
 -- n bets stand at a position, top first, and keep the rules
-pub record Bets (s : List ℕ) (at n : ℕ) : Type 0 where
-  pub bets : List Bet
-  pub count : length bets ≡ n
-  pub formed : All BetFormed bets
-  pub rules : every bet-rules bets ≡ true
-  pub end : ℕ
-  pub stands : Stands s at (each bet-bytes bets) end
-
-abbrev pub bets-row : {s : List ℕ} {at n : ℕ} → Bets s at n → BetsAt s at n
-bets-row p = record { items = p .bets; formed = p .formed; many = p .count; end = p .end; stands = p .stands }
+pub record RuledBets (s : List ℕ) (at n : ℕ) : Type 0 where
+  pub row : BetsAt s at n
+  pub rules : every bet-rules (row .items) ≡ true
 
 -- the pairs of a bet: OR and BY have none
 abbrev pub bet-pairs : Bet → List Binding

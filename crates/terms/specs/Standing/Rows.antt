@@ -9,7 +9,7 @@ use Rattle.records.specs.Format.Formed.{All}
 use Rattle.records.specs.Ends.Stands.{Stands, stands-first, stands-second}
 
 -- a well-formed item whose bytes stand at `at`
-pub record Item {A : Type 0} (bytes : A → List ℕ) (Formed : A → Type 0) (s : List ℕ) (at : ℕ) : Type 0 where
+pub record StandingItem {A : Type 0} (bytes : A → List ℕ) (Formed : A → Type 0) (s : List ℕ) (at : ℕ) : Type 0 where
   pub item : A
   pub formed : Formed item
   pub end : ℕ
@@ -26,13 +26,13 @@ pub record StandingRow {A : Type 0} (bytes : A → List ℕ) (Formed : A → Typ
 module _ {A : Type 0} {bytes : A → List ℕ} {Formed : A → Type 0} {s : List ℕ} {at n : ℕ} where
   -- the first of a row, and the others
   pub record FirstOf (r : StandingRow bytes Formed s at n) : Type 0 where
-    pub first : Item bytes Formed s at
+    pub first : StandingItem bytes Formed s at
     pub rest : StandingRow bytes Formed s (first .end) (n - 1)
     pub whole : r .items ≡ first .item ∷ rest .items
     pub same-end : rest .end ≡ r .end
 
-  pub row-first : (r : StandingRow bytes Formed s at n) → 0 < n → FirstOf r
-  row-first r h = go (r .items) refl (r .formed) (r .many) (r .stands)
+  pub standing-first : (r : StandingRow bytes Formed s at n) → 0 < n → FirstOf r
+  standing-first r h = go (r .items) refl (r .formed) (r .many) (r .stands)
     where
       go : (l : List A) → r .items ≡ l → All Formed l → length l ≡ n → Stands s at (each bytes l) (r .end) → FirstOf r
       go [] e f m w = absurd (omega arith)
@@ -44,20 +44,20 @@ module _ {A : Type 0} {bytes : A → List ℕ} {Formed : A → Type 0} {s : List
       }
 
   -- no items: none is listed, and the row ends where it starts
-  pub row-none : (r : StandingRow bytes Formed s at n) → n ≡ 0 → r .items ≡ []
-  row-none r h = go (r .items) (r .many)
+  pub standing-none : (r : StandingRow bytes Formed s at n) → n ≡ 0 → r .items ≡ []
+  standing-none r h = go (r .items) (r .many)
     where
       go : (l : List A) → length l ≡ n → l ≡ []
       go [] m = refl
       go (a ∷ l) m = absurd (omega arith)
 
-  pub row-none-end : (r : StandingRow bytes Formed s at n) → n ≡ 0 → r .end ≡ at
-  row-none-end r h = r .stands .end ∙ ap (λ (l : List A). at + length (each bytes l)) (row-none r h) ∙ omega arith
+  pub standing-none-end : (r : StandingRow bytes Formed s at n) → n ≡ 0 → r .end ≡ at
+  standing-none-end r h = r .stands .end ∙ ap (λ (l : List A). at + length (each bytes l)) (standing-none r h) ∙ omega arith
 
   -- the same row, its place by another name
-  abbrev pub row-moved : {to : ℕ} → to ≡ at → StandingRow bytes Formed s at n → StandingRow bytes Formed s to n
-  row-moved e r = record { items = r .items; formed = r .formed; many = r .many; end = r .end; stands = rw e (r .stands) }
+  abbrev pub standing-moved : {to : ℕ} → to ≡ at → StandingRow bytes Formed s at n → StandingRow bytes Formed s to n
+  standing-moved e r = record { items = r .items; formed = r .formed; many = r .many; end = r .end; stands = rw e (r .stands) }
 
 -- a row of no items stands anywhere
-abbrev pub row-empty : {A : Type 0} {bytes : A → List ℕ} {Formed : A → Type 0} (s : List ℕ) (at : ℕ) → StandingRow bytes Formed s at 0
-row-empty s at = record { items = []; formed = tt; many = refl; end = at; stands = record { end = omega arith; bytes = refl } }
+abbrev pub standing-empty : {A : Type 0} {bytes : A → List ℕ} {Formed : A → Type 0} (s : List ℕ) (at : ℕ) → StandingRow bytes Formed s at 0
+standing-empty s at = record { items = []; formed = tt; many = refl; end = at; stands = record { end = omega arith; bytes = refl } }

@@ -1,11 +1,11 @@
 -- Laws of the list of bindings of a substitution: it rises, holds what the substitution changes, and does what the substitution does.
-use mathlib.Core.Bool.{true≢false}
 use mathlib.Core.Path.{_≡_, refl, sym, _∙_, ap}
 use mathlib.Core.Logic.{inl, inr, ite, if-pos, if-neg}
 use mathlib.Core.List.{List, [], _∷_, _++_}
 use native.Mathlib.Decide.{ℕ-discrete}
 use native.Mathlib.Omega.{arith}
 use Prim.Native.Nat.{ℕ, zero, suc, _+_, _≤_, _<_}
+use Rattle.records.specs.Format.Never.{never}
 use Rattle.records.specs.Format.Syntax.{Term, Binding}
 use Rattle.records.specs.Format.Syntax.Term.{var, app}
 use Rattle.records.specs.Format.Syntax.Binding.{bind}
@@ -25,7 +25,7 @@ pub data Putting (k : ℕ) (t : Term) (σ : List Binding) : Type 0 where
   put : (t ≡ var k → ⊥) → put-binding k t σ ≡ bind k t ∷ σ → Putting k t σ
 
 pub putting : (k : ℕ) (t : Term) (σ : List Binding) → Putting k t σ
-putting k (app f ts) σ = put (λ e. absurd (true≢false cc)) refl
+putting k (app f ts) σ = put (λ e. never cc) refl
 putting k (var w) σ = elim (ℕ-discrete w k) [
   | yes e ↦ itself (ap var e) (rw e (if-pos (ℕ-discrete k k) refl σ (bind k (var k) ∷ σ)))
   | no n ↦ put (λ e. n (cc)) (if-neg (ℕ-discrete w k) n σ (bind k (var w) ∷ σ))

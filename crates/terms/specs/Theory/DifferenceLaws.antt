@@ -1,10 +1,10 @@
 -- What the leftmost difference of two terms says of the substitutions that make them equal.
-use mathlib.Core.Bool.{true≢false}
 use mathlib.Core.Path.{_≡_, refl, sym, ap, ap₂}
 use mathlib.Core.Logic.{_⊎_, inl, inr, ite}
 use native.Mathlib.Decide.{ℕ-discrete}
 use native.Mathlib.Omega.{arith}
 use Prim.Native.Nat.{ℕ, _<_}
+use Rattle.records.specs.Format.Never.{never}
 use Rattle.records.specs.Format.Syntax.{Term, Terms}
 use Rattle.records.specs.Format.Syntax.Term.{var, app}
 use Rattle.records.specs.Format.Syntax.Terms.{nil, cons}
@@ -69,7 +69,7 @@ variable-says x f ts (yes o) Same = λ θ k. occurs-check θ x f ts o k
 variable-says x f ts (no n) Same = record {
   forced = λ θ k. k;
   fresh = n;
-  lower = λ y e. absurd (true≢false cc);
+  lower = λ y e. never cc;
   here = inl refl;
   inside = λ v o. inr o;
 }
@@ -107,7 +107,7 @@ mutual
 
   pub differences-say : (ts us : Terms) → Arguments-say ts us (differences ts us)
   differences-say nil nil = refl
-  differences-say nil (cons u us) = λ θ p. absurd (true≢false cc)
-  differences-say (cons t ts) nil = λ θ p. absurd (true≢false cc)
+  differences-say nil (cons u us) = λ θ p. never cc
+  differences-say (cons t ts) nil = λ θ p. never cc
   differences-say (cons t ts) (cons u us) =
       arguments-say t u ts us (difference t u) (differences ts us) (difference-says t u) (differences-say ts us)

@@ -1,5 +1,4 @@
--- The most general unifier of two terms, in the words of SPECIFICATION 5: "idempotent, most general, only variables of the two terms; of variables made
--- equal and otherwise free the lowest number stays". `MguLaws` shows that there is at most one.
+-- The most general unifier of two terms, as the six properties of SPECIFICATION 5.1, one field each. `MguLaws` shows that at most one list has them.
 use mathlib.Core.Path.{_≡_}
 use mathlib.Core.Logic.{_⊎_}
 use mathlib.Core.List.{List, [], _∷_}
@@ -24,7 +23,7 @@ Rises n (bind x t ∷ σ) = (n ≤ x) × Rises (suc x) σ
 abbrev pub Unifies : Term → Term → Substitution → Type 0
 Unifies s t θ = substitute θ s ≡ substitute θ t
 
--- σ is the unifier of s and t that SPECIFICATION 5 describes
+-- σ is the unifier of s and t (SPECIFICATION 5.1)
 pub record IsMgu (s t : Term) (σ : List Binding) : Type 0 where
   -- pairs rise strictly by variable
   pub rising : Rises 0 σ

@@ -1,4 +1,4 @@
--- There is at most one most general unifier in the sense of SPECIFICATION 5.
+-- There is at most one most general unifier in the sense of SPECIFICATION 5.1.
 use mathlib.Core.Path.{_≡_, refl, sym, _∙_, ap}
 use mathlib.Core.Logic.{inl, inr, if-pos, if-neg}
 use mathlib.Core.List.{List, [], _∷_}
@@ -37,14 +37,6 @@ becomes n (bind x t ∷ σ) r v = go (ℕ-discrete v x) (becomes (suc x) σ (r .
     go (no h) (binds u m e) = binds u (inr m) (if-neg (ℕ-discrete v x) h t (as-substitution σ v) ∙ e)
     go (no h) (stays f e) =
         stays (λ u m. elim m [ inl q ↦ h (q .0) | inr q ↦ f u q ]) (if-neg (ℕ-discrete v x) h t (as-substitution σ v) ∙ e)
-
--- a bound variable becomes the term of its binding
-pub binds-becomes : (n : ℕ) (σ : List Binding) → Rises n σ → (x : ℕ) (t : Term) → Binds σ x t → as-substitution σ x ≡ t
-binds-becomes n [] r x t h = absurd h
-binds-becomes n (bind y u ∷ σ) r x t (inl e) = rw (e .0) (if-pos (ℕ-discrete y y) refl u (as-substitution σ y) ∙ sym (e .1))
-binds-becomes n (bind y u ∷ σ) r x t (inr h) =
-    let k = rises-least (suc y) σ (r .1) x t h in
-    if-neg (ℕ-discrete x y) (λ e. omega arith) u (as-substitution σ x) ∙ binds-becomes (suc y) σ (r .1) x t h
 
 -- a variable below the start of a rising list stays
 pub below-stays : (n : ℕ) (σ : List Binding) → Rises n σ → (v : ℕ) → v < n → as-substitution σ v ≡ var v
@@ -107,7 +99,7 @@ module _ {s t : Term} where
       ∙ ap (substitute δ) (idempotent m v)
       ∙ sym (e v)
 
-  -- of variables made equal and otherwise free the lowest number stays
+  -- a variable that becomes a variable becomes no higher one
   pub lowest-stays : {σ : List Binding} → IsMgu s t σ → (v w : ℕ) → as-substitution σ v ≡ var w → w ≤ v
   lowest-stays {σ} m v w e = elim (becomes 0 σ (m .rising) v) [
     | binds u h k ↦ let l : w < v = m .lowest v w (rw (sym e ∙ k) h) in omega arith

@@ -1,5 +1,5 @@
 -- The most general unifier as a function from variables to terms, in the three facts that an algorithm has to show. The other clauses of
--- SPECIFICATION 5 follow from them: idempotence, and that only variables of the two terms occur.
+-- SPECIFICATION 5.1 follow from them: idempotence, and that only variables of the two terms occur.
 use mathlib.Core.Logic.{ite}
 use mathlib.Core.Path.{_≡_}
 use mathlib.Core.Option.{Option, none, some}
@@ -19,9 +19,9 @@ pub record MostGeneral (s t : Term) (σ : Substitution) : Type 0 where
   pub lower : (v w : ℕ) → σ v ≡ var w → w ≤ v
 
 -- what a right answer is: none where no substitution unifies s and t, else a most general one
-abbrev pub Found : Term → Term → Option Substitution → Type 0
-Found s t none = (θ : Substitution) → Unifies s t θ → ⊥
-Found s t (some σ) = MostGeneral s t σ
+abbrev pub FoundUnifier : Term → Term → Option Substitution → Type 0
+FoundUnifier s t none = (θ : Substitution) → Unifies s t θ → ⊥
+FoundUnifier s t (some σ) = MostGeneral s t σ
 
 -- σ, but w becomes c
 abbrev pub but : Substitution → ℕ → Term → Substitution

@@ -1,5 +1,4 @@
 -- Removing leftmost differences finds a most general unifier or shows that there is none; and what follows from being most general.
-use mathlib.Core.Bool.{true≢false}
 use mathlib.Core.Path.{_≡_, refl, sym, _∙_, ap}
 use mathlib.Core.Logic.{inl, inr, ite, if-pos, if-neg}
 use mathlib.Core.List.{List}
@@ -8,6 +7,7 @@ use native.Mathlib.Decide.{ℕ-discrete}
 use native.Mathlib.Omega.{arith}
 use Prim.Native.Nat.{ℕ, zero, suc, _≤_, _<_}
 use lib.ListN.{length}
+use Rattle.records.specs.Format.Never.{never}
 use Rattle.records.specs.Format.Syntax.{Term}
 use Rattle.records.specs.Format.Syntax.Term.{var, app}
 use Rattle.records.specs.Format.Syntax.Terms.{nil}
@@ -19,12 +19,12 @@ use Rattle.terms.specs.Theory.SubstitutionLaws.{
   agree-substitute,
   occurs-substitute,
 }
-use Rattle.terms.specs.Theory.Variables.{Listed, both-variables, without}
-use Rattle.terms.specs.Theory.VariablesLaws.{either-listed, without-shorter, without-keeps}
+use Rattle.terms.specs.Theory.Variables.{Among, both-variables, without}
+use Rattle.terms.specs.Theory.VariablesLaws.{either-among, without-shorter, without-keeps}
 use Rattle.terms.specs.Theory.Mgu.{Unifies}
 use Rattle.terms.specs.Theory.Unify.{Difference, alike, clash, differ, difference, single, followed, remove, unifying}
 use Rattle.terms.specs.Theory.DifferenceLaws.{Differs, Says, difference-says}
-use Rattle.terms.specs.Theory.MostGeneral.{MostGeneral, Found, but}
+use Rattle.terms.specs.Theory.MostGeneral.{MostGeneral, FoundUnifier, but}
 
 -- a substitution that makes x and u equal is not changed by x becoming u before it
 single-absorbed : (θ : Substitution) (x : ℕ) (u : Term) → θ x ≡ substitute θ u → (v : ℕ) → substitute θ (single x u v) ≡ θ v
@@ -66,7 +66,7 @@ single-variables x u s t g v o = elim o [ inl p ↦ half s (λ w q. inl q) p | i
 
 -- what is found after a difference is removed, with that difference removed before it
 after-found : (s t : Term) (x : ℕ) (u : Term) → Differs (Unifies s t) (λ v. Either v s t) x u
-    → (r : Option Substitution) → Found (substitute (single x u) s) (substitute (single x u) t) r → Found s t (followed (single x u) r)
+    → (r : Option Substitution) → FoundUnifier (substitute (single x u) s) (substitute (single x u) t) r → FoundUnifier s t (followed (single x u) r)
 after-found s t x u g none h = λ θ k. h θ (differs-unifies s t x u g θ k)
 after-found s t x u g (some τ) h = record {
   unifies = sym (substitute-twice τ (single x u) s) ∙ h .unifies ∙ substitute-twice τ (single x u) t;
@@ -82,14 +82,14 @@ after-found s t x u g (some τ) h = record {
         let l₁ = single-lower x u (g .lower) v y p in
         let l₂ = h .lower y w q in
         omega arith
-    lower-after v w (app f ts) p q = absurd (true≢false cc)
+    lower-after v w (app f ts) p q = never cc
 
 same-found : (s t : Term) → s ≡ t → MostGeneral s t var
 same-found s t e = record { unifies = ap (substitute var) e; general = λ θ k v. refl; lower = λ v w k. let z : v ≡ w = cc in omega arith }
 
 -- n turns are enough where the variables stand in a list of n
-remove-found : (n : ℕ) (d : Difference) (s t : Term) (l : List ℕ) → length l ≤ n → ((v : ℕ) → Either v s t → Listed v l)
-    → Says (s ≡ t) (Unifies s t) (λ v. Either v s t) d → Found s t (remove n d s t)
+remove-found : (n : ℕ) (d : Difference) (s t : Term) (l : List ℕ) → length l ≤ n → ((v : ℕ) → Either v s t → Among v l)
+    → Says (s ≡ t) (Unifies s t) (λ v. Either v s t) d → FoundUnifier s t (remove n d s t)
 remove-found zero alike s t l b i h = same-found s t h
 remove-found zero clash s t l b i h = h
 remove-found zero (differ x u) s t l b i h = let k = without-shorter x l (i x (h .here)) in absurd (omega arith)
@@ -104,9 +104,9 @@ remove-found (suc n) (differ x u) s t l b i h =
     (λ v o. let q = single-variables x u s t h v o in without-keeps x v l (q .0) (i v (q .1)))
     (difference-says s′ t′))
 
-pub unifying-found : (s t : Term) → Found s t (unifying s t)
+pub unifying-found : (s t : Term) → FoundUnifier s t (unifying s t)
 unifying-found s t =
-    remove-found (length (both-variables s t)) (difference s t) s t (both-variables s t) (omega arith) (λ v o. either-listed v s t o)
+    remove-found (length (both-variables s t)) (difference s t) s t (both-variables s t) (omega arith) (λ v o. either-among v s t o)
     (difference-says s t)
 
 module _ (s t : Term) {σ : Substitution} (m : MostGeneral s t σ) where
@@ -153,5 +153,4 @@ module _ (s t : Term) {σ : Substitution} (m : MostGeneral s t σ) where
       let p : substitute θ (σ v) ≡ σ v = m .general θ (but-unifies w c n) v ∙ if-neg (ℕ-discrete v w) d c (σ v) in
       let q : θ w ≡ var w = agree-substitute θ var (σ v) (p ∙ sym (substitute-var (σ v))) w o in
       let r : app 0 nil ≡ var w = sym (if-pos (ℕ-discrete w w) refl c (σ w)) ∙ q in
-      let z : _≡_ {A = ℕ} 0 1 = cc in
-      omega arith
+      never cc

@@ -17,7 +17,7 @@ use Rattle.terms.specs.Theory.Mgu.{Correct}
 use Rattle.terms.specs.Theory.MguLaws.{unique}
 use Rattle.terms.specs.Theory.Unify.{unify}
 use Rattle.terms.specs.Theory.UnifyLaws.{unify-correct, is-unify, unify-rules}
-use Rattle.terms.specs.Theory.UnifyFormed.{unify-formed, unify-length}
+use Rattle.terms.specs.Theory.UnifyFormedLaws.{unify-formed, unify-length}
 use Rattle.terms.specs.Theory.Outcome.{ValuesWithin, Meant, value-limit, value-under, Unified, too-large, clash, unified, as-unified, outcome-of, unified-under}
 
 -- a value within the limit, and one beyond it

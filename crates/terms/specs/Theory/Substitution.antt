@@ -33,7 +33,7 @@ abbrev pub as-substitution : List Binding → Substitution
 as-substitution [] v = var v
 as-substitution (bind x t ∷ σ) v = ite (ℕ-discrete v x) t (as-substitution σ v)
 
--- S(T): the bottom unifier first and the top last, OR and BY do nothing; the list has the top first
+-- S(T) (SPECIFICATION 3.2): unifiers are applied from the bottom of the stack up, and the list has the top first; other bets have no effect
 unfoldable pub apply : List Bet → Term → Term
 apply [] t = t
 apply (unifier σ ∷ bets) t = substitute (as-substitution σ) (apply bets t)

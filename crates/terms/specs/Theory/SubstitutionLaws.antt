@@ -5,7 +5,7 @@ use mathlib.Core.List.{List, [], _∷_, _++_}
 use native.Mathlib.Omega.{arith}
 use Prim.Native.Nat.{ℕ, suc, _+_, _≤_}
 use lib.ListN.{length-append}
-use Rattle.records.specs.Format.Syntax.{Term, Terms, Binding, Bet, arity}
+use Rattle.records.specs.Format.Syntax.{Term, Terms, Bet, arity}
 use Rattle.records.specs.Format.Syntax.Term.{var, app}
 use Rattle.records.specs.Format.Syntax.Terms.{nil, cons}
 use Rattle.records.specs.Format.Syntax.Bet.{unifier, or, by}
@@ -97,7 +97,7 @@ mutual
       let h = occurs-in-length θ v ts o in
       omega (arith, terms-length-cons (substitute θ t) (substitute-all θ ts))
 
--- a variable never equals a larger term that contains it
+-- no substitution makes a variable equal to a term around it
 pub occurs-check : (θ : Substitution) (v f : ℕ) (ts : Terms) → Occurs-in v ts → θ v ≡ app f (substitute-all θ ts) → ⊥
 occurs-check θ v f ts o e =
     let h = occurs-in-length θ v ts o in

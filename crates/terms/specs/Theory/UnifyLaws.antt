@@ -15,9 +15,9 @@ use Rattle.terms.specs.Theory.Variables.{both-variables}
 use Rattle.terms.specs.Theory.VariablesLaws.{either-above}
 use Rattle.terms.specs.Theory.Mgu.{IsMgu, Correct}
 use Rattle.terms.specs.Theory.MguLaws.{unique}
-use Rattle.terms.specs.Theory.MguRules.{mgu-rules}
+use Rattle.terms.specs.Theory.MguRuleLaws.{mgu-rules}
 use Rattle.terms.specs.Theory.Unify.{bindings, bindings-below, unifying, unify}
-use Rattle.terms.specs.Theory.MostGeneral.{MostGeneral, Found}
+use Rattle.terms.specs.Theory.MostGeneral.{MostGeneral, FoundUnifier}
 use Rattle.terms.specs.Theory.MostGeneralLaws.{unifying-found, most-general-apart, outside-stays, outside-absent}
 use Rattle.terms.specs.Theory.BindingsLaws.{bindings-rise, bindings-bind, bindings-do}
 
@@ -52,7 +52,7 @@ bindings-mgu s t n σ b m = record {
       ]),
     )
 
-found-correct : (s t : Term) (n : ℕ) → ((v : ℕ) → Either v s t → v < n) → (r : Option Substitution) → Found s t r → Correct s t (bindings-below n r)
+found-correct : (s t : Term) (n : ℕ) → ((v : ℕ) → Either v s t → v < n) → (r : Option Substitution) → FoundUnifier s t r → Correct s t (bindings-below n r)
 found-correct s t n b none h = h
 found-correct s t n b (some σ) h = bindings-mgu s t n σ b h
 

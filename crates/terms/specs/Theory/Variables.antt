@@ -8,9 +8,9 @@ use Rattle.records.specs.Format.Syntax.{Term}
 use Rattle.records.specs.Gate.RecordRules.{term-variables}
 
 -- v stands in the list
-abbrev pub Listed : ℕ → List ℕ → Type 0
-Listed v [] = ⊥
-Listed v (w ∷ l) = (v ≡ w) ⊎ Listed v l
+abbrev pub Among : ℕ → List ℕ → Type 0
+Among v [] = ⊥
+Among v (w ∷ l) = (v ≡ w) ⊎ Among v l
 
 -- the variables of two terms
 abbrev pub both-variables : Term → Term → List ℕ

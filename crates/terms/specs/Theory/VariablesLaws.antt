@@ -13,64 +13,64 @@ use Rattle.records.specs.Gate.RecordRules.{term-variables, terms-variables}
 use Rattle.records.specs.Ends.Above.{above}
 use Rattle.terms.specs.Theory.Substitution.{Occurs, Occurs-in, Either, term-length, terms-length}
 use Rattle.terms.specs.Theory.SubstitutionLaws.{terms-length-cons}
-use Rattle.terms.specs.Theory.Variables.{Listed, both-variables, without}
+use Rattle.terms.specs.Theory.Variables.{Among, both-variables, without}
 
 -- what stands in two lists, one after the other
-pub listed-left : (v : ℕ) (l m : List ℕ) → Listed v l → Listed v (l ++ m)
-listed-left v [] m h = absurd h
-listed-left v (w ∷ l) m (inl e) = inl e
-listed-left v (w ∷ l) m (inr h) = inr (listed-left v l m h)
+pub among-left : (v : ℕ) (l m : List ℕ) → Among v l → Among v (l ++ m)
+among-left v [] m h = absurd h
+among-left v (w ∷ l) m (inl e) = inl e
+among-left v (w ∷ l) m (inr h) = inr (among-left v l m h)
 
-pub listed-right : (v : ℕ) (l m : List ℕ) → Listed v m → Listed v (l ++ m)
-listed-right v [] m h = h
-listed-right v (w ∷ l) m h = inr (listed-right v l m h)
+pub among-right : (v : ℕ) (l m : List ℕ) → Among v m → Among v (l ++ m)
+among-right v [] m h = h
+among-right v (w ∷ l) m h = inr (among-right v l m h)
 
-pub listed-either : (v : ℕ) (l m : List ℕ) → Listed v (l ++ m) → Listed v l ⊎ Listed v m
-listed-either v [] m h = inr h
-listed-either v (w ∷ l) m (inl e) = inl (inl e)
-listed-either v (w ∷ l) m (inr h) = elim (listed-either v l m h) [ inl k ↦ inl (inr k) | inr k ↦ inr k ]
+pub among-either : (v : ℕ) (l m : List ℕ) → Among v (l ++ m) → Among v l ⊎ Among v m
+among-either v [] m h = inr h
+among-either v (w ∷ l) m (inl e) = inl (inl e)
+among-either v (w ∷ l) m (inr h) = elim (among-either v l m h) [ inl k ↦ inl (inr k) | inr k ↦ inr k ]
 
 -- a variable occurs in a term exactly when it stands in the list of its variables
 mutual
-  pub occurs-listed : (v : ℕ) (t : Term) → Occurs v t → Listed v (term-variables t)
-  occurs-listed v (var w) o = inl o
-  occurs-listed v (app f ts) o = occurs-in-listed v ts o
+  pub occurs-among : (v : ℕ) (t : Term) → Occurs v t → Among v (term-variables t)
+  occurs-among v (var w) o = inl o
+  occurs-among v (app f ts) o = occurs-in-among v ts o
 
-  pub occurs-in-listed : (v : ℕ) (ts : Terms) → Occurs-in v ts → Listed v (terms-variables ts)
-  occurs-in-listed v nil o = o
-  occurs-in-listed v (cons t ts) (inl o) = listed-left v (term-variables t) (terms-variables ts) (occurs-listed v t o)
-  occurs-in-listed v (cons t ts) (inr o) = listed-right v (term-variables t) (terms-variables ts) (occurs-in-listed v ts o)
+  pub occurs-in-among : (v : ℕ) (ts : Terms) → Occurs-in v ts → Among v (terms-variables ts)
+  occurs-in-among v nil o = o
+  occurs-in-among v (cons t ts) (inl o) = among-left v (term-variables t) (terms-variables ts) (occurs-among v t o)
+  occurs-in-among v (cons t ts) (inr o) = among-right v (term-variables t) (terms-variables ts) (occurs-in-among v ts o)
 
 mutual
-  pub listed-occurs : (v : ℕ) (t : Term) → Listed v (term-variables t) → Occurs v t
-  listed-occurs v (var w) (inl e) = e
-  listed-occurs v (var w) (inr h) = absurd h
-  listed-occurs v (app f ts) h = listed-occurs-in v ts h
+  pub among-occurs : (v : ℕ) (t : Term) → Among v (term-variables t) → Occurs v t
+  among-occurs v (var w) (inl e) = e
+  among-occurs v (var w) (inr h) = absurd h
+  among-occurs v (app f ts) h = among-occurs-in v ts h
 
-  pub listed-occurs-in : (v : ℕ) (ts : Terms) → Listed v (terms-variables ts) → Occurs-in v ts
-  listed-occurs-in v nil h = h
-  listed-occurs-in v (cons t ts) h = elim (listed-either v (term-variables t) (terms-variables ts) h) [
-    | inl k ↦ inl (listed-occurs v t k)
-    | inr k ↦ inr (listed-occurs-in v ts k)
+  pub among-occurs-in : (v : ℕ) (ts : Terms) → Among v (terms-variables ts) → Occurs-in v ts
+  among-occurs-in v nil h = h
+  among-occurs-in v (cons t ts) h = elim (among-either v (term-variables t) (terms-variables ts) h) [
+    | inl k ↦ inl (among-occurs v t k)
+    | inr k ↦ inr (among-occurs-in v ts k)
   ]
 
-pub either-listed : (v : ℕ) (s t : Term) → Either v s t → Listed v (both-variables s t)
-either-listed v s t (inl o) = listed-left v (term-variables s) (term-variables t) (occurs-listed v s o)
-either-listed v s t (inr o) = listed-right v (term-variables s) (term-variables t) (occurs-listed v t o)
+pub either-among : (v : ℕ) (s t : Term) → Either v s t → Among v (both-variables s t)
+either-among v s t (inl o) = among-left v (term-variables s) (term-variables t) (occurs-among v s o)
+either-among v s t (inr o) = among-right v (term-variables s) (term-variables t) (occurs-among v t o)
 
-pub listed-both : (v : ℕ) (s t : Term) → Listed v (both-variables s t) → Either v s t
-listed-both v s t h = elim (listed-either v (term-variables s) (term-variables t) h) [
-  | inl k ↦ inl (listed-occurs v s k)
-  | inr k ↦ inr (listed-occurs v t k)
+pub among-both : (v : ℕ) (s t : Term) → Among v (both-variables s t) → Either v s t
+among-both v s t h = elim (among-either v (term-variables s) (term-variables t) h) [
+  | inl k ↦ inl (among-occurs v s k)
+  | inr k ↦ inr (among-occurs v t k)
 ]
 
 -- `above` is above every number of the list, and no higher than a bound of them
-pub listed-above : (v : ℕ) (l : List ℕ) → Listed v l → v < above l
-listed-above v [] h = absurd h
-listed-above v (w ∷ l) (inl e) = omega arith
-listed-above v (w ∷ l) (inr h) = let k = listed-above v l h in omega arith
+pub among-above : (v : ℕ) (l : List ℕ) → Among v l → v < above l
+among-above v [] h = absurd h
+among-above v (w ∷ l) (inl e) = omega arith
+among-above v (w ∷ l) (inr h) = let k = among-above v l h in omega arith
 
-pub above-least : (n : ℕ) (l : List ℕ) → ((v : ℕ) → Listed v l → v < n) → above l ≤ n
+pub above-least : (n : ℕ) (l : List ℕ) → ((v : ℕ) → Among v l → v < n) → above l ≤ n
 above-least n [] h = omega arith
 above-least n (w ∷ l) h =
     let k = above-least n l (λ v m. h v (inr m)) in
@@ -78,24 +78,24 @@ above-least n (w ∷ l) h =
     omega arith
 
 pub either-above : (v : ℕ) (s t : Term) → Either v s t → v < above (both-variables s t)
-either-above v s t o = listed-above v (both-variables s t) (either-listed v s t o)
+either-above v s t o = among-above v (both-variables s t) (either-among v s t o)
 
 -- a list without x is shorter, and keeps the others
-pub without-shorter : (x : ℕ) (l : List ℕ) → Listed x l → length (without x l) < length l
+pub without-shorter : (x : ℕ) (l : List ℕ) → Among x l → length (without x l) < length l
 without-shorter x [] m = absurd m
 without-shorter x (w ∷ l) m = go (ℕ-discrete x w) m (λ k. without-shorter x l k)
   where
-    go : (d : Dec (x ≡ w)) → Listed x (w ∷ l) → (Listed x l → length (without x l) < length l)
+    go : (d : Dec (x ≡ w)) → Among x (w ∷ l) → (Among x l → length (without x l) < length l)
         → length (ite d l (w ∷ without x l)) < length (w ∷ l)
     go (yes e) k ih = omega arith
     go (no n) (inl e) ih = absurd (n e)
     go (no n) (inr k) ih = let z = ih k in omega arith
 
-pub without-keeps : (x v : ℕ) (l : List ℕ) → (v ≡ x → ⊥) → Listed v l → Listed v (without x l)
+pub without-keeps : (x v : ℕ) (l : List ℕ) → (v ≡ x → ⊥) → Among v l → Among v (without x l)
 without-keeps x v [] n m = m
 without-keeps x v (w ∷ l) n m = go (ℕ-discrete x w) m (λ k. without-keeps x v l n k)
   where
-    go : (d : Dec (x ≡ w)) → Listed v (w ∷ l) → (Listed v l → Listed v (without x l)) → Listed v (ite d l (w ∷ without x l))
+    go : (d : Dec (x ≡ w)) → Among v (w ∷ l) → (Among v l → Among v (without x l)) → Among v (ite d l (w ∷ without x l))
     go (yes e) (inl k) ih = absurd (n (k ∙ sym e))
     go (yes e) (inr k) ih = k
     go (no p) (inl k) ih = inl k

@@ -31,14 +31,14 @@ pub record ClassTable (n : Nodes) (rep size : List ℕ) : Type 0 where
   pub graph : Graph n children term
 
 -- the length of r's class is known, below the cap, and fits the output
-pub record Fits (n : Nodes) (size out : List ℕ) (r : ℕ) : Type 0 where
+pub record ClassFits (n : Nodes) (size out : List ℕ) (r : ℕ) : Type 0 where
   pub inside : In n r
   pub known : at size r ≡ 0 → ⊥
   pub small : at size r < length-cap
   pub room : at size r ≤ length out
 
 -- the classes of the children from p to `end` take `left` bytes, which fit the output
-pub record Rest (n : Nodes) (rep size out : List ℕ) (p end left : ℕ) : Type 0 where
+pub record ChildrenLeft (n : Nodes) (rep size out : List ℕ) (p end left : ℕ) : Type 0 where
   pub within : end ≤ count n
   pub nodes : List ℕ
   pub path : Path (n .nexts) p end nodes

@@ -4,6 +4,7 @@ use mathlib.Core.List.{List, [], _∷_, _++_}
 use native.Mathlib.Omega.{arith}
 use Prim.Native.Nat.{ℕ, zero, suc, _+_, _-_, _≤_, _<_, min}
 use lib.ListN.{length, take, drop}
+use Rattle.records.specs.Format.Never.{never}
 use Rattle.records.specs.Format.Syntax.{Term, Terms, arity}
 use Rattle.records.specs.Format.Syntax.Term.{var, app}
 use Rattle.records.specs.Format.Syntax.Terms.{nil, cons}
@@ -17,7 +18,7 @@ use Rattle.terms.specs.Classes.Nodes.{at, Nodes, count, In, kind, node-n
 use Rattle.terms.specs.Classes.CompareLaws.{path-more, path-end}
 use Rattle.terms.specs.Classes.Lengths.{Expansion, Expansions, length-cap, total}
 use Rattle.terms.specs.Classes.SolveLaws.{expansion-unique}
-use Rattle.terms.specs.Unifier.ClassTerms.{head-bytes, ClassTable, Fits, Rest, Wrote, Wrotes}
+use Rattle.terms.specs.Unifier.ClassTerms.{head-bytes, ClassTable, ClassFits, ChildrenLeft, Wrote, Wrotes}
 
 -- a node's own bytes, by the test of its kind
 pub head-variable : (k v : ℕ) → k < 2 → head-bytes k v ≡ 0x01 ∷ word v
@@ -57,7 +58,7 @@ module _ (n : Nodes) (rep size : List ℕ) (classes : ClassTable n rep size) whe
       ap (λ l. min length-cap (total rep size l)) (x .2) ∙ omega (arith, terms-length-cons t ts)
 
   -- a node's own bytes are the first of its class's term
-  module _ (out : List ℕ) (r : ℕ) (fits : Fits n size out r) where
+  module _ (out : List ℕ) (r : ℕ) (fits : ClassFits n size out r) where
     own : (t : Term) × Expansion n (classes .children) (at rep) r t × (at size r ≡ min length-cap (term-length t))
     own = classes .measured r (fits .inside) (fits .known) (classes .children) (classes .term) (classes .graph)
 
@@ -107,7 +108,7 @@ module _ (n : Nodes) (rep size : List ℕ) (classes : ClassTable n rep size) whe
           (p .2) in
           omega (arith, four (kind n r) refl, fits .small)
 
-      pub symbol-rest : Rest n rep size (take (length mid - e) (drop e mid)) (r + 1) (at (n .nexts) r) (at size r - e)
+      pub symbol-rest : ChildrenLeft n rep size (take (length mid - e) (drop e mid)) (r + 1) (at (n .nexts) r) (at size r - e)
       symbol-rest = record {
         within = classes .table .nested .within r (fits .inside);
         nodes = classes .children r;
@@ -137,7 +138,7 @@ module _ (n : Nodes) (rep size : List ℕ) (classes : ClassTable n rep size) whe
               kind-arity (symbol b q l) = omega (arith, b, expansions-arity n children (at rep) ts (children r) (p .2))
 
   -- the children from p on
-  module _ (out : List ℕ) (p end left : ℕ) (rest : Rest n rep size out p end left) where
+  module _ (out : List ℕ) (p end left : ℕ) (rest : ChildrenLeft n rep size out p end left) where
     pub wrotes-end : end ≤ p → Wrotes n rep p end left out out
     wrotes-end l = record { each = go }
       where
@@ -149,8 +150,7 @@ module _ (n : Nodes) (rep size : List ℕ) (classes : ClassTable n rep size) whe
         go children term g cs path nil x = subst (λ k. Put out 0 [] out k) (sym none) put-none
         go children term g cs path (cons t ts) x =
             let e : [] ≡ x .0 ∷ x .1 = sym (path-end (n .nexts) p end cs path l) ∙ x .2 in
-            let z : _≡_ {A = ℕ} 0 1 = cc in
-            absurd (omega arith)
+            never cc
 
     module _ (l : p < end) where
       pub rest-more : (m : List ℕ) × (rest .nodes ≡ p ∷ m) × Path (n .nexts) (at (n .nexts) p) end m
@@ -165,7 +165,7 @@ module _ (n : Nodes) (rep size : List ℕ) (classes : ClassTable n rep size) whe
           let k = classes .known p (child-in .0) in
           (omega (arith, rest .sum), omega arith, omega (arith, rest .sum))
 
-      pub child-fits : Fits n size out (at rep p)
+      pub child-fits : ClassFits n size out (at rep p)
       child-fits = record {
         inside = child-in .1;
         known = classes .known p (child-in .0);
@@ -174,7 +174,7 @@ module _ (n : Nodes) (rep size : List ℕ) (classes : ClassTable n rep size) whe
       }
 
       pub rest-next : (mid : List ℕ) → length mid ≡ length out
-          → Rest n rep size (take (length mid - at size (at rep p)) (drop (at size (at rep p)) mid)) (at (n .nexts) p) end (left - at size (at rep p))
+          → ChildrenLeft n rep size (take (length mid - at size (at rep p)) (drop (at size (at rep p)) mid)) (at (n .nexts) p) end (left - at size (at rep p))
       rest-next mid k = record {
         within = rest .within;
         nodes = rest-more .0;
@@ -200,8 +200,7 @@ module _ (n : Nodes) (rep size : List ℕ) (classes : ClassTable n rep size) whe
           go children term g cs path nil x =
               let m = path-more (n .nexts) p end cs path l in
               let e : p ∷ m .0 ≡ [] = sym (m .1) ∙ x in
-              let z : _≡_ {A = ℕ} 0 1 = cc in
-              absurd (omega arith)
+              never cc
           go children term g cs path (cons t ts) x =
               let m = path-more (n .nexts) p end cs path l in
               let e : x .0 ∷ x .1 ≡ p ∷ m .0 = sym (x .2) ∙ m .1 in

@@ -12,7 +12,7 @@ use Rattle.records.specs.Writing.Patched.{Put}
 use Rattle.terms.specs.Theory.Unify.{unify}
 use Rattle.records.specs.declared.put.Range.{Range}
 use Rattle.terms.specs.Theory.Outcome.{value-limit, Unified, too-large, clash, unified, as-unified, unified-under}
-use Rattle.terms.specs.Standing.BetRow.{Bets}
+use Rattle.terms.specs.Standing.BetRow.{RuledBets}
 use Rattle.terms.specs.Values.Applied.{TermAt}
 use Rattle.terms.specs.Classes.Laid.{IsValue}
 use Rattle.terms.specs.declared.equality.UnifierAnswer.{UnifierAnswer}
@@ -32,7 +32,7 @@ unifier-answer room too-large = TooLarge
 unifier-answer room clash = Clash
 unifier-answer room (unified σ) = length-answer room (length (unifier-bytes σ))
 
--- the number (SPECIFICATION 7) for an answer: question 8 or 10 says no, else 0
+-- the number (SPECIFICATION 7.6) for an answer: question 8 or 10 says no, else 0
 abbrev pub unifier-refusal : UnifierAnswer → ℕ
 unifier-refusal TooLarge = 8
 unifier-refusal Clash = 0
@@ -56,9 +56,9 @@ pub record ValuesAnswered (a b before after : List ℕ) (r : UnifierAnswer) : Ty
 
 -- n bets and two terms stand in an event: an equality and the bets that it is under
 abbrev pub EqualityUnder : List ℕ → ℕ → ℕ → Range → Range → Type 0
-EqualityUnder s at n left right = Bets s at n × TermAt s (left .from) (left .to) × TermAt s (right .from) (right .to)
+EqualityUnder s at n left right = RuledBets s at n × TermAt s (left .from) (left .to) × TermAt s (right .from) (right .to)
 
 -- the answer for the values that these bets give the two terms
 abbrev pub UnifierUnder : List ℕ → ℕ → ℕ → Range → Range → List ℕ → List ℕ → UnifierAnswer → Type 0
-UnifierUnder s at n left right before after r = (p : Bets s at n) (x : TermAt s (left .from) (left .to)) (y : TermAt s (right .from) (right .to))
-    → UnifierAnswered before after (unified-under (p .bets) (x .term) (y .term)) r
+UnifierUnder s at n left right before after r = (p : RuledBets s at n) (x : TermAt s (left .from) (left .to)) (y : TermAt s (right .from) (right .to))
+    → UnifierAnswered before after (unified-under (p .row .items) (x .term) (y .term)) r

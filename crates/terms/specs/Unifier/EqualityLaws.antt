@@ -1,6 +1,6 @@
 -- Laws of the answer for an equality: from what the tables of two values hold, and from two values to the terms under a bet stack.
 use mathlib.Core.Path.{_≡_, refl, sym, ap, _∙_}
-use mathlib.Core.Bool.{true, false, true≢false}
+use mathlib.Core.Bool.{true, false}
 use mathlib.Core.List.{List}
 use mathlib.Core.Option.{some}
 use native.Mathlib.Omega.{arith}
@@ -8,6 +8,7 @@ use native.Mathlib.Numerals.{unary-clauses}
 use Prim.Native.Nat.{ℕ, _≤_, _<_}
 use lib.ListN.{length, take, length-take}
 use borrow.Author.Tests.{le-leb, lt-leb}
+use Rattle.records.specs.Format.Never.{never}
 use Rattle.records.specs.Format.Syntax.{Term, Binding, Bet}
 use Rattle.records.specs.Format.Encode.{term-bytes}
 use Rattle.records.specs.Format.Formed.{All, TermFormed, BetFormed}
@@ -23,7 +24,7 @@ use Rattle.terms.specs.Unifier.UnifierAnswer.{found-length, Unification,
 use Rattle.terms.specs.Unifier.UnificationLaws.{not-found, found-one, exact-length, unifier-fits}
 use Rattle.terms.specs.Values.Answered as applied
 use Rattle.terms.specs.Unifier.Equality.{unifier-bytes, unifier-answer, UnifierAnswered, OneValue}
-use Rattle.terms.specs.declared.unifier.Outcome.{Outcome}
+use Rattle.terms.specs.declared.unifier.UnifierFound.{UnifierFound}
 use Rattle.terms.specs.declared.substitute.Sized.{Sized}
 use Rattle.terms.specs.declared.substitute.Sized.the-variants.{Fits, TooLarge as TooLargeValue}
 use Rattle.terms.specs.declared.equality.UnifierAnswer.{UnifierAnswer}
@@ -34,15 +35,15 @@ pub unwritten : {before : List ℕ} {u : Unified} {r : UnifierAnswer} → r ≡ 
 unwritten e h = record { is = e; written = λ σ k q. absurd (h _ q); kept = λ k. refl }
 
 not-clash : (n : ℕ) → Clash ≡ Unifier n → ⊥
-not-clash n q = absurd (true≢false cc)
+not-clash n q = never cc
 
 not-long : (n : ℕ) → TooLong ≡ Unifier n → ⊥
-not-long n q = absurd (true≢false cc)
+not-long n q = never cc
 
 not-large : (n : ℕ) → TooLarge ≡ Unifier n → ⊥
-not-large n q = absurd (true≢false cc)
+not-large n q = never cc
 
-module _ {kinds numbers nexts rep size : List ℕ} {o : Outcome} {s t : Term} (w : Unification kinds numbers nexts rep size o s t) {before : List ℕ} where
+module _ {kinds numbers nexts rep size : List ℕ} {o : UnifierFound} {s t : Term} (w : Unification kinds numbers nexts rep size o s t) {before : List ℕ} where
   pub clashed : o .found ≡ false → UnifierAnswered before before (as-unified (unify s t)) Clash
   clashed h = rw (not-found w h) (unwritten refl not-clash)
 

@@ -1,11 +1,12 @@
 -- The bindings that classes give, one bound variable after the other.
 use mathlib.Core.Path.{_≡_, refl, sym, _∙_, ap, subst}
 use mathlib.Core.Logic.{_⊎_, inl, inr}
-use mathlib.Core.List.{List, [], _∷_, _++_, append-assoc, append-nil}
+use mathlib.Core.List.{List, [], _∷_, _++_, append-nil}
 use native.Mathlib.Decide.{ℕ-discrete, decLt}
 use native.Mathlib.Omega.{arith}
 use Prim.Native.Nat.{ℕ, zero, suc, _+_, _-_, _≤_, _<_, min}
 use lib.ListN.{length, length-append}
+use Rattle.terms.specs.Values.NodeBytes.{each-append}
 use Rattle.records.specs.Format.Syntax.{Term, Binding}
 use Rattle.records.specs.Format.Syntax.Term.{var, app}
 use Rattle.records.specs.Format.Syntax.Binding.{bind}
@@ -20,10 +21,6 @@ use Rattle.terms.specs.Classes.SolveLaws.{Unmet, met?}
 use Rattle.terms.specs.Unifier.ClassTerms.{ClassTable}
 use Rattle.terms.specs.Unifier.ClassTermsLaws.{size-is}
 use Rattle.terms.specs.Unifier.UnifierAnswer.{Bound, Least, ClassesGive, PairsLength, PairFits, PairPut, PairsFit, PairsPut}
-
-each-append : {A : Type 0} (f : A → List ℕ) (a b : List A) → each f (a ++ b) ≡ each f a ++ each f b
-each-append f [] b = refl
-each-append f (x ∷ a) b = ap (λ l. f x ++ l) (each-append f a b) ∙ sym (append-assoc (f x) (each f a) (each f b))
 
 -- one binding more
 pub snoc-bytes : (σ : List Binding) (b : Binding) → each binding-bytes (σ ++ (b ∷ [])) ≡ each binding-bytes σ ++ binding-bytes b

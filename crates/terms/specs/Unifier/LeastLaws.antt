@@ -12,7 +12,7 @@ use borrow.Author.Tests.{eqb-true, eqb-false}
 use Rattle.records.specs.Format.Encode.{word}
 use Rattle.records.specs.Writing.Patched.{Put, put-then, put-tail, put-length}
 use Rattle.terms.specs.Classes.Nodes.{at, Nodes, count, In, node-number, IsVariable}
-use Rattle.terms.specs.Unifier.ClassTerms.{ClassTable, Fits, Wrote}
+use Rattle.terms.specs.Unifier.ClassTerms.{ClassTable, ClassFits, Wrote}
 use Rattle.terms.specs.Values.Fitted.{tail-length}
 use Rattle.terms.specs.Unifier.UnifierAnswer.{Classed, Bound, Tested, Least, Chosen, PairFits, PairPut}
 
@@ -89,7 +89,7 @@ module _ (n : Nodes) (rep size : List ℕ) (classes : ClassTable n rep size) (ou
   pub pair-place : (e ≤ length mid) × (e + at size (at rep i) ≤ length mid)
   pair-place = (omega (arith, p .place, put-length p, fits .room), omega (arith, p .place, put-length p, fits .room))
 
-  pub pair-term : Fits n size (take (length mid - e) (drop e mid)) (at rep i)
+  pub pair-term : ClassFits n size (take (length mid - e) (drop e mid)) (at rep i)
   pair-term = record {
     inside = classes .inside i (fits .inside);
     known = classes .known i (fits .inside);

@@ -1,13 +1,13 @@
 -- What the answers for an equality and for an atom tell: the outcome, and what was done to the buffer.
 use mathlib.Core.Path.{_≡_, refl, sym, ap, _∙_, subst}
-use mathlib.Core.Bool.{Bool, true, false, cond, true≢false}
+use mathlib.Core.Bool.{Bool, true, false, cond}
 use mathlib.Core.List.{List}
 use mathlib.Core.Logic.{_⊎_, inl, inr}
-use native.Mathlib.Omega.{arith}
 use Prim.Native.Nat.{ℕ, _≤_, _<_}
 use lib.Dec.{leb}
 use lib.ListN.{length}
 use borrow.Author.Tests.{leb-true, leb-false}
+use Rattle.records.specs.Format.Never.{never}
 use Rattle.records.specs.Format.Syntax.{Goal, Binding}
 use Rattle.records.specs.Format.Encode.{goal-bytes}
 use Rattle.records.specs.Writing.Patched.{Put}
@@ -50,17 +50,17 @@ told {before} {after} {u} {r} w = go u refl
         → r ≡ cond a (cond b (Unifier (length (unifier-bytes σ))) TooLong) TooLong → Told before after u r
     long σ e true true p q i = subst (Told before after u) (sym i) (record { bindings = σ; is = e; put = w .written σ e i; room = leb-true _ _ q })
     long σ e true false p q i =
-        subst (Told before after u) (sym i) (record { bindings = σ; is = e; long = inr (leb-false _ _ q) }, kept TooLong i (λ n j. absurd (true≢false cc)))
+        subst (Told before after u) (sym i) (record { bindings = σ; is = e; long = inr (leb-false _ _ q) }, kept TooLong i (λ n j. never cc))
     long σ e false b p q i =
-        subst (Told before after u) (sym i) (record { bindings = σ; is = e; long = inl (leb-false _ _ p) }, kept TooLong i (λ n j. absurd (true≢false cc)))
+        subst (Told before after u) (sym i) (record { bindings = σ; is = e; long = inl (leb-false _ _ p) }, kept TooLong i (λ n j. never cc))
 
     go : (x : Unified) → u ≡ x → Told before after u r
     go too-large e =
         let i = w .is ∙ ap (unifier-answer (length before)) e in
-        subst (Told before after u) (sym i) (e, kept TooLarge i (λ n j. absurd (true≢false cc)))
+        subst (Told before after u) (sym i) (e, kept TooLarge i (λ n j. never cc))
     go clash e =
         let i = w .is ∙ ap (unifier-answer (length before)) e in
-        subst (Told before after u) (sym i) (e, kept Clash i (λ n j. absurd (true≢false cc)))
+        subst (Told before after u) (sym i) (e, kept Clash i (λ n j. never cc))
     go (unified σ) e = long σ e _ _ refl refl (w .is ∙ ap (unifier-answer (length before)) e)
 
 -- a body that was put at the start of the buffer, and one that is too long for a buffer of so many bytes
@@ -94,13 +94,13 @@ body-told {before} {after} {b} {r} w = go b refl
         subst (BodyTold before after b) (sym i)
         (let h : length (goal-bytes g) ≤ length before = leb-true _ _ q in record { goal = g; is = e; put = w .written g e h; room = h })
     sized g e false q i =
-        subst (BodyTold before after b) (sym i) (record { goal = g; is = e; long = leb-false _ _ q }, kept TooLongBody i (λ n j. absurd (true≢false cc)))
+        subst (BodyTold before after b) (sym i) (record { goal = g; is = e; long = leb-false _ _ q }, kept TooLongBody i (λ n j. never cc))
 
     go : (x : Body) → b ≡ x → BodyTold before after b r
     go too-many e =
         let i = w .is ∙ ap (body-answer (length before)) e in
-        subst (BodyTold before after b) (sym i) (e, kept TooMany i (λ n j. absurd (true≢false cc)))
+        subst (BodyTold before after b) (sym i) (e, kept TooMany i (λ n j. never cc))
     go undefined e =
         let i = w .is ∙ ap (body-answer (length before)) e in
-        subst (BodyTold before after b) (sym i) (e, kept Undefined i (λ n j. absurd (true≢false cc)))
+        subst (BodyTold before after b) (sym i) (e, kept Undefined i (λ n j. never cc))
     go (defined g) e = sized g e _ refl (w .is ∙ ap (body-answer (length before)) e)

@@ -18,8 +18,8 @@ use Rattle.terms.specs.Classes.Lengths.{Expansion, length-cap}
 use Rattle.terms.specs.Classes.SolveLaws.{Unmet}
 use Rattle.terms.specs.Classes.Laid.{Layable, TermsLaid}
 use Rattle.terms.specs.Unifier.ClassTerms.{ClassTable}
-use Rattle.terms.specs.declared.unifier.Pairs.{Pairs}
-use Rattle.terms.specs.declared.unifier.Outcome.{Outcome}
+use Rattle.terms.specs.declared.unifier.PairsWritten.{PairsWritten}
+use Rattle.terms.specs.declared.unifier.UnifierFound.{UnifierFound}
 
 -- every node has a representative in the table
 pub record Classed (n : Nodes) (rep : List ℕ) : Type 0 where
@@ -84,7 +84,7 @@ pub record PairsFit (n : Nodes) (rep out : List ℕ) (k : ℕ) : Type 0 where
   pub room : k + length (each binding-bytes σ) ≤ length out
 
 -- whatever bindings the classes give are written at k
-pub record PairsPut (n : Nodes) (rep : List ℕ) (old : List ℕ) (k : ℕ) (new : List ℕ) (p : Pairs) : Type 0 where
+pub record PairsPut (n : Nodes) (rep : List ℕ) (old : List ℕ) (k : ℕ) (new : List ℕ) (p : PairsWritten) : Type 0 where
   pub bytes : (σ : List Binding) → ClassesGive n rep σ → Put old k (each binding-bytes σ) new (p .end)
   pub many : (σ : List Binding) → ClassesGive n rep σ → p .count ≡ length σ
 
@@ -134,7 +134,7 @@ pub record Decidable (n : Nodes) (rep size : List ℕ) (m : ℕ) : Type 0 where
   pub size-long : length size ≡ count n
 
 -- the answer for s and t
-pub record UnificationAnswer (n : Nodes) (rep size : List ℕ) (s t : Term) (r : Outcome) : Type 0 where
+pub record UnificationAnswer (n : Nodes) (rep size : List ℕ) (s t : Term) (r : UnifierFound) : Type 0 where
   pub found : r .found ≡ is-found (unify s t)
   pub length-is : r .length ≡ found-length (unify s t)
   pub all : r .nodes ≡ count n
@@ -142,7 +142,7 @@ pub record UnificationAnswer (n : Nodes) (rep size : List ℕ) (s t : Term) (r :
   pub gives : (σ : List Binding) → unify s t ≡ some σ → ClassesGive n rep σ
 
 -- whatever terms are laid in the table
-pub record Decides (n : Nodes) (m : ℕ) (rep size : List ℕ) (r : Outcome) : Type 0 where
+pub record Decides (n : Nodes) (m : ℕ) (rep size : List ℕ) (r : UnifierFound) : Type 0 where
   pub each : (s t : Term) → TermFormed s → TermFormed t → TermsLaid n s t m → UnificationAnswer n rep size s t r
 
 -- two values, and tables with room for them
@@ -152,11 +152,11 @@ pub record Unifiable (a b kinds numbers nexts rep size : List ℕ) : Type 0 wher
   pub size-long : length size ≡ length kinds
 
 -- the unifier of two values: whether there is one, its length, and the tables that hold it
-pub record Unification (kinds numbers nexts rep size : List ℕ) (r : Outcome) (s t : Term) : Type 0 where
+pub record Unification (kinds numbers nexts rep size : List ℕ) (r : UnifierFound) (s t : Term) : Type 0 where
   pub found : r .found ≡ is-found (unify s t)
   pub length-is : r .length ≡ found-length (unify s t)
   pub holds : (σ : List Binding) → unify s t ≡ some σ → HoldsUnifier kinds numbers nexts rep size (r .nodes) σ
 
 -- whatever terms the values are
-pub record Unifications (a b kinds numbers nexts rep size : List ℕ) (r : Outcome) : Type 0 where
+pub record Unifications (a b kinds numbers nexts rep size : List ℕ) (r : UnifierFound) : Type 0 where
   pub each : (s t : Term) → TermFormed s → TermFormed t → a ≡ term-bytes s → b ≡ term-bytes t → Unification kinds numbers nexts rep size r s t

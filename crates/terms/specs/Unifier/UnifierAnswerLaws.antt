@@ -1,12 +1,13 @@
 -- What is decided is the answer of `unify`: the laws of the last functions.
 use mathlib.Core.Path.{_≡_, refl, sym, _∙_, ap, subst}
-use mathlib.Core.Bool.{Bool, true, false, true≢false}
+use mathlib.Core.Bool.{Bool, true, false}
 use mathlib.Core.List.{List, _++_}
 use mathlib.Core.Option.{none, some}
 use native.Mathlib.Omega.{arith}
 use Prim.Native.Nat.{ℕ, _+_, _≤_, _<_}
 use lib.ListN.{length, take, length-append}
 use lib.Seq.{take-at}
+use Rattle.records.specs.Format.Never.{never}
 use Rattle.records.specs.Format.Syntax.{Term, Binding}
 use Rattle.records.specs.Format.Encode.{word, binding-bytes, each, counted}
 use Rattle.records.specs.Format.Formed.{TermFormed}
@@ -18,16 +19,16 @@ use Rattle.terms.specs.Theory.VariablesLaws.{either-above}
 use Rattle.terms.specs.Theory.Unify.{bindings, unify}
 use Rattle.terms.specs.Theory.MostGeneralLaws.{outside-stays}
 use Rattle.terms.specs.Classes.Nodes.{at, Nodes, nodes, count, Table}
-use Rattle.terms.specs.Classes.Lengths.{Blank, Solution, Solved}
+use Rattle.terms.specs.Classes.Lengths.{Blank, Solution, SolvedTables}
 use Rattle.terms.specs.Classes.SolveLaws.{found, found-most-general, found-expansion, found-unmet, solution-unify, apart-unify}
 use Rattle.terms.specs.Classes.LayLaws.{part-length}
 use Rattle.terms.specs.Classes.Laid.{TermsLaid, Lay, Lays}
 use Rattle.terms.specs.Classes.LaidLaws.{term-of, children-of, laid-graph, laid-table, laid-second, laid-inside, laid-small}
 use Rattle.terms.specs.Unifier.ClassTerms.{ClassTable}
 use Rattle.terms.specs.Unifier.UnifierAnswer.{ClassesGive, PairsLength, PairsFit, PairsPut, HoldsUnifier, UnifierFits, UnifierPut, is-found, found-length, Cleared, Decidable, Decides, Unifiable, Unifications}
-use Rattle.terms.specs.declared.load.Places.{Places}
-use Rattle.terms.specs.declared.unifier.Pairs.{Pairs}
-use Rattle.terms.specs.declared.unifier.Outcome.{Outcome}
+use Rattle.terms.specs.declared.load.NodeCounts.{NodeCounts}
+use Rattle.terms.specs.declared.unifier.PairsWritten.{PairsWritten}
+use Rattle.terms.specs.declared.unifier.UnifierFound.{UnifierFound}
 
 -- lengths that were cleared are not known
 pub cleared-blank : (n : Nodes) (size : List ℕ) → length size ≡ count n → Cleared size → Blank n size
@@ -38,8 +39,8 @@ module _ (n : Nodes) (s t : Term) (m : ℕ) (laid : TermsLaid n s t m) (f : Term
   both = ap (unify s) (sym (laid-second n s t m laid))
 
   -- no unifier
-  pub none-found : (rep size : List ℕ) → Solved n 0 m rep size false → unify s t ≡ none
-  unfolding Solved
+  pub none-found : (rep size : List ℕ) → SolvedTables n 0 m rep size false → unify s t ≡ none
+  unfolding SolvedTables
   none-found rep size a = both ∙ apart-unify n 0 m (children-of n s t m laid) (term-of n s t m laid) (laid-graph n s t m laid) a
 
   module _ (rep size : List ℕ) (solution : Solution n 0 m rep size) where
@@ -94,23 +95,23 @@ decidable-table {n} {rep} {size} {m} d = laid-table n (d .s) (d .t) m (d .laid)
 pub decidable-inside : {n : Nodes} {rep size : List ℕ} {m : ℕ} → Decidable n rep size m → (0 < count n) × (m < count n)
 decidable-inside {n} {rep} {size} {m} d = laid-inside n (d .s) (d .t) m (d .laid)
 
-module _ (n : Nodes) (m : ℕ) (rep size : List ℕ) (b : Bool) (solved : Solved n 0 m rep size b) where
+module _ (n : Nodes) (m : ℕ) (rep size : List ℕ) (b : Bool) (solved : SolvedTables n 0 m rep size b) where
   pub decides-none : b ≡ false → Decides n m rep size (record { found = false; nodes = count n; length = 0 })
   decides-none e = record {
     each = λ s t f h laid.
-        let q : unify s t ≡ none = none-found n s t m laid f h rep size (subst (Solved n 0 m rep size) e solved) in
+        let q : unify s t ≡ none = none-found n s t m laid f h rep size (subst (SolvedTables n 0 m rep size) e solved) in
         record {
           found = sym (ap is-found q);
           length-is = sym (ap found-length q);
           all = refl;
-          classes = λ z. absurd (true≢false cc);
-          gives = λ σ z. absurd (let y : none ≡ some σ = sym q ∙ z in absurd (true≢false cc));
+          classes = λ z. never cc;
+          gives = λ σ z. absurd (let y : none ≡ some σ = sym q ∙ z in never cc);
         };
   }
 
   solution-of : b ≡ true → Solution n 0 m rep size
-  unfolding Solved
-  solution-of e = subst (Solved n 0 m rep size) e solved
+  unfolding SolvedTables
+  solution-of e = subst (SolvedTables n 0 m rep size) e solved
 
   pub decided-classes : {rep₀ size₀ : List ℕ} → Decidable n rep₀ size₀ m → b ≡ true → ClassTable n rep size
   decided-classes d e = solution-classes n (d .s) (d .t) m (d .laid) (d .s-formed) (d .t-formed) rep size (solution-of e)
@@ -144,7 +145,7 @@ module _ (kinds numbers nexts rep size : List ℕ) (m : ℕ) (out : List ℕ) (k
   pub word-fits : (k + 2 ≤ length out)
   word-fits = omega (arith, fits .room, count-length (fits .σ))
 
-  pub unifier-put : (mid : List ℕ) (p : Pairs) → PairsPut (nodes (take m kinds) (take m numbers) (take m nexts)) (take m rep) out (k + 2) mid p
+  pub unifier-put : (mid : List ℕ) (p : PairsWritten) → PairsPut (nodes (take m kinds) (take m numbers) (take m nexts)) (take m rep) out (k + 2) mid p
       → (new : List ℕ) (e : ℕ) → Put mid k (word (p .count)) new e → UnifierPut kinds numbers nexts rep size m out k new (p .end)
   unifier-put mid p q new e w = record {
     each = λ σ h.
@@ -154,7 +155,7 @@ module _ (kinds numbers nexts rep size : List ℕ) (m : ℕ) (out : List ℕ) (k
 
 -- `unify_values`
 module _ (a b kinds₀ numbers₀ nexts₀ rep₀ size₀ : List ℕ) (able : Unifiable a b kinds₀ numbers₀ nexts₀ rep₀ size₀)
-    (kinds numbers nexts : List ℕ) (p : Places) (lays : Lays a b kinds numbers nexts p)
+    (kinds numbers nexts : List ℕ) (p : NodeCounts) (lays : Lays a b kinds numbers nexts p)
     (k : length kinds ≡ length kinds₀) (m : length numbers ≡ length numbers₀) (x : length nexts ≡ length nexts₀) where
   own : Lay kinds numbers nexts p (able .layable .first .term) (able .layable .second .term)
   own =
@@ -178,7 +179,7 @@ module _ (a b kinds₀ numbers₀ nexts₀ rep₀ size₀ : List ℕ) (able : Un
     size-long = part-length (p .count) size₀ (count-within .4) ∙ own .all ∙ sym (own .laid .long);
   }
 
-  pub decided-unification : (rep size rest more : List ℕ) (r : Outcome) → length rep ≡ length (take (p .count) rep₀) → length size ≡ length (take (p .count) size₀)
+  pub decided-unification : (rep size rest more : List ℕ) (r : UnifierFound) → length rep ≡ length (take (p .count) rep₀) → length size ≡ length (take (p .count) size₀)
       → Decides (nodes (take (p .count) kinds) (take (p .count) numbers) (take (p .count) nexts)) (p .middle) rep size r
       → Unifications a b kinds numbers nexts (rep ++ rest) (size ++ more) r
   decided-unification rep size rest more r y z d = record {

@@ -1,11 +1,11 @@
 -- A writer on its way over a traversal: the bytes that it has written, and the nodes that it still has ahead.
-use mathlib.Core.Bool.{true≢false}
 use mathlib.Core.Path.{_≡_, refl, sym, ap, ap₂, _∙_}
 use mathlib.Core.List.{List, [], _∷_, _++_, append-assoc, append-nil}
 use Prim.Native.Nat.{ℕ, _+_, _≤_, _<_}
 use native.Mathlib.Omega.{arith}
 use lib.ListN.{length, drop, length-append}
 use lib.Seq.{drop-drop}
+use Rattle.records.specs.Format.Never.{never}
 use Rattle.records.specs.Format.Syntax.{Goal}
 use Rattle.records.specs.Format.Syntax.Term.{var}
 use Rattle.records.specs.Format.Encode.{each, goal-bytes, term-bytes}
@@ -20,8 +20,8 @@ use Rattle.records.specs.Ends.Traversal.Traversal.{off, on}
 use Rattle.records.specs.Ends.Steps.{On, end-place, traverse-from, next-step, goes, to-variable, to-other}
 use Rattle.records.specs.Ends.Stands.{Stands, stands-first, stands-cut}
 use Rattle.records.specs.declared.traverse.Cursor.{Cursor}
-use Rattle.records.specs.declared.traverse.Step.{Step}
-use Rattle.records.specs.declared.traverse.Step.the-variants.{Variable, Other, Done}
+use Rattle.records.specs.declared.traverse.NodeStep.{NodeStep}
+use Rattle.records.specs.declared.traverse.NodeStep.the-variants.{Variable, Other, Done}
 use Rattle.terms.specs.Theory.Substitution.{Substitution}
 use Rattle.terms.specs.Values.NodeBytes.{node-bytes, nodes-bytes, traversal-bytes, each-append, own-terms-bytes, own-goal-bytes}
 
@@ -40,7 +40,7 @@ module _ (s : List ℕ) (known : Known s) where
   traverse-stands at t g {l} {e} q = go (read (drop at s) t g) refl q
     where
       go : (o : Read Parts) → read (drop at s) t g ≡ o → traversed at o ≡ on l e → Stands s at (nodes-bytes var l) e
-      go unread h z = absurd (true≢false cc)
+      go unread h z = never cc
       go (found p n) h z =
           let a : parts-nodes p ≡ l = cc in
           let b : at + n ≡ e = cc in
@@ -78,7 +78,7 @@ module _ {θ : Substitution} {s whole done : List ℕ} {c : Cursor} {end : ℕ} 
   first-node x w e = go w (sym (a .ahead) ∙ e)
     where
       go : (v : Traversal) → on (a .nodes) (end) ≡ before x v → (l : List Node) × (a .nodes ≡ x ∷ l) × (v ≡ on l (end))
-      go off q = absurd (true≢false cc)
+      go off q = never cc
       go (on l e) q = (l, cc, let z : end ≡ e = cc in ap (on l) (sym z))
 
   pub next-node : (x : Node) (d : Cursor) → traverse-from s c ≡ before x (traverse-from s d) → Ahead θ s whole (done ++ node-bytes θ x) d end
@@ -90,7 +90,7 @@ module _ {θ : Substitution} {s whole done : List ℕ} {c : Cursor} {end : ℕ} 
         split = a .split ∙ ap (λ (l : List Node). done ++ nodes-bytes θ l) (y .1) ∙ sym (append-assoc done (node-bytes θ x) (nodes-bytes θ (y .0)));
       }
 
-  module _ (known : Known s) {r : Step} (is : r ≡ next-step s (c .pos) (c .terms) (c .goals)) where
+  module _ (known : Known s) {r : NodeStep} (is : r ≡ next-step s (c .pos) (c .terms) (c .goals)) where
     -- a node's own bytes stand from the cursor to the next one
     node-stands : (x : Node) (d : Cursor) → traverse-from s c ≡ before x (traverse-from s d) → Stands s (c .pos) (node-bytes var x) (d .pos)
     node-stands x d e =
@@ -135,7 +135,7 @@ pub record OtherAt (s : List ℕ) (c d : Cursor) : Type 0 where
   pub node : traverse-from s c ≡ before (other bytes) (traverse-from s d)
   pub stands : Stands s (c .pos) bytes (d .pos)
 
-module _ {θ : Substitution} {s whole done : List ℕ} {c : Cursor} {end : ℕ} (a : Ahead θ s whole done c end) (known : Known s) {r : Step} (is : r ≡ next-step s (c .pos) (c .terms) (c .goals)) where
+module _ {θ : Substitution} {s whole done : List ℕ} {c : Cursor} {end : ℕ} (a : Ahead θ s whole done c end) (known : Known s) {r : NodeStep} (is : r ≡ next-step s (c .pos) (c .terms) (c .goals)) where
   pub variable-at : {v : ℕ} {d : Cursor} → r ≡ Variable v d → VariableAt s c v d
   variable-at {v} {d} e = let y = goes s known (c .pos) (c .terms) (c .goals) (ahead-on a) is (Variable v d) e .0 in record { node = y; stands = node-stands a known is (variable v) d y }
 

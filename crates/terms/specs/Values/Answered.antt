@@ -1,12 +1,12 @@
 -- Question 8 in code: the answer of the functions that compute S(T) and S(v) into a buffer.
-use mathlib.Core.Bool.{true≢false}
 use mathlib.Core.Path.{_≡_, refl, sym, ap, _∙_}
 use mathlib.Core.List.{List, [], _∷_}
 use mathlib.Core.Option.{Option, none, some}
 use native.Mathlib.Nat.{zero-add}
 use native.Mathlib.Omega.{arith}
-use Prim.Native.Nat.{ℕ, _*_, _/_, _%_, _≤_, _<_}
+use Prim.Native.Nat.{ℕ, _*_, _/_, _≤_, _<_, _%_}
 use lib.ListN.{length}
+use Rattle.records.specs.Format.Never.{never}
 use Rattle.records.specs.Format.Syntax.{Term, Bet}
 use Rattle.records.specs.Format.Syntax.Term.{var}
 use Rattle.records.specs.Format.Encode.{term-bytes}
@@ -28,7 +28,7 @@ abbrev pub sized : Option Term → Sized
 sized none = TooLarge
 sized (some t) = Fits (length (term-bytes t))
 
--- the number (SPECIFICATION 7) for an answer: question 8 says no, else 0
+-- the number (SPECIFICATION 7.6) for an answer: question 8 says no, else 0
 abbrev pub value-refusal : Sized → ℕ
 value-refusal (Fits n) = 0
 value-refusal TooLarge = 8
@@ -48,13 +48,13 @@ module _ {bets : List Bet} {t : Term} {out : List ℕ} {r : Sized} (w : Answered
           let i : Fits n ≡ Fits (length (term-bytes (apply bets t))) = sym e ∙ w .is ∙ ap sized v in
           let m : n ≡ length (term-bytes (apply bets t)) = cc in
           (v, rw m (w .written v), omega arith)
-      go (beyond h v) = let i : Fits n ≡ TooLarge = sym e ∙ w .is ∙ ap sized v in absurd (true≢false cc)
+      go (beyond h v) = let i : Fits n ≡ TooLarge = sym e ∙ w .is ∙ ap sized v in never cc
 
   pub answered-large : r ≡ TooLarge → value-under bets t ≡ none
   answered-large e = go (valued bets t)
     where
       go : Valued bets t → value-under bets t ≡ none
-      go (within h v) = let i : TooLarge ≡ Fits (length (term-bytes (apply bets t))) = sym e ∙ w .is ∙ ap sized v in absurd (true≢false cc)
+      go (within h v) = let i : TooLarge ≡ Fits (length (term-bytes (apply bets t))) = sym e ∙ w .is ∙ ap sized v in never cc
       go (beyond h v) = v
 
 -- the tables have an entry for every 5 bytes of the event, and the output is as long as the limit
@@ -85,7 +85,7 @@ answered {bets} l {src} {from} q {out} {after} {r} e f = go r refl
         record { is = i ∙ ap Fits m ∙ sym (ap sized v); written = λ h. rw m at w }
     go TooLarge i =
         let v = value-beyond bets (q .term) (omega (arith, g .large i)) in
-        record { is = i ∙ sym (ap sized v); written = λ h. let k : none ≡ some (apply bets (q .term)) = sym v ∙ h in absurd (true≢false cc) }
+        record { is = i ∙ sym (ap sized v); written = λ h. let k : none ≡ some (apply bets (q .term)) = sym v ∙ h in never cc }
 
 -- a variable in three bytes
 abbrev pub variable-at : (v : ℕ) → v < 65536 → TermAt (1 ∷ v / 256 ∷ v % 256 ∷ []) 0 3

@@ -1,6 +1,6 @@
 -- Laws of entries: the last entry that binds a variable tells what S makes of it, and the entries before those of its bet are those of the bets above.
 use mathlib.Core.Path.{_≡_, refl, sym, ap, _∙_}
-use mathlib.Core.Bool.{Bool, true, false, not, true≢false, _&&_}
+use mathlib.Core.Bool.{Bool, true, false, not, _&&_}
 use mathlib.Core.List.{List, [], _∷_, _++_, append-assoc, append-nil}
 use mathlib.Core.Logic.{_⊎_, inl, inr, ite}
 use mathlib.Core.Option.{Option, none, some}
@@ -12,6 +12,8 @@ use lib.Dec.{ltb}
 use lib.ListN.{length, getD, take, drop, length-append}
 use lib.Seq.{take-length}
 use borrow.Author.Tests.{eq-eqb, ne-eqb, ltb-false, not-true}
+use Rattle.records.specs.Gate.BoolLaws.{and-both}
+use Rattle.records.specs.Format.Never.{never}
 use Rattle.records.specs.Format.Syntax.{Term, Binding, Bet}
 use Rattle.records.specs.Format.Syntax.Term.{var}
 use Rattle.records.specs.Format.Syntax.Binding.{bind}
@@ -23,7 +25,6 @@ use Rattle.records.specs.declared.heads.Word.{Word}
 use Rattle.records.specs.declared.heads.Word.the-variants.{Number, Short}
 use Rattle.terms.specs.Theory.Substitution.{substitute, as-substitution, apply}
 use Rattle.terms.specs.Theory.SubstitutionLaws.{substitute-var, substitute-twice, apply-append}
-use Rattle.terms.specs.Theory.TestLaws.{and-left, and-right}
 use Rattle.terms.specs.Standing.BetRow.{bet-pairs}
 use Rattle.terms.specs.Values.Entries.{PairEntry, own, pair-entries, or-else, last-of, Means, Entered, Entereds, PairTable, FoundPair}
 
@@ -87,8 +88,8 @@ same-pair x v t σ h = (go (ℕ-discrete v x), rw (eq-eqb v x h))
 below-free : (σ : List Binding) (low v : ℕ) → v < low → rising-from low (bound σ) ≡ true → member v (bound σ) ≡ false
 below-free [] low v h e = refl
 below-free (bind x t ∷ σ) low v h e =
-    let l : low ≤ x = ltb-false x low (not-true (ltb x low) (and-left (not (ltb x low)) _ e)) in
-    other-pair x v t σ (λ z. omega arith) .1 ∙ below-free σ (suc x) v (omega arith) (and-right (not (ltb x low)) _ e)
+    let l : low ≤ x = ltb-false x low (not-true (ltb x low) (and-both (not (ltb x low)) _ e .0)) in
+    other-pair x v t σ (λ z. omega arith) .1 ∙ below-free σ (suc x) v (omega arith) (and-both (not (ltb x low)) _ e .1)
 
 -- a bet is applied by its pairs
 apply-pairs : (b : Bet) (bets : List Bet) (t : Term) → apply (b ∷ bets) t ≡ substitute (as-substitution (bet-pairs b)) (apply bets t)
@@ -107,18 +108,18 @@ own-means above [] low v r = refl
 own-means above (bind y t ∷ σ) low v r = go (last-of v (own above σ)) (own-means above σ (suc y) v rest) (ℕ-discrete v y)
   where
     rest : rising-from (suc y) (bound σ) ≡ true
-    rest = and-right (not (ltb y low)) (rising-from (suc y) (bound σ)) r
+    rest = and-both (not (ltb y low)) (rising-from (suc y) (bound σ)) r .1
 
     go : (o : Option PairEntry) → OwnMeans above σ v o → (d : Dec (v ≡ y))
         → OwnMeans above (bind y t ∷ σ) v (or-else (ite d (some (record { variable = y; term = t; above = above })) none) o)
     go none i (yes e) = let q = same-pair y v t σ e in (refl, q .0, q .1)
     go none i (no n) = other-pair y v t σ n .0 ∙ i
-    go (some x) i (yes e) = absurd (true≢false (sym (i .2) ∙ below-free σ (suc y) v (omega (arith, e)) rest))
+    go (some x) i (yes e) = never (sym (i .2) ∙ below-free σ (suc y) v (omega (arith, e)) rest)
     go (some x) i (no n) = let q = other-pair y v t σ n in (i .0, q .0 ∙ i .1, q .1 ∙ i .2)
 
 bet-rises : (b : Bet) → bet-rules b ≡ true → rising-from 0 (bound (bet-pairs b)) ≡ true
 unfolding unifier-rules
-bet-rises (unifier σ) r = and-left (rising (bound σ)) _ r
+bet-rises (unifier σ) r = and-both (rising (bound σ)) _ r .0
 bet-rises (or h) r = refl
 bet-rises (by g) r = refl
 
@@ -132,8 +133,8 @@ unfolding apply pair-entries
 last-means above [] v r = refl
 last-means above (b ∷ bets) v r =
     rw (last-append v (own above (bet-pairs b)) (pair-entries (above ++ (b ∷ [])) bets))
-    (go (last-of v (pair-entries (above ++ (b ∷ [])) bets)) (last-means (above ++ (b ∷ [])) bets v (and-right (bet-rules b) (every bet-rules bets) r))
-    (last-of v (own above (bet-pairs b))) (own-means above (bet-pairs b) 0 v (bet-rises b (and-left (bet-rules b) (every bet-rules bets) r))))
+    (go (last-of v (pair-entries (above ++ (b ∷ [])) bets)) (last-means (above ++ (b ∷ [])) bets v (and-both (bet-rules b) (every bet-rules bets) r .1))
+    (last-of v (own above (bet-pairs b))) (own-means above (bet-pairs b) 0 v (bet-rises b (and-both (bet-rules b) (every bet-rules bets) r .0))))
   where
     go : (o : Option PairEntry) → MeansUnder (above ++ (b ∷ [])) bets v o → (q : Option PairEntry) → OwnMeans above (bet-pairs b) v q → MeansUnder above (b ∷ bets) v (or-else q o)
     go (some x) i q j = ap (λ (l : List Bet). apply l (var v)) (sym (append-assoc above (b ∷ []) bets)) ∙ i
@@ -266,7 +267,7 @@ entereds-front s places firsts (x ∷ l) m from h = (h .0, entereds-front s plac
 
 pub every-front : (l m : List Bet) → every bet-rules (l ++ m) ≡ true → every bet-rules l ≡ true
 every-front [] m r = refl
-every-front (b ∷ l) m r = go (bet-rules b) (and-left (bet-rules b) (every bet-rules (l ++ m)) r) (every-front l m (and-right (bet-rules b) (every bet-rules (l ++ m)) r))
+every-front (b ∷ l) m r = go (bet-rules b) (and-both (bet-rules b) (every bet-rules (l ++ m)) r .0) (every-front l m (and-both (bet-rules b) (every bet-rules (l ++ m)) r .1))
   where
     go : (c : Bool) → c ≡ true → every bet-rules l ≡ true → (c && every bet-rules l) ≡ true
     go true e f = f
@@ -301,21 +302,21 @@ module _ {s places firsts : List ℕ} {i : ℕ} (p : PairTable s places firsts i
 
   module _ {v k : ℕ} (u : Searching (pair-entries [] (p .bets)) v k) where
     pub find-none : k ≡ 0 → FoundPair (p .bets) i v Nothing
-    find-none e = record { found = λ i. absurd (true≢false cc); none-binds = λ i. searching-none u e }
+    find-none e = record { found = λ i. never cc; none-binds = λ i. searching-none u e }
 
     module _ (h : 0 < k) {w : Word} (is : w ≡ word-at s (getD places (k - 1) 0)) where
       stands-there : word-at s (getD places (k - 1) 0) ≡ Number (searched u h .0 .variable)
       stands-there = entry-entered p {k = k - 1} (searched u h .1) (omega (arith, u .within, p .count)) .number
 
       pub find-number : w ≡ Short → ⊥
-      find-number e = let q = stands-there in absurd (true≢false cc)
+      find-number e = let q = stands-there in never cc
 
       module _ {x : ℕ} (e : w ≡ Number x) where
         same-number : searched u h .0 .variable ≡ x
         same-number = let q = stands-there in cc
 
         pub find-found : x ≡ v → FoundPair (p .bets) i v (At (k - 1))
-        find-found q = record { found = λ r. moved (At-same r); none-binds = λ r. absurd (true≢false cc) }
+        find-found q = record { found = λ r. moved (At-same r); none-binds = λ r. never cc }
           where
             At-same : {j : ℕ} → At (k - 1) ≡ At j → k - 1 ≡ j
             At-same r = cc

@@ -1,11 +1,11 @@
 -- Writing that may not fit: the contract of a writer that is lent the part of the output from the current place on, and the invariant of a writer
 -- that goes over the nodes of a traversal.
-use mathlib.Core.Bool.{true≢false}
 use mathlib.Core.Path.{_≡_}
 use mathlib.Core.List.{List, [], _++_}
 use native.Mathlib.Omega.{arith}
 use Prim.Native.Nat.{ℕ, _+_, _-_, _≤_, _<_}
 use lib.ListN.{length, take, drop, length-append, length-take, length-drop}
+use Rattle.records.specs.Format.Never.{never}
 use Rattle.records.specs.Writing.Patched.{Put, put-none, put-then, put-tail, put-length}
 use Rattle.records.specs.Ends.Traversal.{Node, Traversal, before}
 use Rattle.records.specs.Format.HeadLaws.{Known}
@@ -14,8 +14,8 @@ use Rattle.records.specs.Ends.Stands.{Stands, stands-cut}
 use Rattle.records.specs.declared.put.Range.{Range}
 use Rattle.records.specs.Ends.Steps.{On, end-place, traverse-from, next-step}
 use Rattle.records.specs.declared.traverse.Cursor.{Cursor}
-use Rattle.records.specs.declared.traverse.Step.{Step}
-use Rattle.records.specs.declared.traverse.Step.the-variants.{Done}
+use Rattle.records.specs.declared.traverse.NodeStep.{NodeStep}
+use Rattle.records.specs.declared.traverse.NodeStep.the-variants.{Done}
 use Rattle.terms.specs.Theory.Substitution.{Substitution}
 use Rattle.terms.specs.Values.NodeBytes.{node-bytes, traversal-bytes}
 use Rattle.terms.specs.Values.Ahead.{Ahead, ahead-start, ahead-room, ahead-done, next-node}
@@ -31,7 +31,7 @@ pub record Fitted (out bytes after : List ℕ) (r : Sized) : Type 0 where
 pub fitted-fits : {out bytes after : List ℕ} {n : ℕ} → Put out 0 bytes after n → length bytes ≤ length out → Fitted out bytes after (Fits n)
 fitted-fits {out} {bytes} {after} {n} p h = record {
   fits = λ e. (rw (← (same e)) p, h);
-  large = λ e. absurd (true≢false cc);
+  large = λ e. never cc;
   kept = put-length p;
 }
   where
@@ -39,7 +39,7 @@ fitted-fits {out} {bytes} {after} {n} p h = record {
     same e = cc
 
 pub fitted-large : {out bytes after : List ℕ} → length out < length bytes → length after ≡ length out → Fitted out bytes after TooLarge
-fitted-large h k = record { fits = λ e. absurd (true≢false cc); large = λ e. h; kept = k }
+fitted-large h k = record { fits = λ e. never cc; large = λ e. h; kept = k }
 
 -- a range of a source that cuts out the bytes
 pub fitted-stands : {out after : List ℕ} {r : Sized} {s : List ℕ} {x : List ℕ} {range : Range} → Stands s (range .from) x (range .to) → Fitted out (cut s range) after r → Fitted out x after r
@@ -91,6 +91,6 @@ module _ {θ : Substitution} {s : List ℕ} {w : Traversal} {out₀ : List ℕ} 
         fitted-large (omega (arith, put-length (u .put), u .put .place, u .room)) fitting-kept
 
   -- no node left
-  pub fitting-done : Known s → {r : Step} → r ≡ next-step s (c .pos) (c .terms) (c .goals) → r ≡ Done → Fitted out₀ (traversal-bytes θ w) out (Fits n)
+  pub fitting-done : Known s → {r : NodeStep} → r ≡ next-step s (c .pos) (c .terms) (c .goals) → r ≡ Done → Fitted out₀ (traversal-bytes θ w) out (Fits n)
   fitting-done known is e =
       rw (ahead-done (u .ahead) known is e .0) (fitted-fits (u .put) (omega (arith, u .put .place, put-length (u .put), u .room)))

@@ -13,13 +13,12 @@ use Rattle.records.specs.Format.Heads.{bet-head-at}
 use Rattle.records.specs.Format.Items.{read-bet}
 use Rattle.records.specs.Ends.Traversal.{position, end-at, end-of}
 use Rattle.records.specs.Format.Exact.{bet-exact}
-use Rattle.records.specs.Ends.Stands.{stands-within, stands-ends}
+use Rattle.records.specs.Ends.Stands.{stands-within, stands-ends, term-ends}
 use Rattle.records.specs.declared.ends.Found.{Found}
 use Rattle.terms.specs.Theory.SubstitutionLaws.{term-length-least}
-use Rattle.terms.specs.Standing.Rows.{FirstOf, row-first}
+use Rattle.terms.specs.Standing.Rows.{FirstOf, standing-first}
 use Rattle.terms.specs.Standing.Frames.{PairAt, PairsAt, BetAt, BetsAt}
-use Rattle.terms.specs.Standing.BetRow.{Bets, bets-row, bet-pairs, head-pairs, PairParts, pair-parts, head-pairs-are, pairs-of, bet-pairs-long}
-use Rattle.terms.specs.Standing.AcceptedLaws.{term-ends}
+use Rattle.terms.specs.Standing.BetRow.{RuledBets, bet-pairs, head-pairs, PairParts, pair-parts, head-pairs-are, pairs-of, bet-pairs-long}
 use Rattle.terms.specs.Values.EntryLaws.{entries-append, own-length}
 use Rattle.terms.specs.Values.Entries.{PairEntry, Entered, Entereds, PairsListed, own, pair-entries, PairsEntered}
 
@@ -95,7 +94,7 @@ module _ {s : List ℕ} {σ : List Binding} {first : ℕ} {places₀ firsts₀ :
 
   module _ (h : k < end) where
     filling-first : FirstOf (u .left)
-    filling-first = row-first (u .left) (omega (arith, u .end-is))
+    filling-first = standing-first (u .left) (omega (arith, u .end-is))
 
     -- a term stands behind the variable
     pub pairs-room : pos + 2 ≤ length s
@@ -127,9 +126,9 @@ pub record BetsListing (s : List ℕ) (bets : List Bet) (places firsts : List �
   pub few : 5 * k ≤ at
   pub held : k ≤ length places
 
-pub bets-start : {s : List ℕ} {at n : ℕ} {places firsts : List ℕ} (p : Bets s at n) → BetsListing s (p .bets) places firsts at n 0
+pub bets-start : {s : List ℕ} {at n : ℕ} {places firsts : List ℕ} (p : RuledBets s at n) → BetsListing s (p .row .items) places firsts at n 0
 unfolding pair-entries
-bets-start p = record { done = []; left = bets-row p; whole = refl; count = refl; entered = tt; few = omega arith; held = omega arith }
+bets-start p = record { done = []; left = p .row; whole = refl; count = refl; entered = tt; few = omega arith; held = omega arith }
 
 module _ {s : List ℕ} {bets : List Bet} {places firsts : List ℕ} {at n k : ℕ} (u : BetsListing s bets places firsts at n k) where
   pub bets-end : every bet-rules bets ≡ true → length firsts ≡ length places → n ≡ 0 → PairsListed bets s places firsts k
@@ -144,7 +143,7 @@ module _ {s : List ℕ} {bets : List Bet} {places firsts : List ℕ} {at n k : �
   module _ (h : 0 < n) where
     -- a bet stands there
     abbrev pub bets-here : BetAt s at
-    bets-here = row-first (u .left) h .first
+    bets-here = standing-first (u .left) h .first
 
     -- there is room for its pairs
     pub bets-room : length s ≤ 5 * length places → k + head-pairs (bet-head-at s at) ≤ length places
@@ -154,7 +153,7 @@ module _ {s : List ℕ} {bets : List Bet} {places firsts : List ℕ} {at n k : �
     pub bets-next : length s ≤ 5 * length places → {places′ firsts′ : List ℕ} {r : ℕ} → PairsEntered s (bet-pairs (bets-here .item)) k places firsts places′ firsts′ r
         → {o : Found} {next : ℕ} → o ≡ end-of read-bet s at → next ≡ position o → BetsListing s bets places′ firsts′ next (n - 1) r
     bets-next l a {o} {next} is e =
-        let f = row-first (u .left) h in
+        let f = standing-first (u .left) h in
         let b = f .first in
         let g : next ≡ b .end = e ∙ ap position (is ∙ stands-ends bet-exact (b .item) (b .formed) (b .stands)) in
         let d = entries-one (u .done) (b .item) in

@@ -8,7 +8,7 @@ use lib.ListN.{length}
 use Rattle.records.specs.Format.Syntax.{Term, Bet, Event}
 use Rattle.records.specs.Format.Syntax.Term.{var}
 use Rattle.records.specs.Format.Syntax.Event.{event}
-use Rattle.records.specs.Format.Encode.{word, each, term-bytes, bet-bytes}
+use Rattle.records.specs.Format.Encode.{term-bytes}
 use Rattle.records.specs.Gate.RecordRules.{event-rules}
 use Rattle.records.specs.Format.HeadLaws.{Known, bytes-all}
 use Rattle.records.specs.Gate.Gate.{Reading, read-event}
@@ -19,16 +19,17 @@ use Rattle.records.specs.Gate.Reply.{Answer, refused, through, answer-number, R
 use Rattle.records.specs.Gate.ReplyLaws.{number-refuses, receipted-refused, receipted-given}
 use Rattle.records.specs.Gate.Door.{event-door}
 use Rattle.records.specs.Gate.DoorLaws.{room-enough, room-short}
-use Rattle.records.specs.Ends.Places.{event-places, event-parts}
+use Rattle.records.specs.Ends.Places.{event-places}
 use Rattle.records.specs.Ends.Range.{cut, Inside}
-use Rattle.records.specs.Ends.Stands.{stands-second, stands-cut, stands-inside, stands-within}
+use Rattle.records.specs.Ends.Stands.{stands-cut, stands-inside, stands-within}
 use Rattle.records.specs.Writing.Patched.{Put}
 use Rattle.records.specs.declared.places.Places.{Places}
 use Rattle.records.specs.declared.put.Receipt.{Receipt}
 use Rattle.terms.specs.Theory.Substitution.{apply}
 use Rattle.terms.specs.Theory.SubstitutionLaws.{term-length-least}
 use Rattle.terms.specs.Theory.Outcome.{value}
-use Rattle.terms.specs.Standing.BetRow.{Bets}
+use Rattle.terms.specs.Standing.Accepted.{accepted-bets}
+use Rattle.terms.specs.Standing.BetRow.{RuledBets}
 use Rattle.terms.specs.Values.Answered.{Answered, answered-fits, answered-large, value-refusal}
 use Rattle.terms.specs.Values.ValueService.{within-limit, value-into, value-answer, bets-of}
 use Rattle.terms.specs.declared.substitute.Sized.{Sized}
@@ -74,32 +75,18 @@ module _ {bets : List Bet} {v : ℕ} {a : List ℕ} {r : Sized} (w : Answered be
 
 -- the bets of an event stand where its places say
 pub record BetsOf (s : List ℕ) (e : Event) (places : Places) : Type 0 where
-  pub row : Bets s (places .bets .from) (places .bets .count)
-  pub are : row .bets ≡ bets-of e
+  pub bets : RuledBets s (places .bets .from) (places .bets .count)
+  pub are : bets .row .items ≡ bets-of e
   pub short : length s ≤ 32768
 
 pub event-bets : (s : List ℕ) → Known s → (e : Event) → read-event s ≡ tree e → {places : Places} → places ≡ event-places e → BetsOf s e places
 unfolding event-places event-rules
 event-bets s known (event p g u bets) q i =
-    let w = event-parts s known p g u bets q in
-    let r = event-tree s (bytes-all s known) (event p g u bets) q in
-    rw i
-    (record {
-      row = record {
-        bets = bets;
-        count = refl;
-        formed = w .formed .2 .1;
-        rules = r .keeps;
-        end = length s;
-        stands = stands-second (word (length bets)) (each bet-bytes bets) (w .bets-stand);
-      };
-      are = refl;
-      short = r .short;
-    })
+    rw i (record { bets = accepted-bets s known g q; are = refl; short = event-tree s (bytes-all s known) (event p g u bets) q .short })
 
 -- the answer for the bets of an event is the answer for the event
 pub value-of-event : {s before after : List ℕ} {receipt : Receipt} (v : ℕ) (e : Event) → read-event s ≡ tree e → {places : Places} (b : BetsOf s e places)
-    → Receipted term-bytes (value-into (length before) (value (b .row .bets) v)) before receipt after
+    → Receipted term-bytes (value-into (length before) (value (b .bets .row .items) v)) before receipt after
     → Receipted term-bytes (value-answer (read-event s) (length before) v) before receipt after
 unfolding value-answer through event-door
 value-of-event v e q b w = rw (q, ← (b .are)) w

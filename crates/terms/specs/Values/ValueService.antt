@@ -1,4 +1,4 @@
--- The value service (SPECIFICATION 8): for every event record, variable and output, its number, and the bytes that it writes.
+-- The value service (SPECIFICATION 8.6): for every event record, variable and output, its number, and the bytes that it writes.
 use mathlib.Core.List.{List}
 use mathlib.Core.Option.{Option, none, some}
 use Prim.Native.Nat.{ℕ}

@@ -1,5 +1,5 @@
-//! Demand 3: two lists of steps, refused ones included, under one program. They end at equal events exactly when the queries are equal and the
-//! accepted steps forward less the accepted steps back come to the same number in both.
+//! Demand 3 (SPECIFICATION 9.7): two lists of steps under one program, with accepted and refused moves. The events at which they end are equal if and
+//! only if the queries are equal and the lists have the same net number.
 
 use crate::compare::{Checked, Checker, Difference};
 use crate::generate::{programs, room, Dice};

@@ -94,12 +94,12 @@ impl Event {
         }
     }
 
-    /// m of the body rule: one more than the greatest variable number in the goal and the ancestors, or 0.
+    /// m of SPECIFICATION 4: one above the highest variable number that occurs in the goal or in any ancestor, 0 where none occurs.
     pub fn above(&self) -> u32 {
         self.goal.above().max(self.ancestors.above())
     }
 
-    /// The same kinds, tags, numbers and parts in the same order.
+    /// Equal (SPECIFICATION 9.3): port, goal and both stacks agree, with no variable renamed.
     pub fn same(&self, other: &Event) -> bool {
         self.port == other.port
             && same_goal(&self.goal, &other.goal)

@@ -82,7 +82,7 @@ fn pairs_kept(pairs: &[(u16, TermRef)]) -> bool {
     })
 }
 
-/// Exactly the variables 0 to v - 1 occur.
+/// The variables in head and body are those with a number below v: each of them occurs, and no other does (SPECIFICATION 1.10).
 fn variables_kept(clause: &Clause) -> bool {
     let mut met = 0u128;
     let mut meet = |term: &TermRef| term.each_variable(|variable| met |= 1 << variable.min(64));

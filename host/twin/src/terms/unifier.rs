@@ -1,8 +1,9 @@
-//! The unifier of two terms: idempotent, most general, only variables of the two; of variables made equal and otherwise free the lowest stays.
+//! The unifier of two terms (SPECIFICATION 5.1): the one most general list of pairs that has no bound variable in a term, no variable from
+//! elsewhere, and no variable bound to a higher one.
 //!
 //! Terms become nodes, one for each variable number; nodes made equal form classes (union-find). A class with a symbol stands for one term, built
-//! once and shared, so the work is polynomial even where the written unifier would be astronomically long. A class below itself is a variable that
-//! would equal a larger term containing it: no unifier.
+//! once and shared, so the work is polynomial even where the written unifier would be astronomically long. A class below itself would be a proper
+//! part of itself: no unifier.
 
 use crate::records::bets::ByVariable;
 use crate::records::{Shape, Term, TermRef, Unifier};

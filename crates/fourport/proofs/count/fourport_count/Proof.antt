@@ -44,11 +44,11 @@ use denote.Exit.{yes}
 use Rattle.stepper.specs.Services.Counts.{count-record}
 use Rattle.stepper.specs.Services.PortCounts.{counts-of, reply-of}
 use Rattle.stepper.specs.declared.counts.Counts.{Counts}
-use Rattle.stepper.specs.declared.counts.Counted.{Counted}
+use Rattle.stepper.specs.declared.counts.CountAnswer.{CountAnswer}
 use Rattle.stepper.proofs.counts.Counts as T
 use Rattle.stepper.proofs.counts.Counts.Laws as T′
-use Rattle.stepper.proofs.counts.Counted as R
-use Rattle.stepper.proofs.counts.Counted.Laws as R′
+use Rattle.stepper.proofs.counts.CountAnswer as R
+use Rattle.stepper.proofs.counts.CountAnswer.Laws as R′
 use Rattle.stepper.proofs.counts.count as g
 use Rattle.stepper.proofs.counts.count.Symbol as g-def
 use Rattle.stepper.proofs.counts.count.Symbol.{name as #count}
@@ -65,7 +65,7 @@ stayed = (stay-ref (0 ∷ []) tt (plain (λ _. T.the-row)), (stay-none-slice (1 
 abbrev vals : Counts → List Val
 vals = LL.vals T.the-type T′.the-laws
 
-abbrev val : Counted → Val
+abbrev val : CountAnswer → Val
 val = LL.val R.the-type R′.the-laws
 
 module _ {M : Type 1} (𝓤 : URA M) (H : Heap 𝓤) (A : Atoms 𝓤) (at-mem : Memory → SProp 𝓤) (run : Routine → Fun 𝓤) where
@@ -92,7 +92,7 @@ module _ {M : Type 1} (𝓤 : URA M) (H : Heap 𝓤) (A : Atoms 𝓤) (W : Given
   Own = ShrSlice (named 1) κ′ u8 .own s (v ∷ [])
 
   -- what the callee says of its answer
-  abbrev Answers : Counted → Type 0
+  abbrev Answers : CountAnswer → Type 0
   Answers r = reply-of r ≡ count-record (now s) (counts-of h)
 
   abbrev to-g : Callee 𝓤 H A at-mem run .Ghost
@@ -103,10 +103,10 @@ module _ {M : Type 1} (𝓤 : URA M) (H : Heap 𝓤) (A : Atoms 𝓤) (W : Given
       qed W (‵ (T.the-row .own h (vals h)) ∷ (‵ (flft κ′ q′) ⊛ ‵ ftrue) ∷ ‵ Own ∷ []) ∵
       nothing ! $ move ! (3 ∷ 0 ∷ []) $ fjoin ! $ move ! (1 ∷ 0 ∷ []) $ fjoin ! $ move ! (1 ∷ 0 ∷ []) $ join ! $ frame ! $ done !
 
-  told : (r : Counted) → ent 𝓤 (ensured 𝓤 H A g.ended (g.clauses 𝓤 H A at-mem run) (κ′, tt) (h, (s, tt)) tt r) (fact 𝓤 (Answers r))
+  told : (r : CountAnswer) → ent 𝓤 (ensured 𝓤 H A g.ended (g.clauses 𝓤 H A at-mem run) (κ′, tt) (h, (s, tt)) tt r) (fact 𝓤 (Answers r))
   told r = exE 𝓤 _ (λ ws. snd∗ 𝓤 (sem 𝓤 H A (lasts g.ended (κ′, tt) (h, (s, tt)) ws)) (fact 𝓤 (Answers r)))
 
-  exits : (r : Counted) → Answers r → r .number < 2 ^ 32
+  exits : (r : CountAnswer) → Answers r → r .number < 2 ^ 32
       → ent 𝓤 (⋆ 𝓤 H A (‵ (fobs γ (T.the-row .coded .code (r .counts))) ∷ ‵ (fbor κ (Body (mem T.the-row) b o γ)) ∷ ‵ (flft κ q) ∷ (‵ (flft κ′ q′) ⊛ ‵ ftrue) ∷ ‵ Own ∷ [])) (Post (vint w32 (r .number)))
   exits r e fits =
       qed W (‵ (fobs γ (T.the-row .coded .code (r .counts))) ∷ ‵ (fbor κ (Body (mem T.the-row) b o γ)) ∷ ‵ (flft κ q) ∷ (‵ (flft κ′ q′) ⊛ ‵ ftrue) ∷ ‵ Own ∷ []) ∵
@@ -115,10 +115,10 @@ module _ {M : Type 1} (𝓤 : URA M) (H : Heap 𝓤) (A : Atoms 𝓤) (W : Given
       owned ! u32 (Is u32) (uint-makes 𝓤 H A W w32) (r .number) _ (refl, fits) $ move ! (1 ∷ 0 ∷ []) $ done !
 
   -- what an answer's fields are known by
-  number-fits : (r : Counted) (w : Val) → Is R.the-row r (w ∷ []) → r .number < 2 ^ 32
+  number-fits : (r : CountAnswer) (w : Val) → Is R.the-row r (w ∷ []) → r .number < 2 ^ 32
   number-fits r w is = omega (arith, LL.owed R.the-type R′.the-laws r (w ∷ []) is .0 .1)
 
-  counts-are : (r : Counted) (w : Val) → Is R.the-row r (w ∷ []) → Is T.the-row (r .counts) (vals (r .counts))
+  counts-are : (r : CountAnswer) (w : Val) → Is R.the-row r (w ∷ []) → Is T.the-row (r .counts) (vals (r .counts))
   counts-are r w is = LL.owed R.the-type R′.the-laws r (w ∷ []) is .1 .0
 
   module _ (C : Calls 𝓤 H) (Λ : Loops 𝓤 H) (fm : FmC 𝓤 H (W .laws) C) (known : Triple 𝓤 (C #count) (Callee 𝓤 H A at-mem run)) where
@@ -136,7 +136,7 @@ module _ {M : Type 1} (𝓤 : URA M) (H : Heap 𝓤) (A : Atoms 𝓤) (W : Given
         move ! (1 ∷ 18 ∷ 15 ∷ []) $ use3 W (raw (Callee 𝓤 H A at-mem run .pre to-g)) goes-g $
         -- [what the callee asks; the cell; the open borrow; obs; auth; _4; …; _3; …; _2; …; _1; …; _0; …; the slice's; true]
         calls-at ! fm (Callee 𝓤 H A at-mem run) known to-g (and-then ! (load ! (from ! (stop !)) (look ! 5 refl)) (and-then ! (load ! (from ! (stop !)) (look ! 9 refl)) (no-more !))) (λ w.
-        use1 W (later (some (λ (r : Counted). ((‵ (flft κ′ q′) ⊛ ‵ ftrue) ⊛ ‵ (R.the-row .own r (w ∷ []))) ⊛ raw (ensured 𝓤 H A g.ended (g.clauses 𝓤 H A at-mem run) (κ′, tt) (h, (s, tt)) tt r)))) (id⊢ 𝓤 _) $ await ! tt $ pick ! (λ r.
+        use1 W (later (some (λ (r : CountAnswer). ((‵ (flft κ′ q′) ⊛ ‵ ftrue) ⊛ ‵ (R.the-row .own r (w ∷ []))) ⊛ raw (ensured 𝓤 H A g.ended (g.clauses 𝓤 H A at-mem run) (κ′, tt) (h, (s, tt)) tt r)))) (id⊢ 𝓤 _) $ await ! tt $ pick ! (λ r.
         split ! $ move ! (1 ∷ []) $ use1 W (raw (fact 𝓤 (Answers r))) (told r) $ heard ! (Answers r) (λ e. split ! $ move ! (1 ∷ []) $
         peeks ! R.the-row (Is R.the-row) (shows 𝓤 H A R.the-row) r (w ∷ []) (λ is.
         -- [what the answer owns; the slice's token; the cell; the open borrow; obs; auth; _4; …; _3; …; _2; …; _1; …; _0; …; the slice's; true]

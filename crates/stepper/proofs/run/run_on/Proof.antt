@@ -4,13 +4,13 @@ use Prim.Native.Nat.{_-_, _≤_}
 use native.Mathlib.Omega.{arith}
 use lib.ListN.{length}
 use borrow.Author.Needs.{needs}
-use Rattle.stepper.specs.Run.RunLoop.{Standing, Keeps, standing-on, keeps-on, keeps-stopped, keeps-all}
+use Rattle.stepper.specs.Run.RunLoop.{RunStands, Keeps, standing-on, keeps-on, keeps-stopped, keeps-all}
 use Rattle.stepper.proofs.run.run_on.Statement.{statement}
 use Rattle.stepper.proofs.run.run_on.Tie as tie
 
 abbrev Inv-loop : tie.InvT-loop
 Inv-loop program here₀ there₀ order steps log₀ last₀ here there log last =
-    ((g : Standing program order last₀ here₀ log₀) → Keeps g last here log) × (last .taken ≤ steps) × (length here ≡ length here₀) × (length there ≡ length there₀) × (length log ≡ length log₀)
+    ((g : RunStands program order last₀ here₀ log₀) → Keeps g last here log) × (last .taken ≤ steps) × (length here ≡ length here₀) × (length there ≡ length there₀) × (length log ≡ length log₀)
 
 abbrev μ-loop : tie.MeasureT-loop
 μ-loop program here₀ there₀ order steps log₀ last₀ here there log last = steps - last .taken

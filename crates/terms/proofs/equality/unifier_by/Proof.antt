@@ -26,11 +26,11 @@ slice-aggregate-unifier-with c =
 
 unifier-with-requires : tie.Need-unifier-with-requires
 unifier-with-requires c κs =
-    let p = c .before .before .before .before .before .before .before .before .before .before .before .before .before .before .before .before .before .before .before .before .pre in (p .0 .0, (p .0 .2, (search needs, (search needs, one-value (p .0 .1 .term) (c .before .before .before .before .before .before .before .before .before .before .before .before .apply-bets .ensures (p .0 .0) _ (p .0 .1)) (c .before .before .before .before .before .k .given .1) (p .0 .0 .formed) (p .0 .1 .formed)))))
+    let p = c .before .before .before .before .before .before .before .before .before .before .before .before .before .before .before .before .before .before .before .before .pre in (p .0 .0, (p .0 .2, (search needs, (search needs, one-value (p .0 .1 .term) (c .before .before .before .before .before .before .before .before .before .before .before .before .apply-bets .ensures (p .0 .0) _ (p .0 .1)) (c .before .before .before .before .before .k .given .1) (p .0 .0 .row .formed) (p .0 .1 .formed)))))
 
 returns-2 : tie.Need-returns-2
 returns-2 c =
-    λ p s t. let a = c .before .before .before .before .before .before .before .before .before .before .before .before .before .before .before .before .before .before .before .apply-bets .ensures p _ s in let k = c .before .before .before .before .before .before .before .before .before .before .before .before .k .given .1 in left-within (s .term) (t .term) a k (c .before .before .before .before .before .before .unifier-with .ensures p (one-value (s .term) a k (p .formed) (s .formed)) t)
+    λ p s t. let a = c .before .before .before .before .before .before .before .before .before .before .before .before .before .before .before .before .before .before .before .apply-bets .ensures p _ s in let k = c .before .before .before .before .before .before .before .before .before .before .before .before .k .given .1 in left-within (s .term) (t .term) a k (c .before .before .before .before .before .before .unifier-with .ensures p (one-value (s .term) a k (p .row .formed) (s .formed)) t)
 
 pub unifier-by-spec : {M : Type 1} → statement M
 unifier-by-spec =

@@ -26,11 +26,11 @@ slice-aggregate-write-unifier c =
 
 write-unifier-requires : tie.Need-write-unifier-requires
 write-unifier-requires c κs =
-    let p = c .before .before .before .before .before .before .before .before .before .before .before .before .before .before .before .before .before .before .before .pre in (p .1 .1 .1 .1, one-value (p .1 .0 .term) (c .before .before .before .before .before .before .before .before .before .before .apply-bets .ensures (p .0) _ (p .1 .0)) (c .before .before .before .m .given .1) (p .0 .formed) (p .1 .0 .formed))
+    let p = c .before .before .before .before .before .before .before .before .before .before .before .before .before .before .before .before .before .before .before .pre in (p .1 .1 .1 .1, one-value (p .1 .0 .term) (c .before .before .before .before .before .before .before .before .before .before .apply-bets .ensures (p .0) _ (p .1 .0)) (c .before .before .before .m .given .1) (p .0 .row .formed) (p .1 .0 .formed))
 
 returns-2 : tie.Need-returns-2
 returns-2 c =
-    λ p v t. let s = c .before .before .before .before .before .before .before .before .before .before .before .before .before .apply-bets .ensures p _ t in let m = c .before .before .before .before .before .before .m .given .1 in let b = one-value (t .term) s m (p .formed) (t .formed) in right-within (v .value .term) (t .term) s m (c .before .before .write-unifier .ensures .each (v .value .term) (b .value .term) (v .value .formed) (b .value .formed) (v .value .same) (b .value .same))
+    λ p v t. let s = c .before .before .before .before .before .before .before .before .before .before .before .before .before .apply-bets .ensures p _ t in let m = c .before .before .before .before .before .before .m .given .1 in let b = one-value (t .term) s m (p .row .formed) (t .formed) in right-within (v .value .term) (t .term) s m (c .before .before .write-unifier .ensures .each (v .value .term) (b .value .term) (v .value .formed) (b .value .formed) (v .value .same) (b .value .same))
 
 pub unifier-with-spec : {M : Type 1} → statement M
 unifier-with-spec =

@@ -2,14 +2,14 @@
 use mathlib.Core.Path.{_≡_, refl}
 use native.Mathlib.Omega.{arith}
 use lib.ListN.{length}
-use Rattle.terms.specs.Standing.BetRow.{Bets}
+use Rattle.terms.specs.Standing.BetRow.{RuledBets}
 use Rattle.terms.specs.Values.ListingLaws.{BetsListing, bets-start, bets-end, bets-here, bets-room, bets-next}
 use borrow.Author.Needs.{needs}
 use Rattle.terms.proofs.pairs.list_bets.Statement.{statement}
 use Rattle.terms.proofs.pairs.list_bets.Tie as tie
 
 abbrev Inv-loop : tie.InvT-loop
-Inv-loop event at n places₀ firsts₀ pos₀ left₀ k₀ places firsts pos left k = ((p : Bets event at n) → BetsListing event (p .bets) places firsts pos left k) × (length places ≡ length places₀) × (length firsts ≡ length firsts₀)
+Inv-loop event at n places₀ firsts₀ pos₀ left₀ k₀ places firsts pos left k = ((p : RuledBets event at n) → BetsListing event (p .row .items) places firsts pos left k) × (length places ≡ length places₀) × (length firsts ≡ length firsts₀)
 
 abbrev μ-loop : tie.MeasureT-loop
 μ-loop event at n places₀ firsts₀ pos₀ left₀ k₀ places firsts pos left k = left

@@ -15,13 +15,13 @@ put-value-requires : tie.Need-put-value-requires
 put-value-requires c κs =
     let t = event-open _ (c .before .before .before .before .event-door .ensures) (omega arith) in
     let b = event-bets _ (c .before .before .before .before .before .before .shared-slice-known .given) (t .0) (t .1) (c .before .before .event-places .ensures (t .0) (t .1)) in
-    (b .row, b .short)
+    (b .bets, b .short)
 
 returns-2 : tie.Need-returns-2
 returns-2 c =
     let t = event-open _ (c .before .before .before .before .before .before .before .event-door .ensures) (omega arith) in
     let b = event-bets _ (c .before .before .before .before .before .before .before .before .before .shared-slice-known .given) (t .0) (t .1) (c .before .before .before .before .before .event-places .ensures (t .0) (t .1)) in
-    value-of-event (c .before .before .before .before .before .before .before .before .before .before .args .v) (t .0) (t .1) b (c .before .before .put-value .ensures (b .row))
+    value-of-event (c .before .before .before .before .before .before .before .before .before .before .args .v) (t .0) (t .1) b (c .before .before .put-value .ensures (b .bets))
 
 pub value-spec : {M : Type 1} → statement M
 value-spec =

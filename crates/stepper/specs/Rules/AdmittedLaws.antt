@@ -1,12 +1,13 @@
--- Question 10 is not put for two terms that can't be unified: the result then differs from the given event in its port alone.
+-- Where an equality has no unifier question 10 is left out: the result then differs from the given event in its port alone.
 -- So every step keeps events admitted, and to put the question there too would change no answer.
 use mathlib.Core.Path.{_≡_, refl, sym, _∙_, ap, subst}
 use mathlib.Core.Logic.{_↔_}
-use mathlib.Core.Bool.{Bool, true, false, true≢false}
+use mathlib.Core.Bool.{Bool, true, false}
 use mathlib.Core.List.{_∷_}
+use Rattle.records.specs.Format.Never.{never}
 use Rattle.records.specs.Format.Syntax.{truth, failure, equal, conj, disj, atom, unifier, call, exit, fail, redo, Event, event}
 use Rattle.terms.specs.Theory.Outcome.{Unified, too-large, clash, unified}
-use Rattle.stepper.specs.Rules.Machine.{Machine, Admits, LimitLaws, Answer, refused, gives, answer?}
+use Rattle.stepper.specs.Rules.Machine.{Machine, Admits, LimitLaws, StepOutcome, refused, gives, answer?}
 use Rattle.stepper.specs.Rules.Rules.{by-unifier, is-clash, matching, fitting, limited-by, rule, ununifiable, step-forward, checked, step-back, step, candidate}
 use Rattle.stepper.specs.Rules.AnswerLaws.{Given, fitting-none, fitting-put, matching-yes}
 use Rattle.stepper.specs.Rules.ListedLaws.{forward-by-rule, back-candidate, back-steps-forward, rule-follows, forward-iff}
@@ -19,8 +20,8 @@ module _ (M : Machine) (limits : LimitLaws M) where
   -- two terms that can't be unified
   pub clash-admitted : (e : Event) → ununifiable M e ≡ true → Given (λ d. Admits M d ↔ Admits M e) (rule M e)
   unfolding ununifiable rule
-  clash-admitted (event call truth u s) h = absurd (true≢false (sym h))
-  clash-admitted (event call failure u s) h = absurd (true≢false (sym h))
+  clash-admitted (event call truth u s) h = never (sym h)
+  clash-admitted (event call failure u s) h = never (sym h)
   clash-admitted (event call (equal l r) u s) h = go (M .unify s l r) h
     where
       go : (x : Unified) → is-clash x ≡ true
@@ -28,20 +29,20 @@ module _ (M : Machine) (limits : LimitLaws M) where
           (by-unifier x (event fail (equal l r) u s) (λ m. event exit (equal l r) u (unifier m ∷ s)))
       go too-large k = tt
       go clash k = limits .any-port (equal l r) u s
-      go (unified m) k = absurd (true≢false (sym k))
-  clash-admitted (event call (conj a b) u s) h = absurd (true≢false (sym h))
-  clash-admitted (event call (disj a b) u s) h = absurd (true≢false (sym h))
-  clash-admitted (event call (atom p ts) u s) h = absurd (true≢false (sym h))
-  clash-admitted (event exit g u s) h = absurd (true≢false (sym h))
-  clash-admitted (event fail g u s) h = absurd (true≢false (sym h))
-  clash-admitted (event redo g u s) h = absurd (true≢false (sym h))
+      go (unified m) k = never (sym k)
+  clash-admitted (event call (conj a b) u s) h = never (sym h)
+  clash-admitted (event call (disj a b) u s) h = never (sym h)
+  clash-admitted (event call (atom p ts) u s) h = never (sym h)
+  clash-admitted (event exit g u s) h = never (sym h)
+  clash-admitted (event fail g u s) h = never (sym h)
+  clash-admitted (event redo g u s) h = never (sym h)
 
-  -- to put question 10 for two terms that can't be unified too would change no answer
+  -- to put question 10 there as well would change no answer
   pub put-always : (e : Event) → Admits M e → step-forward M e ≡ limited-by (M .result-limit) false (rule M e)
   unfolding step-forward limited-by
   put-always e l = go (ununifiable M e) (rule M e) (clash-admitted e)
     where
-      go : (b : Bool) (a : Answer) → (b ≡ true → Given (λ c. Admits M c ↔ Admits M e) a) → limited-by (M .result-limit) b a ≡ limited-by (M .result-limit) false a
+      go : (b : Bool) (a : StepOutcome) → (b ≡ true → Given (λ c. Admits M c ↔ Admits M e) a) → limited-by (M .result-limit) b a ≡ limited-by (M .result-limit) false a
       go b (refused q) k = refl
       go true (gives c) k = rw (k refl .1 l) (fitting-none true (gives c) ∙ sym (fitting-none false (gives c)))
       go false (gives c) k = refl
@@ -50,8 +51,8 @@ module _ (M : Machine) (limits : LimitLaws M) where
   unfolding limited-by
   forward-admitted e d l h = go (rule M e) (sym (put-always e l) ∙ h)
     where
-      go : (a : Answer) → limited-by (M .result-limit) false a ≡ gives d → Admits M d
-      go (refused q) k = absurd (true≢false cc)
+      go : (a : StepOutcome) → limited-by (M .result-limit) false a ≡ gives d → Admits M d
+      go (refused q) k = never cc
       go (gives c) k =
           let r = fitting-put (M .result-limit c) (gives c) d k in
           let given : gives c ≡ gives d = r .1 in
@@ -103,7 +104,7 @@ module _ (M : Machine) (limits : LimitLaws M) where
   unfolding step-back limited-by
   back-settled e l r = go (candidate M e) refl
     where
-      go : (a : Answer) → candidate M e ≡ a → checked M e (candidate M e) ≡ limited-by (M .candidate-limit) false (candidate M e)
+      go : (a : StepOutcome) → candidate M e ≡ a → checked M e (candidate M e) ≡ limited-by (M .candidate-limit) false (candidate M e)
       go (refused q) k = ap (checked M e) k ∙ sym (ap (limited-by (M .candidate-limit) false) k)
       go (gives c) k =
           back-put c e l (subst (Given (λ c. Rule M c e)) k r, candidate-own M c e (candidate-iff M e c .0 k))

@@ -9,9 +9,9 @@ use Rattle.records.specs.Format.Syntax.{Term, Binding}
 use Rattle.records.specs.Format.Syntax.Binding.{bind}
 use Rattle.records.specs.Gate.RecordRules.{term-variables, bound, free, member, rising-from, unifier-rules}
 use Rattle.terms.specs.Theory.Substitution.{Occurs}
-use Rattle.terms.specs.Theory.Variables.{Listed}
-use Rattle.terms.specs.Theory.VariablesLaws.{listed-either, listed-occurs}
-use Rattle.terms.specs.Theory.TestLaws.{member-listed, every-true}
+use Rattle.terms.specs.Theory.Variables.{Among}
+use Rattle.terms.specs.Theory.VariablesLaws.{among-either, among-occurs}
+use Rattle.terms.specs.Theory.TestLaws.{member-among, every-true}
 use Rattle.terms.specs.Theory.Mgu.{Binds, Rises, IsMgu}
 
 -- the bound variables rise as the rule wants
@@ -20,15 +20,15 @@ rises-rising n [] r = refl
 rises-rising n (bind x t ∷ σ) r = rw (le-ltb x n (r .0)) (rises-rising (suc x) σ (r .1))
 
 -- what is bound is bound to a term, and what is free occurs in the term of a binding
-bound-binds : (x : ℕ) (σ : List Binding) → Listed x (bound σ) → (t : Term) × Binds σ x t
+bound-binds : (x : ℕ) (σ : List Binding) → Among x (bound σ) → (t : Term) × Binds σ x t
 bound-binds x [] h = absurd h
 bound-binds x (bind y u ∷ σ) (inl e) = (u, inl (e, refl))
 bound-binds x (bind y u ∷ σ) (inr h) = let k = bound-binds x σ h in (k .0, inr (k .1))
 
-free-occurs : (x : ℕ) (σ : List Binding) → Listed x (free σ) → (y : ℕ) × ((t : Term) × (Binds σ y t × Occurs x t))
+free-occurs : (x : ℕ) (σ : List Binding) → Among x (free σ) → (y : ℕ) × ((t : Term) × (Binds σ y t × Occurs x t))
 free-occurs x [] h = absurd h
-free-occurs x (bind y u ∷ σ) h = elim (listed-either x (term-variables u) (free σ) h) [
-  | inl k ↦ (y, (u, (inl (refl, refl), listed-occurs x u k)))
+free-occurs x (bind y u ∷ σ) h = elim (among-either x (term-variables u) (free σ) h) [
+  | inl k ↦ (y, (u, (inl (refl, refl), among-occurs x u k)))
   | inr k ↦ (let r = free-occurs x σ k in (r .0, (r .1 .0, (inr (r .1 .1 .0), r .1 .1 .1))))
 ]
 
@@ -38,9 +38,9 @@ unfolding unifier-rules
 mgu-rules σ m =
     rw (rises-rising 0 σ (m .rising)) (every-true (λ x. not (member x (bound σ))) (free σ) (λ x h. unbound x h (member x (bound σ)) refl))
   where
-    unbound : (x : ℕ) → Listed x (free σ) → (b : Bool) → member x (bound σ) ≡ b → not (member x (bound σ)) ≡ true
+    unbound : (x : ℕ) → Among x (free σ) → (b : Bool) → member x (bound σ) ≡ b → not (member x (bound σ)) ≡ true
     unbound x h false e = ap not e
     unbound x h true e =
-        let k = bound-binds x σ (member-listed x (bound σ) e) in
+        let k = bound-binds x σ (member-among x (bound σ) e) in
         let r = free-occurs x σ h in
         absurd (m .apart (r .0) x (r .1 .0) (k .0) (r .1 .1 .0) (k .1) (r .1 .1 .1))

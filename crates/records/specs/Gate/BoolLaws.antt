@@ -1,6 +1,6 @@
 -- Laws of tests on lists: of every element, of membership, and of rising numbers.
 use mathlib.Core.Path.{_≡_, refl, sym, ap, _∙_}
-use mathlib.Core.Bool.{Bool, true, false, _&&_, _||_, and-assoc, or-assoc, or-comm, true≢false}
+use mathlib.Core.Bool.{Bool, true, false, _&&_, _||_, and-assoc, or-assoc}
 use mathlib.Core.Logic.{dite}
 use mathlib.Core.List.{List, [], _∷_, _++_}
 use Prim.Native.Nat.{ℕ, zero, suc, _+_, _≤_, _<_}
@@ -9,6 +9,7 @@ use native.Mathlib.Omega.{arith}
 use native.Mathlib.Decide.{decLt}
 use lib.Dec.{eqb}
 use borrow.Author.Tests.{lt-ltb, le-ltb}
+use Rattle.records.specs.Format.Never.{never}
 use Rattle.records.specs.Gate.RecordRules.{every, member, rising-from, numbers}
 
 -- two tests that are true together are the same
@@ -20,7 +21,7 @@ same-truth false false f g = refl
 -- both halves of a test that is true
 pub and-both : (a b : Bool) → (a && b) ≡ true → (a ≡ true) × (b ≡ true)
 and-both true b e = (refl, e)
-and-both false b e = absurd (true≢false cc)
+and-both false b e = never cc
 
 -- every part of two lists, one after the other
 pub every-append : {A : Type 0} (f : A → Bool) (l k : List A) → every f (l ++ k) ≡ (every f l && every f k)
@@ -47,13 +48,10 @@ pub each-number : (f : ℕ → Bool) (from n : ℕ) → ((i : ℕ) → from ≤ 
 each-number f from zero h = refl
 each-number f from (suc n) h = rw (h from (le-refl from) (omega arith)) (each-number f (suc from) n (λ i low high. h i (omega arith) (omega arith)))
 
--- membership in two lists, one after the other, in either order
+-- membership in two lists, one after the other
 pub member-append : (x : ℕ) (l k : List ℕ) → member x (l ++ k) ≡ (member x l || member x k)
 member-append x [] k = refl
 member-append x (y ∷ l) k = ap (λ (b : Bool). eqb x y || b) (member-append x l k) ∙ sym (or-assoc (eqb x y) (member x l) (member x k))
-
-pub member-swap : (x : ℕ) (l k : List ℕ) → member x (l ++ k) ≡ member x (k ++ l)
-member-swap x l k = member-append x l k ∙ or-comm (member x l) (member x k) ∙ sym (member-append x k l)
 
 -- one number more of a rising row
 pub rising-next : (low x : ℕ) (l : List ℕ) → low ≤ x → rising-from low (x ∷ l) ≡ rising-from (suc x) l

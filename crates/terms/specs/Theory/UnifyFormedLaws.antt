@@ -1,5 +1,4 @@
 -- The unifier of well-formed terms is well formed, and that of two short terms has few bindings.
-use mathlib.Core.Bool.{true≢false}
 use mathlib.Core.Path.{_≡_, refl}
 use mathlib.Core.Logic.{inl, inr, ite}
 use mathlib.Core.List.{List, [], _∷_}
@@ -8,6 +7,7 @@ use native.Mathlib.Decide.{ℕ-discrete}
 use native.Mathlib.Omega.{arith}
 use Prim.Native.Nat.{ℕ, zero, suc, _+_, _*_, _≤_, _<_}
 use lib.ListN.{length}
+use Rattle.records.specs.Format.Never.{never}
 use Rattle.records.specs.Format.Syntax.{Term, Terms, Binding}
 use Rattle.records.specs.Format.Syntax.Term.{var, app}
 use Rattle.records.specs.Format.Syntax.Terms.{nil, cons}
@@ -16,8 +16,8 @@ use Rattle.records.specs.Format.Formed.{TermFormed, TermsFormed, All, BindingFo
 use Rattle.records.specs.Ends.Above.{above}
 use Rattle.terms.specs.Theory.Substitution.{Substitution, substitute, occurs-in?, term-length}
 use Rattle.terms.specs.Theory.FormedLaws.{SubstitutionFormed, formed-substitute, occurs-formed}
-use Rattle.terms.specs.Theory.Variables.{Listed, both-variables, without}
-use Rattle.terms.specs.Theory.VariablesLaws.{either-listed, listed-both, above-least, without-shorter, without-keeps, both-variables-length}
+use Rattle.terms.specs.Theory.Variables.{Among, both-variables, without}
+use Rattle.terms.specs.Theory.VariablesLaws.{either-among, among-both, above-least, without-shorter, without-keeps, both-variables-length}
 use Rattle.terms.specs.Theory.Mgu.{Binds, Rises}
 use Rattle.terms.specs.Theory.MguLaws.{rises-least}
 use Rattle.terms.specs.Theory.Unify.{
@@ -126,18 +126,18 @@ unify-formed s t σ e h k =
     n : ℕ
     n = above (both-variables s t)
 
-    small : (v : ℕ) → Listed v (both-variables s t) → v < 65536
-    small v o = elim (listed-both v s t o) [ inl p ↦ occurs-formed v s h p | inr p ↦ occurs-formed v t k p ]
+    small : (v : ℕ) → Among v (both-variables s t) → v < 65536
+    small v o = elim (among-both v s t o) [ inl p ↦ occurs-formed v s h p | inr p ↦ occurs-formed v t k p ]
 
     go : (r : Option Substitution) → FoundFormed r → bindings-below n r ≡ some σ → All BindingFormed σ
-    go none f p = absurd (true≢false cc)
+    go none f p = never cc
     go (some θ) f p =
         let q : bindings 0 n θ ≡ σ = cc in
         let b = above-least 65536 (both-variables s t) small in
         rw q at (bindings-formed 0 n θ (omega arith) f)
 
 -- A rising list of bindings whose variables all stand in a list is no longer than that list.
-rises-shorter : (n : ℕ) (σ : List Binding) (l : List ℕ) → Rises n σ → ((x : ℕ) (u : Term) → Binds σ x u → Listed x l) → length σ ≤ length l
+rises-shorter : (n : ℕ) (σ : List Binding) (l : List ℕ) → Rises n σ → ((x : ℕ) (u : Term) → Binds σ x u → Among x l) → length σ ≤ length l
 rises-shorter n [] l r h = omega arith
 rises-shorter n (bind x t ∷ σ) l r h =
     let k = without-shorter x l (h x t (inl (refl, refl))) in
@@ -149,6 +149,6 @@ rises-shorter n (bind x t ∷ σ) l r h =
 pub unify-length : (s t : Term) (σ : List Binding) → unify s t ≡ some σ → 3 * length σ ≤ term-length s + term-length t
 unify-length s t σ e =
     let m = unify-mgu s t σ e in
-    let h = rises-shorter 0 σ (both-variables s t) (m .rising) (λ x u b. either-listed x s t (m .only x u b .0)) in
+    let h = rises-shorter 0 σ (both-variables s t) (m .rising) (λ x u b. either-among x s t (m .only x u b .0)) in
     let k = both-variables-length s t in
     omega arith

@@ -4,6 +4,8 @@ pub mod Equation
 pub mod Definition
 pub mod Program
 pub mod Service
+pub mod PartlyPutLaws
+pub mod EquationLaws
 pub mod BranchLaws
 pub mod DefinitionLaws
 pub mod ProgramLaws

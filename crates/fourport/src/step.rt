@@ -6,7 +6,7 @@ ghost use Rattle.stepper.specs.Walks.Walk.{forward, back};
 ghost use Rattle.stepper.specs.Services.Services.{step-record};
 ghost use Rattle.stepper.specs.Services.Desk.{layers};
 ghost use Rattle.records.specs.Gate.Reply.{Replied};
-ghost use Rattle.stepper.specs.Run.Run.{run-record, RunReplied};
+ghost use Rattle.stepper.specs.Run.RunService.{run-record, RunReplied};
 ghost use Rattle.fourport.specs.Directions.{direction-of};
 
 // One step forward.

@@ -6,7 +6,8 @@ use mathlib.Core.List.{List}
 use Rattle.records.specs.Gate.RecordRules.{every}
 use Rattle.records.specs.Format.Reader.{Read}
 use Rattle.records.specs.Format.Items.{Reader}
-use Rattle.records.specs.Gate.Rows.{Ends, holds, kept-at, row-at, RowFirst, row-more, row-first, row-none, item-kept, items-kept, item-rules}
+use Rattle.records.specs.Gate.Rows.{Ends, holds, kept-at, row-at, RowFirst, item-kept, items-kept, item-rules}
+use Rattle.records.specs.Gate.RowsLaws.{row-more, row-first, row-none}
 use Rattle.records.specs.Ends.ItemEnds.{item-reader, item-end, items-end}
 use Rattle.records.specs.declared.ends.Found.{Found}
 use Rattle.records.specs.declared.ends.Found.the-variants.{At, Nothing}

@@ -12,7 +12,7 @@ use Rattle.records.specs.Format.Syntax.Definition.{definition}
 use Rattle.records.specs.Format.Formed.{All, BindingFormed}
 use Rattle.records.specs.Gate.RecordRules.{every, bound, free, rising-from, key, keys, unifier-rules, definition-rules, clause-rules}
 use Rattle.records.specs.Format.Never.{never}
-use Rattle.records.specs.Gate.BoolLaws.{every-append, rising-next, rising-not}
+use Rattle.records.specs.Gate.RecordRulesLaws.{every-append, rising-next, rising-not}
 use Rattle.records.specs.Format.Heads.{word-at, definition-head, definition-head-at, clause-head-at}
 use Rattle.records.specs.Format.HeadLaws.{Known, bytes-all, bytes-drop}
 use Rattle.records.specs.Format.Reader.{Read, Parts, also, read}
@@ -21,13 +21,14 @@ use Rattle.records.specs.Format.Items.{Reader, many, read-binding, first
 use Rattle.records.specs.Format.ItemLaws.{many-exact}
 use Rattle.records.specs.Format.Exact.{binding-exact}
 use Rattle.records.specs.Gate.Sets.{is-marked, marked, all-marked}
-use Rattle.records.specs.Gate.VariableLaws.{unifier-rules-marked}
+use Rattle.records.specs.Gate.SetLaws.{unifier-rules-marked}
 use Rattle.records.specs.Ends.Traversal.{traverse, end-of}
 use Rattle.records.specs.Ends.Steps.{On, met}
-use Rattle.records.specs.Gate.Kept.{pair-read}
-use Rattle.records.specs.Gate.Rows.{Ends, holds, kept-at, row-of, row-at, row-none, row-more, row-first}
-use Rattle.records.specs.Ends.ItemEnds.{binding-ends, definition-ends, clause-ends}
-use Rattle.records.specs.Ends.HeadRoom.{word-room, definition-room}
+use Rattle.records.specs.Gate.KeptLaws.{pair-read}
+use Rattle.records.specs.Gate.Rows.{Ends, holds, kept-at, row-of, row-at}
+use Rattle.records.specs.Gate.RowsLaws.{row-none, row-more, row-first}
+use Rattle.records.specs.Ends.ItemEndsLaws.{binding-ends, definition-ends, clause-ends}
+use Rattle.records.specs.Ends.HeadRoomLaws.{word-room, definition-room}
 use Rattle.records.specs.Gate.Ranks.{ranked-reader, ranks, signature-rank, rank-at, ranked-end, ranks-end, ranks-rise}
 use Rattle.records.specs.declared.rules.Ranked.{Ranked}
 use Rattle.records.specs.declared.rules.Ranked.the-variants.{Pairs, Definitions}

@@ -7,6 +7,14 @@ pub mod Places
 pub mod Same
 pub mod Above
 pub mod ItemEnds
-pub mod TraversalLaws
 pub mod HeadRoom
+pub mod RangeLaws
+pub mod StepsLaws
+pub mod StandsLaws
+pub mod PlacesLaws
+pub mod SameLaws
+pub mod AboveLaws
+pub mod ItemEndsLaws
+pub mod TraversalLaws
+pub mod HeadRoomLaws
 pub mod EndLaws

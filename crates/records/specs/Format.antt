@@ -6,8 +6,8 @@ pub mod Heads
 pub mod Reader
 pub mod Items
 pub mod Never
+pub mod Exact
 pub mod HeadLaws
 pub mod ReaderLaws
 pub mod ItemLaws
-pub mod Exact
 pub mod WrittenLaws

@@ -23,7 +23,8 @@ use Rattle.stepper.specs.Rules.Sources.{Source}
 use Rattle.stepper.specs.Rules.Refusals.{Refusal, BackRefusal}
 use Rattle.stepper.specs.Walks.Walk.{forward, back, net}
 use Rattle.stepper.specs.Services.Services.{reply, step-record, serve, CameFrom, Move, forward-into, back-into, Program, rules-of, Start, start, served}
-use Rattle.stepper.specs.Services.Desk.{layers, lawful}
+use Rattle.stepper.specs.Services.Desk.{layers}
+use Rattle.stepper.specs.Services.DeskLaws.{lawful}
 use Rattle.stepper.specs.Services.StepRecordLaws.{forward-accepted, forward-follows, forward-refused, back-accepted, back-follows, back-refused}
 use Rattle.stepper.specs.Walks.ByteDemands.{undone, came-from, same-end}
 

@@ -6,6 +6,7 @@ pub mod RulePlans
 pub mod Halves
 pub mod Dispatch
 pub mod Made
+pub mod MadeLaws
 pub mod ViewLaws
 pub mod LayoutLaws
 pub mod HalfLaws

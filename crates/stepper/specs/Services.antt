@@ -6,6 +6,7 @@ pub mod FirstPlan
 pub mod Lookup
 pub mod Counts
 pub mod PortCounts
+pub mod DeskLaws
 pub mod ServiceLaws
 pub mod OutputLaws
 pub mod StepRecordLaws

@@ -2,9 +2,9 @@
 pub mod Walk
 pub mod Legal
 pub mod Reached
-pub mod WalkLaws
 pub mod Inverse
-pub mod ReachedLaws
 pub mod TreeDemands
 pub mod ByteDemands
 pub mod DemandsExample
+pub mod WalkLaws
+pub mod ReachedLaws

@@ -11,7 +11,7 @@ ghost use Rattle.stepper.specs.Services.PortCounts.{counts-of, reply-of,
 
 // How many events of each port a walk passed, laid out as in C, whose programs lend such counts.
 #[repr(C)]
-pub struct Counts {
+pub struct PortCounts {
     pub calls: u32,
     pub exits: u32,
     pub fails: u32,
@@ -21,7 +21,7 @@ pub struct Counts {
 // 0, or the number that refuses the event, and the counts afterwards.
 pub struct CountAnswer {
     pub number: u8,
-    pub counts: Counts,
+    pub counts: PortCounts,
 }
 
 // A count does not go beyond this.
@@ -35,29 +35,29 @@ fn one_more(n: u32) -> u32
 }
 
 // The counts with one more at a port, 1 to 4.
-fn with_port(counts: Counts, port: u8) -> Counts
+fn with_port(counts: PortCounts, port: u8) -> PortCounts
     ensures { λ r. ⌜ r ≡ with-port counts port ⌝ }
 {
     match port {
-        CALL => Counts {
+        CALL => PortCounts {
             calls: one_more(counts.calls),
             exits: counts.exits,
             fails: counts.fails,
             redos: counts.redos,
         },
-        EXIT => Counts {
+        EXIT => PortCounts {
             calls: counts.calls,
             exits: one_more(counts.exits),
             fails: counts.fails,
             redos: counts.redos,
         },
-        FAIL => Counts {
+        FAIL => PortCounts {
             calls: counts.calls,
             exits: counts.exits,
             fails: one_more(counts.fails),
             redos: counts.redos,
         },
-        _ => Counts {
+        _ => PortCounts {
             calls: counts.calls,
             exits: counts.exits,
             fails: counts.fails,
@@ -67,7 +67,7 @@ fn with_port(counts: Counts, port: u8) -> Counts
 }
 
 // The counter by value: 11 to 14 of the event, or its port is added.
-pub fn count(counts: Counts, event: &[u8]) -> CountAnswer
+pub fn count(counts: PortCounts, event: &[u8]) -> CountAnswer
     ensures { λ r. ⌜ reply-of r ≡ count-record (now (event .entry)) (counts-of counts) ⌝ }
 {
     let number = event_door(event);

@@ -25,8 +25,9 @@ ghost use Rattle.stepper.specs.Services.Services.{machine};
 ghost use Rattle.stepper.specs.Services.Desk.{layers};
 ghost use Rattle.records.specs.Ends.Places.{EndsOf};
 ghost use Rattle.stepper.specs.Step.Stepped.{Stepped, BothPassed};
-ghost use Rattle.stepper.specs.Run.Run.{mark, is-full, less-room, direction, told-mark, mark-numbers, with-mark, port-flag, aimed-at, stop-at, room-of, stopped-run, stopped-case, run, asked, plain-order, refused-run, run-record, RanTo, RunReplied};
-ghost use Rattle.stepper.specs.Run.RunLoop.{RunStands, RunHolds};
+ghost use Rattle.stepper.specs.Run.Run.{mark, is-full, less-room, run};
+ghost use Rattle.stepper.specs.Run.RunService.{run-record, RunReplied};
+ghost use Rattle.stepper.specs.Run.RunLoop.{RunStands, RunHolds, direction, told-mark, mark-numbers, with-mark, port-flag, aimed-at, stop-at, room-of, stopped-run, stopped-case, asked, plain-order, refused-run, RanTo};
 
 // Events of these ports that have so many ancestors.
 pub struct RunAim {

@@ -5,10 +5,10 @@ use case_io::line::print_end;
 use case_io::line::print_number;
 use case_io::line::print_start;
 use stepper::counts::CountAnswer;
-use stepper::counts::Counts;
+use stepper::counts::PortCounts;
 use stepper::counts::count;
 
-fn print_counts(counts: Counts) {
+fn print_counts(counts: PortCounts) {
     print_number(counts.calls as u64);
     print_number(counts.exits as u64);
     print_number(counts.fails as u64);
@@ -32,7 +32,7 @@ pub fn count_case(ordinal: u64, event: &[u8]) -> bool {
     if size.value != 16 || !redos.there {
         return false;
     }
-    let counts = Counts {
+    let counts = PortCounts {
         calls: calls.value,
         exits: exits.value,
         fails: fails.value,

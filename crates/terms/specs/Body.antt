@@ -3,11 +3,12 @@ pub mod Body
 pub mod Tops
 pub mod Definitions
 pub mod Arguments
-pub mod Numbering
+pub mod Renaming
 pub mod BodyBytes
 pub mod BodyLaws
 pub mod TopLaws
 pub mod DefinitionLaws
 pub mod ArgumentLaws
-pub mod WritingLaws
+pub mod BodyLengthLaws
+pub mod RenamingLaws
 pub mod AnswerLaws

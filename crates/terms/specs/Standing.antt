@@ -3,4 +3,6 @@ pub mod Rows
 pub mod Frames
 pub mod BetRow
 pub mod Accepted
+pub mod RowsLaws
+pub mod BetRowLaws
 pub mod AcceptedLaws

@@ -5,6 +5,7 @@ pub mod Mgu
 pub mod MostGeneral
 pub mod Unify
 pub mod Outcome
+pub mod Examples
 pub mod SubstitutionLaws
 pub mod VariablesLaws
 pub mod TestLaws
@@ -17,4 +18,3 @@ pub mod DifferenceLaws
 pub mod UnifyLaws
 pub mod UnifyFormedLaws
 pub mod OutcomeLaws
-pub mod Examples

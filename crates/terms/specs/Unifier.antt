@@ -3,6 +3,7 @@ pub mod ClassTerms
 pub mod UnifierAnswer
 pub mod Equality
 pub mod Told
+pub mod ToldLaws
 pub mod ClassTermsLaws
 pub mod LeastLaws
 pub mod GivesLaws

@@ -6,7 +6,8 @@ use crate::arguments::list_arguments;
 use crate::definitions::Lookup;
 use crate::definitions::Place;
 use crate::definitions::find_definition;
-use crate::numbering::write_nodes;
+use crate::substitute::Replacing;
+use crate::substitute::put_nodes;
 use crate::tables::ARGUMENT_PLACES;
 use crate::variables::Frame;
 use crate::variables::next_variable;
@@ -122,7 +123,8 @@ fn numbered_body(
         terms: 0,
         goals: 1,
     };
-    write_nodes(out, 0, program, start, event, table, k, m);
+    let by = Replacing::Numbered(k, m);
+    put_nodes(event, table, table, by, program, start, out);
     BodyAnswer::Defined(n)
 }
 

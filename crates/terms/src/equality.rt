@@ -1,5 +1,6 @@
 // An equality under a bet stack: the unifier of the values of its two terms, from the bytes of an event to the bytes of a bet.
-use crate::apply::apply_bets;
+use crate::apply::listed_value;
+use crate::pairs::list_bets;
 use crate::substitute::Sized;
 use crate::tables::MOST_NODES;
 use crate::tables::MOST_PAIRS;
@@ -7,6 +8,8 @@ use crate::tables::SHORT_EVENT;
 use crate::tables::SHORT_NODES;
 use crate::tables::SHORT_PAIRS;
 use crate::tables::SHORT_VALUES;
+use crate::tables::SMALL_EVENT;
+use crate::tables::SMALL_PAIRS;
 use crate::unifier::put_unifier;
 use crate::unifier::unify_values;
 use records::kinds::RECORD_LIMIT;
@@ -16,10 +19,12 @@ use records::questions::DONE;
 use records::questions::FITS;
 use records::questions::VALUES;
 ghost use mathlib.Core.Path.{_≡_};
+ghost use mathlib.Core.List.{List};
 ghost use Prim.Native.Nat.{_+_, _*_, _≤_};
 ghost use lib.ListN.{length};
+ghost use Rattle.records.specs.Format.Syntax.{Bet};
 ghost use Rattle.terms.specs.Values.Applied.{TermAt};
-ghost use Rattle.terms.specs.Standing.BetRow.{RuledBets};
+ghost use Rattle.terms.specs.Values.Entries.{PairsListed};
 ghost use mathlib.Core.Option.{some};
 ghost use Rattle.terms.specs.Theory.Outcome.{value-under, outcome-of};
 ghost use Rattle.terms.specs.Unifier.UnifierAnswer.{Unifiable};
@@ -129,33 +134,29 @@ fn write_unifier(a: &[u8], b: &[u8], out: &mut [u8]) -> UnifierAnswer
     }
 }
 
-// The unifier of the value a and the value that the n bets at `bets` of the event give the term at one of its ranges.
+// The unifier of the value a and the value that a bet stack, whose k pairs are listed, gives the term at a range of the event.
 fn unifier_with(
     event: &[u8],
-    bets: usize,
-    n: usize,
+    places: &[usize],
+    firsts: &[usize],
+    k: usize,
     a: &[u8],
     right: Range,
-    places: &mut [usize],
-    firsts: &mut [usize],
     out: &mut [u8],
 ) -> UnifierAnswer
-    requires { ⌜ RuledBets (now event) bets n ⌝ }
+    requires { ⌜ ((bets : List Bet) × PairsListed bets (now event) (now places) (now firsts) k) ⌝ }
     requires { ⌜ TermAt (now event) (right .from) (right .to) ⌝ }
-    requires { ⌜ length (now event) ≤ 5 * length (now places) ⌝ }
-    requires { ⌜ length (now firsts) ≡ length (now places) ⌝ }
     requires { ⌜ OneValue (now a) ⌝ }
-    ensures { λ r. ⌜ ((p : RuledBets (now (event .entry)) bets n) (v : OneValue (now (a .entry))) (t : TermAt (now (event .entry)) (right .from) (right .to)) → UnifierAnswered (now (out .entry)) (now (out .exit)) (outcome-of (some (v .value .term)) (value-under (p .row .items) (t .term))) r) ⌝ }
+    ensures { λ r. ⌜ ((bets : List Bet) → PairsListed bets (now (event .entry)) (now (places .entry)) (now (firsts .entry)) k → (v : OneValue (now (a .entry))) (t : TermAt (now (event .entry)) (right .from) (right .to)) → UnifierAnswered (now (out .entry)) (now (out .exit)) (outcome-of (some (v .value .term)) (value-under bets (t .term))) r) ⌝ }
 {
     let mut b: [u8; VALUE_LIMIT] = [0; VALUE_LIMIT];
-    let Sized::Fits(m) = apply_bets(event, bets, n, event, right.from, places, firsts, &mut b)
-    else {
+    let Sized::Fits(m) = listed_value(event, places, firsts, k, event, right.from, &mut b) else {
         return UnifierAnswer::TooLarge;
     };
     write_unifier(a, &b[..m], out)
 }
 
-// The unifier of the values that the n bets at `bets` of the event give the terms at two of its ranges. The tables are for the bets' pairs.
+// The unifier of the values that the n bets at `bets` of the event give the terms at two of its ranges. The bets' pairs are listed once for both.
 fn unifier_by(
     event: &[u8],
     bets: usize,
@@ -171,14 +172,33 @@ fn unifier_by(
     requires { ⌜ length (now firsts) ≡ length (now places) ⌝ }
     ensures { λ r. ⌜ UnifierUnder (now (event .entry)) bets n left right (now (out .entry)) (now (out .exit)) r ⌝ }
 {
+    let k = list_bets(event, bets, n, places, firsts);
     let mut a: [u8; VALUE_LIMIT] = [0; VALUE_LIMIT];
-    let Sized::Fits(k) = apply_bets(event, bets, n, event, left.from, places, firsts, &mut a) else {
+    let Sized::Fits(m) = listed_value(event, places, firsts, k, event, left.from, &mut a) else {
         return UnifierAnswer::TooLarge;
     };
-    unifier_with(event, bets, n, &a[..k], right, places, firsts, out)
+    unifier_with(event, places, firsts, k, &a[..m], right, out)
 }
 
-// For an event of at most 2,048 bytes: small tables suffice.
+// For an event of at most 512 bytes: small tables suffice.
+fn unifier_of_small(
+    event: &[u8],
+    bets: usize,
+    n: usize,
+    left: Range,
+    right: Range,
+    out: &mut [u8],
+) -> UnifierAnswer
+    requires { ⌜ EqualityUnder (now event) bets n left right ⌝ }
+    requires { ⌜ length (now event) ≤ 512 ⌝ }
+    ensures { λ r. ⌜ UnifierUnder (now (event .entry)) bets n left right (now (out .entry)) (now (out .exit)) r ⌝ }
+{
+    let mut places: [usize; SMALL_PAIRS] = [0; SMALL_PAIRS];
+    let mut firsts: [usize; SMALL_PAIRS] = [0; SMALL_PAIRS];
+    unifier_by(event, bets, n, left, right, &mut places, &mut firsts, out)
+}
+
+// For an event of at most 2,048 bytes.
 fn unifier_of_short(
     event: &[u8],
     bets: usize,
@@ -227,7 +247,9 @@ pub fn unifier_under(
     requires { ⌜ length (now event) ≤ 32768 ⌝ }
     ensures { λ r. ⌜ UnifierUnder (now (event .entry)) bets n left right (now (out .entry)) (now (out .exit)) r ⌝ }
 {
-    if event.len() <= SHORT_EVENT {
+    if event.len() <= SMALL_EVENT {
+        unifier_of_small(event, bets, n, left, right, out)
+    } else if event.len() <= SHORT_EVENT {
         unifier_of_short(event, bets, n, left, right, out)
     } else {
         unifier_of_long(event, bets, n, left, right, out)

@@ -8,10 +8,10 @@ pub mod equality; // equality.rt: the unifier of the values of two terms of an e
 pub mod lengths; // lengths.rt: the lengths of the classes' terms
 pub mod load; // load.rt: two terms in one table of nodes
 pub mod nodes; // nodes.rt: the kinds of nodes
-pub mod numbering; // numbering.rt: what a traversal goes over, its variables numbered
 pub mod pairs; // pairs.rt: the pairs of a bet stack, listed
+pub mod renaming; // renaming.rt: what a traversal goes over, its variables renamed
 pub mod solve; // solve.rt: whether two terms have a unifier
-pub mod substitute; // substitute.rt: a term under the pairs of a bet stack
+pub mod substitute; // substitute.rt: a term or a goal under a substitution
 pub mod tables; // tables.rt: how large tables on the stack are
 pub mod unifier; // unifier.rt: the unifier of two values, from bytes to bytes
 pub mod value; // value.rt: the value of a variable

@@ -1,30 +1,46 @@
-// S(T): a term under the pairs of a bet stack, which stand in an event and are listed in a table. Each variable is looked up once.
+// A term or a goal under a substitution, from bytes to bytes: the one writer for values, for the bodies of atoms and for renamed clauses.
+use crate::arguments::argument;
 use records::ends::Found;
+use records::heads::TermHead;
 use records::heads::Word;
+use records::heads::term_head;
 use records::heads::word_at;
+use records::kinds::VARIABLE;
 use records::put::Range;
+use records::put::put_byte;
 use records::put::put_range;
+use records::put::put_word;
 use records::traverse::Cursor;
 use records::traverse::NodeStep;
 use records::traverse::next_node;
 ghost use mathlib.Core.List.{List};
-ghost use Prim.Native.Nat.{ℕ, _≤_};
+ghost use Prim.Native.Nat.{ℕ, _+_, _≤_, _<_};
 ghost use lib.ListN.{length};
 ghost use Rattle.records.specs.Format.Encode.{term-bytes};
+ghost use Rattle.records.specs.Writing.Patched.{Put};
 ghost use Rattle.records.specs.Ends.Range.{cut, Inside};
-ghost use Rattle.records.specs.Ends.Stands.{Stands};
 ghost use Rattle.records.specs.Ends.Steps.{On};
 ghost use Rattle.records.specs.Format.Syntax.Term.{var};
 ghost use Rattle.records.specs.Ends.Traversal.{traverse};
-ghost use Rattle.terms.specs.Theory.Substitution.{apply};
+ghost use Rattle.terms.specs.Body.Arguments.{ArgumentTable};
+ghost use Rattle.terms.specs.Body.Body.{numbered};
+ghost use Rattle.terms.specs.Theory.Substitution.{Substitution, apply};
 ghost use Rattle.terms.specs.Values.Fitted.{Fitted};
 ghost use Rattle.terms.specs.Values.NodeBytes.{traversal-bytes};
-ghost use Rattle.terms.specs.Values.Entries.{PairTable, FoundPair, under};
+ghost use Rattle.terms.specs.Values.Entries.{PairTable, FoundPair};
+ghost use Rattle.terms.specs.Values.Replacing.{Replaces, ValueFound};
 
 // How many bytes were written, or that they are more than the output holds.
 pub enum Sized {
     Fits(usize),
     TooLarge,
+}
+
+// What variables become. By the first i pairs of a table of pairs in the event, those of a bet stack: `Pairs(i)`. By the first k terms of a table of
+// arguments in the event and, behind those, by new variables from m on: `Numbered(k, m)`.
+pub enum Replacing {
+    Pairs(usize),
+    Numbered(usize, usize),
 }
 
 // The bytes of a range of a source, at the start of the output.
@@ -36,6 +52,47 @@ pub fn put_piece(out: &mut [u8], src: &[u8], range: Range) -> Sized
         return Sized::TooLarge;
     }
     Sized::Fits(put_range(out, 0, src, range))
+}
+
+// How long a variable is.
+const VARIABLE_SIZE: usize = 3;
+
+pub fn write_variable(out: &mut [u8], at: usize, v: usize) -> usize
+    requires { ⌜ at + 3 ≤ length (now out) ⌝ }
+    ensures { λ r. ⌜ Put (now (out .entry)) at (term-bytes (var v)) (now (out .exit)) r ⌝ }
+{
+    let next = put_byte(out, at, VARIABLE);
+    put_word(out, next, v)
+}
+
+// A variable, at the start of the output.
+fn put_new(out: &mut [u8], v: usize) -> Sized
+    ensures { λ r. ⌜ Fitted (now (out .entry)) (term-bytes (var v)) (now (out .exit)) r ⌝ }
+{
+    if out.len() < VARIABLE_SIZE {
+        return Sized::TooLarge;
+    }
+    Sized::Fits(write_variable(out, 0, v))
+}
+
+// What the variable v of a definition becomes: an argument, or a new variable from m on.
+fn put_numbered(
+    out: &mut [u8],
+    event: &[u8],
+    table: &[usize],
+    k: usize,
+    m: usize,
+    v: usize,
+) -> Sized
+    requires { ⌜ ArgumentTable (now event) k (now table) ⌝ }
+    requires { ⌜ (m ≤ 65536) × (v < 65536) ⌝ }
+    ensures { λ r. ⌜ ((a : ArgumentTable (now (event .entry)) k (now (table .entry))) → Fitted (now (out .entry)) (term-bytes (numbered (a .listed .terms) m v)) (now (out .exit)) r) ⌝ }
+{
+    if v < k {
+        let range = argument(table, v);
+        return put_piece(out, event, range);
+    }
+    put_new(out, m + (v - k))
 }
 
 // Where, among the first i pairs of a table, the last one stands that binds v.
@@ -57,66 +114,93 @@ fn find_pair(event: &[u8], places: &[usize], i: usize, v: usize) -> Found
     Found::Nothing
 }
 
-// What the first i pairs of the table make of the variable v, at the start of the output; v itself stands in the range of s. A pair's term is under
-// the pairs of the bets above its own, which are fewer.
-fn put_variable(
-    event: &[u8],
-    places: &[usize],
-    firsts: &[usize],
-    i: usize,
-    v: usize,
-    s: &[u8],
-    range: Range,
-    out: &mut [u8],
-) -> Sized
-    requires { ⌜ PairTable (now event) (now places) (now firsts) i ⌝ }
-    requires { ⌜ Stands (now s) (range .from) (term-bytes (var v)) (range .to) ⌝ }
-    ensures { λ r. ⌜ ((p : PairTable (now (event .entry)) (now (places .entry)) (now (firsts .entry)) i) → Fitted (now (out .entry)) (term-bytes (apply (p .bets) (var v))) (now (out .exit)) r) ⌝ }
-{
-    let Found::At(k) = find_pair(event, places, i, v) else {
-        return put_piece(out, s, range);
-    };
-    let at = places[k] + 2;
-    let above = firsts[k];
-    put_under(event, places, firsts, above, event, at, out)
+// A variable that no pair binds, or the place in the tables of a pair that binds one.
+pub enum Bound {
+    Free(usize),
+    To(usize),
 }
 
-// The term at `from` of s under the first i pairs of the table, at the start of the output.
-pub fn put_under(
+// What the first i pairs bind v to, along those that bind it to a variable in their turn. So a chain of variables costs no stack.
+fn find_value(event: &[u8], table: &[usize], firsts: &[usize], i: usize, v: usize) -> Bound
+    requires { ⌜ PairTable (now event) (now table) (now firsts) i ⌝ }
+    ensures { λ r. ⌜ ((p : PairTable (now (event .entry)) (now (table .entry)) (now (firsts .entry)) i) → ValueFound (now (event .entry)) (now (table .entry)) (now (firsts .entry)) i (apply (p .bets) (var v)) r) ⌝ }
+{
+    let mut n = i;
+    let mut x = v;
+    loop {
+        let Found::At(k) = find_pair(event, table, n, x) else {
+            return Bound::Free(x);
+        };
+        let at = table[k] + 2;
+        let TermHead::Variable(y) = term_head(event, at) else {
+            return Bound::To(k);
+        };
+        n = firsts[k];
+        x = y;
+    }
+}
+
+// What the variable v becomes, at the start of the output. A pair's term is under the pairs of the bets above its own, which are fewer.
+fn put_variable(
     event: &[u8],
-    places: &[usize],
+    table: &[usize],
     firsts: &[usize],
-    i: usize,
-    s: &[u8],
-    from: usize,
+    by: Replacing,
+    v: usize,
     out: &mut [u8],
 ) -> Sized
-    requires { ⌜ PairTable (now event) (now places) (now firsts) i ⌝ }
-    requires { ⌜ On (traverse (now s) from 1 0) ⌝ }
-    ensures { λ r. ⌜ ((p : PairTable (now (event .entry)) (now (places .entry)) (now (firsts .entry)) i) → Fitted (now (out .entry)) (traversal-bytes (under (p .bets)) (traverse (now (s .entry)) from 1 0)) (now (out .exit)) r) ⌝ }
+    requires { ⌜ ((θ : Substitution) × Replaces (now event) (now table) (now firsts) by θ) ⌝ }
+    requires { ⌜ v < 65536 ⌝ }
+    ensures { λ r. ⌜ ((θ : Substitution) → Replaces (now (event .entry)) (now (table .entry)) (now (firsts .entry)) by θ → Fitted (now (out .entry)) (term-bytes (θ v)) (now (out .exit)) r) ⌝ }
 {
-    let mut c = Cursor {
-        pos: from,
-        terms: 1,
-        goals: 0,
-    };
+    match by {
+        Replacing::Numbered(k, m) => put_numbered(out, event, table, k, m, v),
+        Replacing::Pairs(i) => match find_value(event, table, firsts, i, v) {
+            Bound::Free(x) => put_new(out, x),
+            Bound::To(k) => {
+                let at = table[k] + 2;
+                let above = firsts[k];
+                let term = Cursor {
+                    pos: at,
+                    terms: 1,
+                    goals: 0,
+                };
+                put_nodes(
+                    event,
+                    table,
+                    firsts,
+                    Replacing::Pairs(above),
+                    event,
+                    term,
+                    out,
+                )
+            }
+        },
+    }
+}
+
+// What a traversal of s goes over, its variables replaced, at the start of the output.
+pub fn put_nodes(
+    event: &[u8],
+    table: &[usize],
+    firsts: &[usize],
+    by: Replacing,
+    s: &[u8],
+    start: Cursor,
+    out: &mut [u8],
+) -> Sized
+    requires { ⌜ ((θ : Substitution) × Replaces (now event) (now table) (now firsts) by θ) ⌝ }
+    requires { ⌜ On (traverse (now s) (start .pos) (start .terms) (start .goals)) ⌝ }
+    ensures { λ r. ⌜ ((θ : Substitution) → Replaces (now (event .entry)) (now (table .entry)) (now (firsts .entry)) by θ → Fitted (now (out .entry)) (traversal-bytes θ (traverse (now (s .entry)) (start .pos) (start .terms) (start .goals))) (now (out .exit)) r) ⌝ }
+{
+    let mut c = start;
     let mut len = 0;
     loop {
         let pos = c.pos;
         match next_node(s, c) {
             NodeStep::Variable(v, d) => {
-                let end = d.pos;
-                let piece = Range { from: pos, to: end };
-                let Sized::Fits(m) = put_variable(
-                    event,
-                    places,
-                    firsts,
-                    i,
-                    v,
-                    s,
-                    piece,
-                    &mut out[len..],
-                ) else {
+                let Sized::Fits(m) = put_variable(event, table, firsts, by, v, &mut out[len..])
+                else {
                     return Sized::TooLarge;
                 };
                 len += m;

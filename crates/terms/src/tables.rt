@@ -1,6 +1,11 @@
 // How large the tables are that code of this crate makes on its stack. Tables for small inputs are cheaper to clear.
 
-// An event of at most SHORT_EVENT bytes has at most SHORT_PAIRS pairs in its bets, any event at most MOST_PAIRS: a pair has five bytes or more.
+// An event of at most SMALL_EVENT bytes has at most SMALL_PAIRS pairs in its bets, one of at most SHORT_EVENT at most SHORT_PAIRS, any event at most
+// MOST_PAIRS: a pair has five bytes or more.
+pub const SMALL_EVENT: usize = 512;
+
+pub const SMALL_PAIRS: usize = 103;
+
 pub const SHORT_EVENT: usize = 2048;
 
 pub const SHORT_PAIRS: usize = 410;

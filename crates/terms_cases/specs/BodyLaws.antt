@@ -13,8 +13,8 @@ use Rattle.records.specs.Gate.Gate.Reading.{tree}
 use Rattle.records.specs.Ends.Places.{event-places}
 use Rattle.records.specs.Ends.Stands.{head-of-goal}
 use Rattle.records.specs.declared.places.Places.{Places}
-use Rattle.terms.specs.Standing.Accepted.{frame-of, accepted-atom, atom-moved}
-use Rattle.terms.specs.Standing.AcceptedLaws.{goal-told}
+use Rattle.terms.specs.Standing.Accepted.{frame-of, atom-moved}
+use Rattle.terms.specs.Standing.AcceptedLaws.{goal-told, accepted-atom}
 use Rattle.records.specs.Gate.Reply.{answer-number}
 use Rattle.records.specs.Gate.Door.{program-door, event-door}
 use Rattle.terms.specs.Body.Body.{body}

@@ -19,8 +19,8 @@ use Rattle.records.specs.Ends.Stands.{head-of-goal}
 use Rattle.records.specs.Ends.Traversal.{end-at}
 use Rattle.records.specs.declared.ends.Found.the-variants.{At, Nothing}
 use Rattle.records.specs.declared.places.Places.{Places}
-use Rattle.terms.specs.Standing.Accepted.{bets-at, accepted-bets, left-side, right-side, bets-moved, term-moved}
-use Rattle.terms.specs.Standing.AcceptedLaws.{goal-told, left-ends}
+use Rattle.terms.specs.Standing.Accepted.{bets-at, bets-moved, term-moved}
+use Rattle.terms.specs.Standing.AcceptedLaws.{goal-told, left-ends, accepted-bets, left-side, right-side}
 use Rattle.records.specs.Gate.Reply.{answer-number}
 use Rattle.records.specs.Gate.Door.{event-door}
 use Rattle.terms.specs.Values.Applied.{TermAt}

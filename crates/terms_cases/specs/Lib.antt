@@ -2,6 +2,6 @@
 -- before it. `Kinds` has the kinds of cases; `EqualityLaws` and `BodyLaws` tie the definitions to the contracts of terms.
 pub mod Kinds
 pub mod Equalities
-pub mod EqualityLaws
 pub mod Bodies
+pub mod EqualityLaws
 pub mod BodyLaws

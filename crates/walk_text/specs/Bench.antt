@@ -20,7 +20,7 @@ use Rattle.stepper.specs.Rules.Rules.{first-event}
 use Rattle.stepper.specs.Walks.Walk.{Direction, forward, back}
 use Rattle.records.specs.Gate.Reply.{Reply}
 use Rattle.stepper.specs.Services.Services.{first-record, step-record, record-limit}
-use Rattle.stepper.specs.Run.Run.{RunReply, run-record}
+use Rattle.stepper.specs.Run.RunService.{RunReply, run-record}
 use Rattle.stepper.specs.Services.Desk.{layers}
 use Rattle.canonical.specs.Form.Bench.{q-clauses, q-body, canonical-bytes, bench-bytes}
 

@@ -15,8 +15,10 @@ use lib.Seq.{drop-cons}
 use Rattle.io.specs.Digits.{digits, glyph, Fewest}
 use Rattle.records.specs.Format.Syntax.{Port, call, exit, fail, redo}
 use Rattle.records.specs.Format.Encode.{port-byte}
-use Rattle.records.specs.Writing.Patched.{Put, put-none, put-then}
-use Rattle.stepper.specs.Run.Run.{Mark, log-numbers}
+use Rattle.records.specs.Writing.Patched.{Put}
+use Rattle.records.specs.Writing.PatchedLaws.{put-none, put-then}
+use Rattle.stepper.specs.Run.Run.{Mark}
+use Rattle.stepper.specs.Run.RunLoop.{log-numbers}
 use Rattle.walk_text.specs.Line.{digit, spelled, decimal, blank, field, line-feed, port-word, mark-line, mark-lines, byte-word, number-line, log-lines}
 
 glyph-digit : (d : ℕ) → d < 10 → glyph d ≡ digit d

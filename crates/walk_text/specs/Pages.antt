@@ -1,12 +1,10 @@
--- The pages of a text, one after the other, are the text.
-use mathlib.Core.Path.{_≡_, refl, sym, ap, _∙_}
+-- The pages of a text, one after the other.
+use mathlib.Core.Path.{_≡_}
 use mathlib.Core.List.{List, [], _++_}
 use Prim.Native.Nat.{ℕ}
 use lib.ListN.{take}
-use Rattle.walk_text.specs.Text.{text}
-use Rattle.walk_text.specs.Rest.{left-text, Paged}
-use Rattle.walk_text.specs.RestLaws.{page-bytes}
-use Rattle.walk_text.specs.declared.text.Stage.the-variants.{Start, Done}
+use Rattle.walk_text.specs.Rest.{Paged}
+use Rattle.walk_text.specs.declared.text.Stage.the-variants.{Done}
 use Rattle.walk_text.specs.declared.text.Rest.{Rest}
 use Rattle.walk_text.specs.declared.text.Page.{Page}
 
@@ -16,12 +14,3 @@ module _ (program query : List ℕ) where
     ended : {rest : Rest} → rest .stage ≡ Done → Pages rest []
     page : {rest : Rest} {before after later : List ℕ} {r : Page} → Paged program query rest before r after → Pages (r .rest) later
         → Pages rest (take (r .used) after ++ later)
-
-  pages-are-left : {rest : Rest} {bytes : List ℕ} → Pages rest bytes → bytes ≡ left-text program query rest
-  unfolding left-text
-  pages-are-left (ended e) = rw e refl
-  pages-are-left (page {later = later} g more) = rw (page-bytes g) (ap (λ l. g .bytes ++ l) (pages-are-left more) ∙ sym (g .text-is))
-
-  pub pages-are-text : {rest : Rest} {bytes : List ℕ} → rest .stage ≡ Start → Pages rest bytes → bytes ≡ text program query
-  unfolding left-text
-  pages-are-text e p = pages-are-left p ∙ rw e refl

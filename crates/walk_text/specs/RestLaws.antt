@@ -14,7 +14,8 @@ use Rattle.records.specs.Format.Never.{never}
 use Rattle.records.specs.Format.Syntax.{Goal, Event, Definition}
 use Rattle.records.specs.Gate.Question.{question-number}
 use Rattle.records.specs.Gate.Gate.{tree, read-program, read-event}
-use Rattle.records.specs.Writing.Patched.{Put, part-patched, length-patched, put-none, put-then, put-length}
+use Rattle.records.specs.Writing.Patched.{Put}
+use Rattle.records.specs.Writing.PatchedLaws.{part-patched, length-patched, put-none, put-then, put-length}
 use Rattle.records.specs.Gate.Reply.{through, answer-number, reply-with, Replied}
 use Rattle.records.specs.Gate.ReplyLaws.{number-refuses}
 use Rattle.records.specs.Gate.Door.{program-door, door, BothPassed}
@@ -23,10 +24,11 @@ use Rattle.stepper.specs.Rules.Machine.{Machine, StepOutcome, refused, gives}
 use Rattle.stepper.specs.Rules.Rules.{first-event}
 use Rattle.stepper.specs.Services.Services.{machine, first-answer, first-record}
 use Rattle.stepper.specs.Services.Desk.{layers}
-use Rattle.stepper.specs.Run.Run.{spent, met, full, by, RunEnd, run, stop-number, asked, stop-case, log-numbers, RanTo}
+use Rattle.stepper.specs.Run.Run.{spent, met, full, by, RunEnd, run, stop-number}
+use Rattle.stepper.specs.Run.RunLoop.{asked, stop-case, log-numbers, RanTo}
 use Rattle.stepper.specs.Run.Run.{Order, Stop}
 use Rattle.stepper.specs.Run.RunLaws.{StopTold, run-log-length, run-told, run-within, run-log-within}
-use Rattle.stepper.specs.Run.RunLoop.{numbers-length}
+use Rattle.stepper.specs.Run.RunLoopLaws.{numbers-length}
 use Rattle.stepper.specs.declared.run.RunAnswer.{RunAnswer}
 use Rattle.walk_text.specs.Line.{line-bytes, mark-lines, log-lines, stop-bytes}
 use Rattle.walk_text.specs.LineLaws.{lines-told}

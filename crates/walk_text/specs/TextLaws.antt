@@ -16,7 +16,7 @@ use Rattle.records.specs.Format.HeadLaws.{Known, bytes-all}
 use Rattle.records.specs.Gate.Question.{Question, question-number}
 use Rattle.records.specs.Gate.Gate.{tree, read-program, read-query, read-event}
 use Rattle.records.specs.Gate.GateLaws.{query-tree}
-use Rattle.records.specs.Writing.Emitted.{length-record-of}
+use Rattle.records.specs.Writing.EmittedLaws.{length-record-of}
 use Rattle.stepper.specs.Rules.Machine.{Machine, refused, gives}
 use Rattle.stepper.specs.Rules.Rules.{step, step-forward, fitting, first-event}
 use Rattle.stepper.specs.Rules.AnswerLaws.{fitting-put}
@@ -26,7 +26,8 @@ use Rattle.records.specs.Gate.DoorLaws.{room-gives}
 use Rattle.stepper.specs.Walks.Walk.{forward}
 use Rattle.stepper.specs.Services.Services.{Start, record-limit, reply, first-answer, first-record}
 use Rattle.stepper.specs.Services.ServiceLaws.{Recordable, limit-fits, done-reads, start-record}
-use Rattle.stepper.specs.Services.Desk.{layers, lawful}
+use Rattle.stepper.specs.Services.Desk.{layers}
+use Rattle.stepper.specs.Services.DeskLaws.{lawful}
 use Rattle.records.specs.Gate.Reply.{through, reply-with, Replied}
 use Rattle.stepper.specs.Step.Stepped.{BothPassed}
 use Rattle.stepper.specs.Run.Run.{mark, meets, Order, Stop, spent, met, full, by, RunEnd, past, run, stop-number}

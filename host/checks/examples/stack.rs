@@ -9,7 +9,7 @@ use std::{env, thread};
 /// A call with an output of 32,768 bytes.
 type Call = fn(&mut [u8]) -> u32;
 
-const CASES: [(&str, Call); 11] = [
+const CASES: [(&str, Call); 13] = [
     ("nothing", |_| 0),
     ("canonical", |out| raw::canonical(&clauses(&[clause(5, 1, &[nested(8_186, &variable(0))], &TRUE)]), out)),
     ("first", |out| raw::first(&record(&equality(&variable(0), &nested(8_188, &symbol(2, &[])))), out)),
@@ -19,6 +19,8 @@ const CASES: [(&str, Call); 11] = [
     ("value", |out| raw::value(&event(1, &TRUE, &[], &[unifier(&[(0, nested(8_184, &symbol(2, &[])))])]), 0, out, &mut 0)),
     ("value, renamed", |out| raw::value(&event(1, &TRUE, &[], &renamed()), 0, out, &mut 0)),
     ("run, renamed", |out| raw::run(&program(&[]), &event(1, &equality(&variable(0), &variable(0)), &[], &renamed()), 1, 0, out, &mut 0)),
+    ("value, wrapped", |out| raw::value(&event(1, &TRUE, &[], &wrapped()), 0, out, &mut 0)),
+    ("run, wrapped", |out| raw::run(&program(&[]), &event(1, &equality(&variable(0), &variable(0)), &[], &wrapped()), 1, 0, out, &mut 0)),
     ("lookup", |_| raw::lookup(&program(&[]), &event(1, &equality(&variable(0), &nested(8_187, &symbol(2, &[]))), &[], &[]), &mut 0) as u32),
     ("count", |_| raw::count(&mut Default::default(), &event(1, &equality(&variable(0), &nested(8_187, &symbol(2, &[]))), &[], &[]))),
 ];
@@ -29,7 +31,12 @@ fn doubly_nested(levels: usize) -> Vec<u8> {
     equality(&symbol(5, &[variable(0), nested(levels, &variable(2))]), &symbol(5, &[nested(levels, &variable(1)), variable(1)]))
 }
 
-/// As many bets as fit, each of which gives the variable another number: one level for each.
+/// Bets each of which puts a symbol around the next variable: one level for each, as many as question 8 lets pass.
+fn wrapped() -> Vec<Vec<u8>> {
+    (0..2_047).rev().map(|v| unifier(&[(v, symbol(2, &[variable(v + 1)]))])).collect()
+}
+
+/// As many bets as fit, each of which gives the variable another number.
 fn renamed() -> Vec<Vec<u8>> {
     (0..4_090).rev().map(|v| unifier(&[(v, variable(v + 1))])).collect()
 }

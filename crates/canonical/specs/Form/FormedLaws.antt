@@ -14,7 +14,7 @@ use Rattle.records.specs.Format.Syntax.Goal.{truth, failure, equal, conj, disj,
 use Rattle.records.specs.Format.Syntax.Clause.{clause}
 use Rattle.records.specs.Format.Formed.{TermFormed, TermsFormed, GoalFormed, All, Counted, DefinitionFormed, ClauseFormed}
 use Rattle.records.specs.Gate.RecordRules.{term-variables, terms-variables, goal-variables, every, member, numbers, exactly, definition-rules, program-rules, clause-rules, clauses-rules}
-use Rattle.records.specs.Gate.BoolLaws.{and-both, every-append}
+use Rattle.records.specs.Gate.RecordRulesLaws.{and-both, every-append}
 use Rattle.terms.specs.Theory.Substitution.{substitute, substitute-all}
 use Rattle.terms.specs.Theory.FormedLaws.{substitute-formed}
 use Rattle.terms.specs.Theory.VariablesLaws.{occurs-among}

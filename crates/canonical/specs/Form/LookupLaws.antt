@@ -12,7 +12,7 @@ use Rattle.records.specs.Format.Syntax.{Definition, Clause}
 use Rattle.records.specs.Format.Syntax.Definition.{definition}
 use Rattle.records.specs.Format.Formed.{All}
 use Rattle.records.specs.Gate.RecordRules.{rising-from, rising, keys}
-use Rattle.records.specs.Gate.BoolLaws.{and-both}
+use Rattle.records.specs.Gate.RecordRulesLaws.{and-both}
 use Rattle.terms.specs.Body.Body.{defines, definition-of}
 use Rattle.canonical.specs.Form.Canonical.{Predicate, predicate, predicate-of, same-predicate, predicates, clauses-of, defined-by, if-any, definitions, canonical}
 use Rattle.canonical.specs.Form.PredicateLaws.{ArityFits, same-equal, Rising, predicates-rise, listed, unlisted-none, clauses-of-append}

@@ -10,7 +10,7 @@ use lib.ListN.{length}
 use borrow.Author.Tests.{eq-eqb, ne-eqb, eqb-true, eqb-false, lt-ltb, le-ltb, ltb-true, ltb-false}
 use Rattle.records.specs.Format.Syntax.{Clause}
 use Rattle.records.specs.Format.Formed.{All}
-use Rattle.records.specs.Gate.BoolLaws.{and-both}
+use Rattle.records.specs.Gate.RecordRulesLaws.{and-both}
 use Rattle.terms.specs.Theory.Variables.{Among}
 use Rattle.canonical.specs.Form.Canonical.{Predicate, predicate, predicate-of, same-predicate, predicate-before, placed, predicates, clauses-of}
 

@@ -17,7 +17,8 @@ use Rattle.records.specs.Format.HeadLaws.{joined-word}
 use Rattle.records.specs.Format.Items.{read-clause}
 use Rattle.records.specs.Format.Exact.{clause-exact}
 use Rattle.records.specs.Ends.Traversal.{end-of}
-use Rattle.records.specs.Ends.Stands.{Stands, stands-first, stands-second, stands-ends, stands-read, stands-within}
+use Rattle.records.specs.Ends.Stands.{Stands}
+use Rattle.records.specs.Ends.StandsLaws.{stands-first, stands-second, stands-ends, stands-read, stands-within}
 use Rattle.records.specs.declared.ends.Found.{Found}
 use Rattle.records.specs.declared.ends.Found.the-variants.{At, Nothing}
 use Rattle.records.specs.declared.heads.Signature.{Signature}

@@ -14,7 +14,8 @@ use Rattle.records.specs.Format.Syntax.{Clause}
 use Rattle.records.specs.Format.Syntax.Clause.{clause}
 use Rattle.records.specs.Format.Encode.{each, clause-bytes}
 use Rattle.records.specs.Format.Formed.{All, ClauseFormed}
-use Rattle.records.specs.Ends.Stands.{Stands, stands-first, stands-second, stands-within}
+use Rattle.records.specs.Ends.Stands.{Stands}
+use Rattle.records.specs.Ends.StandsLaws.{stands-first, stands-second, stands-within}
 use Rattle.terms.specs.Theory.Variables.{Among}
 use Rattle.terms.specs.Theory.VariablesLaws.{among-left, among-right, among-either}
 use Rattle.terms.specs.Theory.TestLaws.{all-among}

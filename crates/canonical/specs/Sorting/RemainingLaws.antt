@@ -17,7 +17,8 @@ use Rattle.records.specs.Format.HeadLaws.{Known, bytes-all}
 use Rattle.records.specs.Gate.Gate.{Reading, refused, tree, Accepted, read-clauses}
 use Rattle.records.specs.Gate.GateLaws.{RecordOf, clauses-tree}
 use Rattle.records.specs.Ends.EndLaws.{goal-long}
-use Rattle.records.specs.Ends.Stands.{Stands, body-stands, stands-second, word-stands}
+use Rattle.records.specs.Ends.Stands.{Stands}
+use Rattle.records.specs.Ends.StandsLaws.{body-stands, stands-second, word-stands}
 use Rattle.records.specs.declared.heads.Word.{Word}
 use Rattle.records.specs.declared.heads.Word.the-variants.{Number, Short}
 use Rattle.canonical.specs.Form.Canonical.{Predicate, predicate, predicate-of, predicates, clauses-of, defined-by, if-any, definitions, canonical}

@@ -11,18 +11,21 @@ use Rattle.records.specs.Format.Syntax.Clause.{clause}
 use Rattle.records.specs.Format.Encode.{word, term-bytes, terms-bytes, goal-bytes, clause-bytes}
 use Rattle.records.specs.Format.Formed.{TermsFormed, GoalFormed, ClauseFormed}
 use Rattle.records.specs.Writing.Patched.{Put}
-use Rattle.records.specs.Ends.Traversal.{Traversal, traverse, term-nodes, goal-nodes}
+use Rattle.records.specs.Ends.Traversal.{Traversal, traverse, term-nodes, goal-nodes, position, end-at}
 use Rattle.records.specs.Ends.Traversal.Traversal.{on}
-use Rattle.records.specs.Ends.Steps.{On, end-place}
-use Rattle.records.specs.Ends.Stands.{Stands, stands-first, stands-second, traverse-term, traverse-goal}
+use Rattle.records.specs.Ends.Steps.{On}
+use Rattle.records.specs.Ends.Stands.{Stands}
+use Rattle.records.specs.Ends.StandsLaws.{stands-first, stands-second, traverse-term, traverse-goal, term-ends}
 use Rattle.terms.specs.Theory.Substitution.{substitute}
 use Rattle.terms.specs.Body.Body.{substitute-goal}
-use Rattle.terms.specs.Values.NodeBytes.{substituted-bytes, substituted-goal-bytes}
-use Rattle.terms.specs.Body.Numbering.{PutNodes, renamed}
-use Rattle.terms.specs.declared.numbering.Progress.{Progress}
+use Rattle.terms.specs.Values.NodeBytesLaws.{substituted-bytes, substituted-goal-bytes}
+use Rattle.terms.specs.Body.Renaming.{renamed}
+use Rattle.records.specs.declared.ends.Found.{Found}
+use Rattle.records.specs.declared.ends.Found.the-variants.{At}
 use Rattle.canonical.specs.Form.Canonical.{numbered-from, branch-from, branch}
 use Rattle.canonical.specs.Sorting.Entries.{arity-of, clause-at, ClauseAt}
-use Rattle.canonical.specs.Writing.PartlyPut.{PartlyPut, partly-start, partly-more, partly-end, partly-room}
+use Rattle.canonical.specs.Writing.PartlyPut.{PartlyPut}
+use Rattle.canonical.specs.Writing.PartlyPutLaws.{partly-start, partly-more, partly-end, partly-room}
 use Rattle.canonical.specs.Writing.Equation.{equation}
 
 -- the writing at head variable x of k: the terms to come stand at pos, and the goal after them
@@ -70,26 +73,28 @@ branch-split x base t ts g b e = rw e
 
 module _ {s whole before after : List ℕ} {k base first at pos x : ℕ} (u : Equating s k base whole before first after at pos x) where
   -- the first of the terms to come
-  record Turn : Type 0 where
+  record NextTerm : Type 0 where
     pub term : Term
     pub others : Terms
     pub many : suc x + arity others ≡ k
     pub formed : TermsFormed others
     pub past : ℕ
     pub walks : traverse s pos 1 0 ≡ on (term-nodes term) past
+    pub ends : end-at s pos 1 0 ≡ At past
     pub stands : Stands s past (terms-bytes others ++ goal-bytes (u .goal)) (u .end)
     pub split : goal-bytes (branch-from x (numbered-from base) (u .terms) (u .goal))
         ≡ equation x (renamed base (traverse s pos 1 0)) ++ goal-bytes (branch-from (suc x) (numbered-from base) others (u .goal))
 
-  turn : x < k → Turn
-  turn h = go (u .terms) refl (u .many) (u .terms-formed) (u .stands)
+  next-term : x < k → NextTerm
+  next-term h = go (u .terms) refl (u .many) (u .terms-formed) (u .stands)
     where
-      go : (ts : Terms) → u .terms ≡ ts → x + arity ts ≡ k → TermsFormed ts → Stands s pos (terms-bytes ts ++ goal-bytes (u .goal)) (u .end) → Turn
+      go : (ts : Terms) → u .terms ≡ ts → x + arity ts ≡ k → TermsFormed ts → Stands s pos (terms-bytes ts ++ goal-bytes (u .goal)) (u .end) → NextTerm
       go nil q m f w = absurd (omega arith)
       go (cons t ts) q m f w =
           let v : Stands s pos (term-bytes t ++ (terms-bytes ts ++ goal-bytes (u .goal))) (u .end) =
           rw (append-assoc (term-bytes t) (terms-bytes ts) (goal-bytes (u .goal))) at w in
-          let y = traverse-term t (f .0) (stands-first (term-bytes t) (terms-bytes ts ++ goal-bytes (u .goal)) v) in
+          let z = stands-first (term-bytes t) (terms-bytes ts ++ goal-bytes (u .goal)) v in
+          let y = traverse-term t (f .0) z in
           record {
             term = t;
             others = ts;
@@ -97,6 +102,7 @@ module _ {s whole before after : List ℕ} {k base first at pos x : ℕ} (u : Eq
             formed = f .1;
             past = pos + length (term-bytes t);
             walks = y;
+            ends = term-ends t (f .0) z;
             stands = stands-second (term-bytes t) (terms-bytes ts ++ goal-bytes (u .goal)) v;
             split =
                 ap (λ (l : Terms). goal-bytes (branch-from x (numbered-from base) l (u .goal))) q
@@ -105,22 +111,22 @@ module _ {s whole before after : List ℕ} {k base first at pos x : ℕ} (u : Eq
 
   module _ (h : x < k) where
     pub equating-on : On (traverse s pos 1 0)
-    equating-on = rw (turn h .walks) tt
+    equating-on = rw (next-term h .walks) tt
 
     pub equating-room : first + length whole ≤ length before → at + length (equation x (renamed base (traverse s pos 1 0))) ≤ length after
     equating-room r =
         omega (
           arith,
           partly-room (u .partly) r,
-          ap length (turn h .split),
-          length-append (equation x (renamed base (traverse s pos 1 0))) (goal-bytes (branch-from (suc x) (numbered-from base) (turn h .others) (u .goal))),
+          ap length (next-term h .split),
+          length-append (equation x (renamed base (traverse s pos 1 0))) (goal-bytes (branch-from (suc x) (numbered-from base) (next-term h .others) (u .goal))),
         )
 
-    pub equating-next : {later : List ℕ} {p : Progress} → PutNodes (traverse s pos 1 0) after at (equation x (renamed base (traverse s pos 1 0))) later p
-        → Equating s k base whole before first later (p .at) (p .pos) (x + 1)
-    equating-next {later} {p} q =
-        let t = turn h in
-        let e : p .pos ≡ t .past = q .end ∙ ap end-place (t .walks) in
+    pub equating-next : {later : List ℕ} {to next : ℕ} {o : Found} → Put after at (equation x (renamed base (traverse s pos 1 0))) later to
+        → o ≡ end-at s pos 1 0 → next ≡ position o → Equating s k base whole before first later to next (x + 1)
+    equating-next {next = next} q is e′ =
+        let t = next-term h in
+        let e : next ≡ t .past = e′ ∙ ap position (is ∙ t .ends) in
         rw (add-one x) (record {
           terms = t .others;
           goal = u .goal;
@@ -129,7 +135,7 @@ module _ {s whole before after : List ℕ} {k base first at pos x : ℕ} (u : Eq
           goal-formed = u .goal-formed;
           end = u .end;
           stands = rw e (t .stands);
-          partly = partly-more (u .partly) (equation x (renamed base (traverse s pos 1 0))) (t .split) (q .put);
+          partly = partly-more (u .partly) (equation x (renamed base (traverse s pos 1 0))) (t .split) q;
         })
 
   -- after the last term the goal is left
@@ -155,7 +161,6 @@ module _ {s whole before after : List ℕ} {k base first at pos x : ℕ} (u : Eq
     pub goal-room : first + length whole ≤ length before → at + length (renamed base (traverse s pos 0 1)) ≤ length after
     goal-room r = omega (arith, partly-room (u .partly) r, ap length goal-left)
 
-    pub equating-end : {later : List ℕ} {p : Progress} → PutNodes (traverse s pos 0 1) after at (renamed base (traverse s pos 0 1)) later p
-        → Put before first whole later (p .at)
+    pub equating-end : {later : List ℕ} {to : ℕ} → Put after at (renamed base (traverse s pos 0 1)) later to → Put before first whole later to
     equating-end q =
-        partly-end (partly-more (u .partly) (renamed base (traverse s pos 0 1)) (goal-left ∙ sym (append-nil (renamed base (traverse s pos 0 1)))) (q .put)) refl
+        partly-end (partly-more (u .partly) (renamed base (traverse s pos 0 1)) (goal-left ∙ sym (append-nil (renamed base (traverse s pos 0 1)))) q) refl

@@ -13,17 +13,20 @@ use Rattle.records.specs.Format.Heads.{clause-head-at}
 use Rattle.records.specs.Format.Encode.{word, term-bytes, terms-bytes, goal-bytes, definition-bytes}
 use Rattle.records.specs.Ends.Traversal.{Node, term-nodes, goal-nodes}
 use Rattle.records.specs.Ends.Traversal.Node.{variable, other}
-use Rattle.records.specs.Writing.Patched.{Put, put-then}
+use Rattle.records.specs.Writing.Patched.{Put}
+use Rattle.records.specs.Writing.PatchedLaws.{put-then}
 use Rattle.records.specs.declared.heads.Signature.{Signature}
 use Rattle.records.specs.declared.heads.Signature.the-variants.{Predicate}
 use Rattle.terms.specs.Theory.Substitution.{substitute}
 use Rattle.terms.specs.Theory.SubstitutionLaws.{substitute-var}
 use Rattle.terms.specs.Body.Body.{substitute-goal}
-use Rattle.terms.specs.Values.NodeBytes.{nodes-bytes, substituted-bytes, substituted-goal-bytes, own-goal-bytes}
+use Rattle.terms.specs.Values.NodeBytes.{nodes-bytes}
+use Rattle.terms.specs.Values.NodeBytesLaws.{substituted-bytes, substituted-goal-bytes, own-goal-bytes}
 use Rattle.canonical.specs.Form.Canonical.{numbered-from, branch-from, branch, variable-count, locals-of, branches}
 use Rattle.canonical.specs.Sorting.Entries.{predicate-number, arity-of, ClauseAt, entry-place, clauses-in, clause-nth, GroupAt}
 use Rattle.canonical.specs.Sorting.EntryLaws.{clause-small, head-read, group-clause, clauses-next, group-bound}
-use Rattle.canonical.specs.Writing.PartlyPut.{PartlyPut, partly-start, partly-more, partly-end, partly-room}
+use Rattle.canonical.specs.Writing.PartlyPut.{PartlyPut}
+use Rattle.canonical.specs.Writing.PartlyPutLaws.{partly-start, partly-more, partly-end, partly-room}
 use Rattle.canonical.specs.Writing.Definition.{branch-size, branches-size, joined-branches, group-definition, Sums}
 use Rattle.canonical.specs.Writing.Service.{locals-fit}
 use Rattle.canonical.specs.declared.definition.Totals.{Totals}

@@ -10,7 +10,7 @@ use borrow.Author.Tests.{le-leb, lt-leb, leb-true}
 use Rattle.records.specs.Format.Syntax.{Definition}
 use Rattle.records.specs.Format.Encode.{each, definition-bytes}
 use Rattle.records.specs.Gate.RecordRules.{every}
-use Rattle.records.specs.Gate.BoolLaws.{and-both}
+use Rattle.records.specs.Gate.RecordRulesLaws.{and-both}
 use Rattle.records.specs.Writing.Patched.{Put}
 use Rattle.canonical.specs.Form.Canonical.{locals-of}
 use Rattle.canonical.specs.Sorting.Entries.{entry-key}
@@ -18,7 +18,8 @@ use Rattle.canonical.specs.Sorting.EntryLaws.{clauses-length, group-boun
 use Rattle.canonical.specs.Sorting.Groups.{group-length}
 use Rattle.canonical.specs.Sorting.Remaining.{clauses-between, Remaining}
 use Rattle.canonical.specs.Sorting.RemainingLaws.{remaining-next, remaining-end}
-use Rattle.canonical.specs.Writing.PartlyPut.{PartlyPut, partly-start, partly-more, partly-end, partly-room}
+use Rattle.canonical.specs.Writing.PartlyPut.{PartlyPut}
+use Rattle.canonical.specs.Writing.PartlyPutLaws.{partly-start, partly-more, partly-end, partly-room}
 use Rattle.canonical.specs.Writing.Definition.{group-definition, Sums}
 use Rattle.canonical.specs.Writing.DefinitionLaws.{definition-length, definition-locals}
 use Rattle.canonical.specs.Writing.Service.{locals-fit}

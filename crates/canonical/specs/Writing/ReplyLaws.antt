@@ -11,8 +11,9 @@ use Rattle.records.specs.Format.Never.{never}
 use Rattle.records.specs.Format.Syntax.{Definition, Clause}
 use Rattle.records.specs.Format.Encode.{word, each, definition-bytes, record-of, record-head, program-record}
 use Rattle.records.specs.Gate.RecordRules.{every}
-use Rattle.records.specs.Writing.Patched.{Put, put-then}
-use Rattle.records.specs.Writing.Emitted.{put-record}
+use Rattle.records.specs.Writing.Patched.{Put}
+use Rattle.records.specs.Writing.PatchedLaws.{put-then}
+use Rattle.records.specs.Writing.EmittedLaws.{put-record}
 use Rattle.records.specs.Gate.Question.{locals, fits, question-number}
 use Rattle.records.specs.Gate.Gate.{Reading, Accepted, read-clauses}
 use Rattle.records.specs.Gate.Reply.{Answer, refused, gives, on-yes, through, answer-number, reply-with, Replied}

@@ -14,7 +14,7 @@ use Rattle.records.specs.Format.Syntax.Goal.{truth, failure, equal, conj
 use Rattle.records.specs.Format.Encode.{each, term-bytes, terms-bytes, goal-bytes}
 use Rattle.records.specs.Format.Heads.{term-head-at, goal-head-at}
 use Rattle.records.specs.Format.HeadLaws.{Bytes, Known, bytes-all, bytes-drop}
-use Rattle.records.specs.Ends.HeadRoom.{goal-room}
+use Rattle.records.specs.Ends.HeadRoomLaws.{goal-room}
 use Rattle.records.specs.Format.Reader.{Read, Parts, also, terms-of, goals-of, leading, back, read}
 use Rattle.records.specs.Format.Reader.Read.{unread, found}
 use Rattle.records.specs.Format.Reader.Parts.{parts}

@@ -16,7 +16,7 @@ use Rattle.records.specs.Format.Encode.{word, counted, goal-bytes, event
 use Rattle.records.specs.Format.Formed.{GoalFormed, EventFormed, Counted, DefinitionFormed, ClauseFormed}
 use Rattle.records.specs.Gate.RecordRules.{query-rules, event-rules, program-rules, clauses-rules}
 use Rattle.records.specs.Format.Never.{never}
-use Rattle.records.specs.Gate.BoolLaws.{and-both}
+use Rattle.records.specs.Gate.RecordRulesLaws.{and-both}
 use Rattle.records.specs.Gate.Question.{Asked}
 use Rattle.records.specs.Gate.Question.Asked.{framing, version, grammar, rules}
 use Rattle.records.specs.Format.Heads.{joined}

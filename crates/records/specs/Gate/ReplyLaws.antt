@@ -11,7 +11,9 @@ use lib.ListN.{length}
 use lib.Seq.{length-front, length-take-le}
 use Rattle.records.specs.Format.Never.{never}
 use Rattle.records.specs.Gate.Question.{Question, of-program, of-event, output, possible, matches, values, locals, fits, framing, version, grammar, rules, question-number}
-use Rattle.records.specs.Writing.Patched.{Put, put-front}
+use Rattle.records.specs.Writing.Patched.{Put}
+use Rattle.records.specs.Writing.PatchedLaws.{put-front, patched-front}
+use Rattle.records.specs.declared.put.Receipt.{Receipt}
 use Rattle.records.specs.Gate.Reply.{Answer, refused, gives, on-yes, through, answer-number, reply-with, Replied, answer-length, Receipted}
 
 -- the question that has a number (where none has it, this is of no account)
@@ -127,6 +129,12 @@ module _ {A : Type 0} (bytes : A → List ℕ) (out : List ℕ) where
   reply-length (refused q) h = refl
   reply-length (gives x) h = length-front out (bytes x) (length (bytes x)) (sym (length-take-le (length (bytes x)) out (h x refl)))
 
+  -- what is given stands at the start of the output
+  pub reply-put : (x : A) {after : List ℕ} → length (bytes x) ≤ length out → after ≡ reply-with bytes out (gives x) .output
+      → Put out 0 (bytes x) after (length (bytes x))
+  unfolding reply-with
+  reply-put x h e = record { place = sym (zero-add _); output = e ∙ sym (patched-front out (bytes x) h) }
+
   -- code that refuses, and code that writes what is given
   pub replied-refused : {a : Answer A} {q : Question} {n : ℕ} → a ≡ refused q → n ≡ question-number q → Replied (reply-with bytes out a) n out
   unfolding reply-with
@@ -144,3 +152,10 @@ module _ {A : Type 0} (bytes : A → List ℕ) (out : List ℕ) where
       → Receipted bytes a out (record { number = 0; length = n }) after
   unfolding reply-with answer-number answer-length
   receipted-given e p h = rw e (record { number-is = refl; length-is = p .place ∙ zero-add _; output-is = put-front p h })
+
+  -- a receipt for the bytes of what is given
+  pub receipted-bytes : (a : Answer A) {receipt : Receipt} {after : List ℕ} → Receipted (λ b. b) (through refused a (λ x. gives (bytes x))) out receipt after
+      → Receipted bytes a out receipt after
+  unfolding through reply-with answer-number answer-length
+  receipted-bytes (refused q) w = record { number-is = w .number-is; length-is = w .length-is; output-is = w .output-is }
+  receipted-bytes (gives x) w = record { number-is = w .number-is; length-is = w .length-is; output-is = w .output-is }

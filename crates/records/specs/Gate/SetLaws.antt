@@ -1,7 +1,9 @@
--- Laws of a set of variables that is one number: what is in it, and that it is the full set of v bits just where exactly the variables 0 to v - 1 went in.
+-- Laws of sets of variables. A set that is one number: what is in it, and that it is the full set of v bits just where exactly the variables 0 to
+-- v - 1 went in. Marks: what is marked after one variable more, and that a row of words marks exactly the variables of a list; the variables of what
+-- is well formed are below 65,536, so that each can be marked, and the rules of a unifier can be asked of the marks.
 use mathlib.Core.Path.{_≡_, refl, sym, ap, _∙_}
-use mathlib.Core.Bool.{Bool, true, false, _&&_, _||_, or-assoc, or-comm, or-false}
-use mathlib.Core.List.{List, [], _∷_}
+use mathlib.Core.Bool.{Bool, true, false, _&&_, _||_, or-assoc, or-comm, or-false, not}
+use mathlib.Core.List.{List, [], _∷_, _++_, append-nil}
 use Prim.Native.Nat.{ℕ, zero, suc, _-_, _*_, _≤_, _<_, _^_, _/_, max, _%_}
 use native.Mathlib.Nat.{div-one, div-eq-of-lt, div-div-eq-div-mul, pow-suc, pow-succ', one-mul}
 use native.Mathlib.Omega.{arith}
@@ -9,10 +11,19 @@ use lib.Bits.{bitOr, or-shr, or-step, or-lt}
 use lib.Dec.{eqb, ltb, eqb·zero-suc, eqb·suc-zero, eqb·suc-suc, leb·suc-zero, leb·suc-suc}
 use lib.Pow.{pow-pos, pow-lt, ones-lt, shl-exact}
 use borrow.Author.Tests.{eq-eqb, ne-eqb, eqb-true, lt-ltb, le-ltb, ltb-true}
-use Rattle.records.specs.Gate.RecordRules.{every, member, numbers, exactly}
+use mathlib.Core.Logic.{dite}
+use native.Mathlib.Decide.{ℕ-discrete}
+use lib.ListN.{length, getD, set, replicate, length-set, length-replicate, getD-replicate}
+use lib.Seq.{getD-set-same, getD-set-other}
+use Rattle.records.specs.Gate.RecordRules.{every, member, numbers, exactly, term-variables, terms-variables, bound, free, rising, unifier-rules}
 use Rattle.records.specs.Format.Never.{never}
-use Rattle.records.specs.Gate.BoolLaws.{same-truth, and-both, every-number, each-number}
-use Rattle.records.specs.Gate.Sets.{has-variable, with-variable, gathered, exactly-from}
+use Rattle.records.specs.Gate.RecordRulesLaws.{same-truth, and-both, every-number, each-number, every-same, member-append, every-append}
+use Rattle.records.specs.Gate.Sets.{has-variable, with-variable, gathered, exactly-from, is-marked, marked, all-marked, Marks}
+use Rattle.records.specs.Format.Syntax.{Term, Terms, Binding}
+use Rattle.records.specs.Format.Syntax.Term.{var, app}
+use Rattle.records.specs.Format.Syntax.Terms.{nil, cons}
+use Rattle.records.specs.Format.Syntax.Binding.{bind}
+use Rattle.records.specs.Format.Formed.{TermFormed, TermsFormed, BindingFormed, All}
 
 -- the shift that makes a set of one variable loses nothing
 pub one-shl : (x : ℕ) → x < 64 → (1 * 2 ^ x) % 2 ^ 64 ≡ 2 ^ x
@@ -28,7 +39,7 @@ unfolding has-variable
 has-half s x = rw (div-div-eq-div-mul, ← pow-succ' 2 x)
 
 -- the empty set
-pub has-none : (x : ℕ) → has-variable 0 x ≡ false
+has-none : (x : ℕ) → has-variable 0 x ≡ false
 unfolding has-variable
 has-none x = ne-eqb (0 / 2 ^ x % 2) 1 (λ e. omega (arith, div-eq-of-lt {n = 0} {m = 2 ^ x} (pow-pos x)))
 
@@ -77,7 +88,7 @@ has-either s t x =
     ap (λ (n : ℕ). eqb n 1) e ∙ either-bit (s / 2 ^ x % 2) (t / 2 ^ x % 2) (omega arith) (omega arith)
 
 -- one variable more
-pub has-with : (s y x : ℕ) → has-variable (with-variable s y) x ≡ (eqb x y || has-variable s x)
+has-with : (s y x : ℕ) → has-variable (with-variable s y) x ≡ (eqb x y || has-variable s x)
 unfolding with-variable
 has-with s y x =
     has-either s (2 ^ y) x ∙ ap (λ (b : Bool). has-variable s x || b) (has-one y x) ∙ or-comm (has-variable s x) (eqb x y)
@@ -150,3 +161,94 @@ exactly-not v met x l h = rw (le-ltb x v h)
 pub exactly-end : (v met : ℕ) → exactly-from v met [] ≡ eqb met (2 ^ v - 1)
 unfolding exactly-from gathered
 exactly-end v met = refl
+
+-- marking keeps the length
+pub length-marked : (marks : List ℕ) (x : ℕ) → length (marked marks x) ≡ length marks
+unfolding marked
+length-marked marks x = length-set marks (x / 64) _
+
+-- variables of one word are told apart by their bits
+same-variable : (y x : ℕ) → y / 64 ≡ x / 64 → eqb (y % 64) (x % 64) ≡ eqb y x
+same-variable y x e =
+    same-truth (eqb (y % 64) (x % 64)) (eqb y x)
+    (λ h. eq-eqb y x (omega (arith, eqb-true (y % 64) (x % 64) h)))
+    (λ h. eq-eqb (y % 64) (x % 64) (ap (λ (n : ℕ). n % 64) (eqb-true y x h)))
+
+-- what is marked after one variable more
+pub is-marked-marked : (marks : List ℕ) (x y : ℕ) → x / 64 < length marks → is-marked (marked marks x) y ≡ (eqb y x || is-marked marks y)
+unfolding is-marked marked
+is-marked-marked marks x y h = dite (ℕ-discrete (y / 64) (x / 64)) here there
+  where
+    word : ℕ
+    word = with-variable (getD marks (x / 64) 0) (x % 64)
+
+    here : y / 64 ≡ x / 64 → has-variable (getD (set marks (x / 64) word) (y / 64) 0) (y % 64) ≡ (eqb y x || has-variable (getD marks (y / 64) 0) (y % 64))
+    here e =
+        rw (e, getD-set-same marks (x / 64) word 0 h)
+        (has-with (getD marks (x / 64) 0) (x % 64) (y % 64) ∙ ap (λ (b : Bool). b || has-variable (getD marks (x / 64) 0) (y % 64)) (same-variable y x e))
+
+    there : (y / 64 ≡ x / 64 → ⊥) → has-variable (getD (set marks (x / 64) word) (y / 64) 0) (y % 64) ≡ (eqb y x || has-variable (getD marks (y / 64) 0) (y % 64))
+    there n = rw (getD-set-other marks (x / 64) (y / 64) word 0 n, ne-eqb y x (λ e. n (ap (λ (k : ℕ). k / 64) e)))
+
+-- lists with the same members have the same marks
+pub marks-same : {marks l k : List ℕ} → ((x : ℕ) → member x l ≡ member x k) → Marks marks l → Marks marks k
+marks-same e m = record { words = m .words; same = λ x h. m .same x h ∙ e x }
+
+-- 1,024 zeros mark nothing
+pub no-marks : Marks (replicate 1024 0) []
+unfolding is-marked
+no-marks = record {
+  words = length-replicate {A = ℕ} 1024 0;
+  same = λ x h. ap (λ (w : ℕ). has-variable w (x % 64)) (getD-replicate {A = ℕ} 1024 (x / 64) 0 0 (omega arith)) ∙ has-none (x % 64);
+}
+
+-- one variable more, before or after the others
+pub mark-one : {marks l : List ℕ} {x : ℕ} → Marks marks l → x < 65536 → Marks (marked marks x) (x ∷ l)
+mark-one {marks} {l} {x} m h = record {
+  words = length-marked marks x ∙ m .words;
+  same = λ y k. is-marked-marked marks x y (omega (arith, m .words)) ∙ ap (λ (b : Bool). eqb y x || b) (m .same y k);
+}
+
+-- the variables of a list more
+pub mark-all : {marks k : List ℕ} (l : List ℕ) → every (λ x. ltb x 65536) l ≡ true → Marks marks k → Marks (all-marked marks l) (l ++ k)
+unfolding all-marked
+mark-all [] b m = m
+mark-all {marks} {k} (x ∷ l) b m =
+    let w = and-both (ltb x 65536) (every (λ x. ltb x 65536) l) b in
+    marks-same (λ y. move y) (mark-all l (w .1) (mark-one m (ltb-true x 65536 (w .0))))
+  where
+    move : (y : ℕ) → member y (l ++ (x ∷ k)) ≡ member y ((x ∷ l) ++ k)
+    move y =
+        member-append y l (x ∷ k) ∙ sym (or-assoc (member y l) (eqb y x) (member y k))
+        ∙ ap (λ (b : Bool). b || member y k) (or-comm (member y l) (eqb y x)) ∙ sym (member-append y (x ∷ l) k)
+
+marks-of : (l : List ℕ) → every (λ x. ltb x 65536) l ≡ true → Marks (all-marked (replicate 1024 0) l) l
+marks-of l b = rw append-nil at (mark-all l b no-marks)
+
+-- the marks answer for the list
+every-unmarked : {marks l : List ℕ} (k : List ℕ) → Marks marks l → every (λ x. ltb x 65536) k ≡ true
+    → every (λ x. not (is-marked marks x)) k ≡ every (λ x. not (member x l)) k
+every-unmarked k m b = every-same (λ x h. ap not (m .same x (ltb-true x 65536 h))) k b
+
+mutual
+  pub term-below : (t : Term) → TermFormed t → every (λ x. ltb x 65536) (term-variables t) ≡ true
+  term-below (var v) h = rw (lt-ltb v 65536 h)
+  term-below (app f ts) h = terms-below ts (h .2)
+
+  pub terms-below : (ts : Terms) → TermsFormed ts → every (λ x. ltb x 65536) (terms-variables ts) ≡ true
+  terms-below nil h = refl
+  terms-below (cons t ts) h = rw (every-append, term-below t (h .0), terms-below ts (h .1))
+
+pub bound-below : (bs : List Binding) → All BindingFormed bs → every (λ x. ltb x 65536) (bound bs) ≡ true
+bound-below [] h = refl
+bound-below (bind v t ∷ bs) h = rw (lt-ltb v 65536 (h .0 .0), bound-below bs (h .1))
+
+pub free-below : (bs : List Binding) → All BindingFormed bs → every (λ x. ltb x 65536) (free bs) ≡ true
+free-below [] h = refl
+free-below (bind v t ∷ bs) h = rw (every-append, term-below t (h .0 .1), free-below bs (h .1))
+
+-- the rules of a unifier, asked of the marks of what it binds
+pub unifier-rules-marked : (bs : List Binding) → All BindingFormed bs
+    → unifier-rules bs ≡ (rising (bound bs) && every (λ x. not (is-marked (all-marked (replicate 1024 0) (bound bs)) x)) (free bs))
+unfolding unifier-rules
+unifier-rules-marked bs h = ap (λ (b : Bool). rising (bound bs) && b) (sym (every-unmarked (free bs) (marks-of (bound bs) (bound-below bs h)) (free-below bs h)))

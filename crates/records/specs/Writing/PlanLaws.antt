@@ -7,8 +7,9 @@ use lib.ListN.{length, length-append}
 use Rattle.records.specs.Format.Syntax.{Goal, Ancestor, Bet, Port}
 use Rattle.records.specs.Format.Syntax.Event.{event}
 use Rattle.records.specs.Format.Encode.{each, counted, goal-bytes, ancestor-bytes, bet-bytes, port-byte, record-of, event-record}
-use Rattle.records.specs.Writing.Emitted.{length-record-of}
-use Rattle.records.specs.Ends.Range.{cut, Inside, length-cut, inside-at, cut-at}
+use Rattle.records.specs.Writing.EmittedLaws.{length-record-of}
+use Rattle.records.specs.Ends.Range.{cut, Inside}
+use Rattle.records.specs.Ends.RangeLaws.{length-cut, inside-at, cut-at}
 use Rattle.records.specs.Writing.Plan.{lead-bytes, piece-bytes, nothing, stack-bytes, planned-body, planned, PlanInside}
 use Rattle.records.specs.Writing.Plan.{piece-length, stack-length, body-length, plan-length, limited, plan-ends}
 use Rattle.records.specs.Ends.Places.{part-ends}

@@ -13,8 +13,9 @@ use Rattle.records.specs.Format.ItemLaws.{goal-exact}
 use Rattle.records.specs.Format.Heads.{pick}
 use Rattle.records.specs.Gate.Question.{matches}
 use Rattle.records.specs.Ends.Range.{cut}
-use Rattle.records.specs.Ends.Stands.{same-tree}
-use Rattle.records.specs.Ends.Same.{same-bytes, same-true, same-refl}
+use Rattle.records.specs.Ends.StandsLaws.{same-tree}
+use Rattle.records.specs.Ends.Same.{same-bytes}
+use Rattle.records.specs.Ends.SameLaws.{same-true, same-refl}
 use Rattle.records.specs.Ends.Places.{EventParts}
 use Rattle.records.specs.declared.put.Range.{Range}
 use Rattle.stepper.specs.Rules.Machine.{Machine, StepOutcome, refused}
@@ -23,7 +24,8 @@ use Rattle.stepper.specs.Rules.AnswerLaws.{matching-no}
 use Rattle.stepper.specs.Rules.FormedLaws.{selected-formed}
 use Rattle.stepper.specs.Plans.View.{goal-part, ancestor-part, event-view, PartsOf}
 use Rattle.stepper.specs.Plans.Layouts.{whole}
-use Rattle.stepper.specs.Plans.Made.{Cuts, cuts, half-cut}
+use Rattle.stepper.specs.Plans.Made.{Cuts}
+use Rattle.stepper.specs.Plans.MadeLaws.{cuts, half-cut}
 use Rattle.stepper.specs.Plans.LayoutLaws.{goal-starts, goal-ends, goal-stops, top-at, under-conj, under-disj}
 use Rattle.stepper.specs.Plans.Halves.{HalfInside, is-half, either, HalfWhere, half-refusal, Leaves, LeavesBack, Like}
 

@@ -7,7 +7,8 @@ use native.Mathlib.Omega.{arith}
 use lib.ListN.{length}
 use Rattle.records.specs.Format.Syntax.{Goal, conj, disj, atom, Half, Ancestor, called, in-conj, in-disj, Bet, unifier, or, by, Port, Terms, event}
 use Rattle.records.specs.Format.Encode.{tag, goal-bytes, ancestor-bytes, bet-bytes, port-byte}
-use Rattle.records.specs.Ends.Stands.{Stands, stands-second}
+use Rattle.records.specs.Ends.Stands.{Stands}
+use Rattle.records.specs.Ends.StandsLaws.{stands-second}
 use Rattle.records.specs.Ends.Places.{goal-end, EventParts}
 use Rattle.records.specs.declared.plan.Lead.the-variants.{Bare, One, Two}
 use Rattle.records.specs.declared.plan.Piece.{Piece}
@@ -16,7 +17,8 @@ use Rattle.terms.specs.Standing.Accepted.{ancestors-at, bets-at}
 use Rattle.stepper.specs.Plans.View.{goal-part, ancestor-end, ancestor-part, bet-end, bet-part, stack-places, event-view}
 use Rattle.stepper.specs.Plans.ViewLaws.{top-stands, rest-stands}
 use Rattle.stepper.specs.Plans.Layouts.{whole, by-goal, content-of, unchanged, dropped, pushed, replaced, plan-of, kept, bet-dropped, entered, chosen, reached, left, left-with-or, atom-left, atom-left-by, body-entered}
-use Rattle.stepper.specs.Plans.Made.{MakesPiece, MakesStack, cuts, piece, Halves, halves, stack-same, stack-more, stack-less, stack-changed, Plans, plan-is, or-piece, half-made}
+use Rattle.stepper.specs.Plans.Made.{MakesPiece, MakesStack, Halves, Plans}
+use Rattle.stepper.specs.Plans.MadeLaws.{cuts, piece, halves, stack-same, stack-more, stack-less, stack-changed, plan-is, or-piece, half-made}
 use Rattle.stepper.specs.Rules.Rules.{selected}
 
 -- a part ends where its bytes do

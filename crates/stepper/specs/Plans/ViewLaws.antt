@@ -17,8 +17,10 @@ use Rattle.records.specs.Format.Exact.{ancestor-exact, bet-exact}
 use Rattle.records.specs.Ends.Traversal.{end-at}
 use Rattle.records.specs.Gate.Gate.{Reading, Accepted, read-event}
 use Rattle.records.specs.Gate.Gate.Reading.{refused, tree}
-use Rattle.records.specs.Ends.Stands.{Stands, stands-within, stands-first, stands-second, stands-ends, term-ends}
-use Rattle.records.specs.Ends.Places.{goal-end, row-places, part-ends, event-places, event-parts, goal-found}
+use Rattle.records.specs.Ends.Stands.{Stands}
+use Rattle.records.specs.Ends.StandsLaws.{stands-within, stands-first, stands-second, stands-ends, term-ends}
+use Rattle.records.specs.Ends.Places.{goal-end, row-places, part-ends, event-places}
+use Rattle.records.specs.Ends.PlacesLaws.{event-parts, goal-found}
 use Rattle.records.specs.declared.ends.Found.the-variants.{At}
 use Rattle.records.specs.declared.places.Places.{Places}
 use Rattle.records.specs.declared.places.PartEnds.{PartEnds}

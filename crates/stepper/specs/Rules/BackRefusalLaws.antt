@@ -16,7 +16,7 @@ use Rattle.stepper.specs.Rules.AnswerLaws.{matching-no, matching-refused
 use Rattle.stepper.specs.Rules.Listed.{Rule, conj-call, conj-exit-first, conj-fail-first, conj-exit-second, conj-fail-second, conj-redo, disj-call, disj-fail-first, disj-fail-second, disj-exit-first, disj-exit-second, disj-redo, true-call, true-redo, fail-call, equal-call, equal-clash, equal-redo, atom-call, atom-undefined, atom-exit, atom-fail, atom-redo}
 use Rattle.stepper.specs.Rules.Sources.{Own, Candidate}
 use Rattle.stepper.specs.Rules.SourceLaws.{source-candidate, candidate-iff, candidate-ruled}
-use Rattle.stepper.specs.Rules.RefusalLaws.{OnRefused, empty-machine}
+use Rattle.stepper.specs.Rules.RefusalLaws.{WhenRefused, empty-machine}
 use Rattle.stepper.specs.Rules.ListedLaws.{forward-iff}
 use Rattle.stepper.specs.Rules.Refusals.{AtStart, BackRefusal, walk-begins, no-right-side, exit-value-too-large, fail-value-too-large, body-local-too-large, fail-local-too-large, candidate-refused, leads-elsewhere}
 
@@ -69,27 +69,27 @@ module _ (M : Machine) where
   stuck e w h = no-right-side w (λ N c r. right-side-asks N c e r (h N))
 
   stuck-matching {ℓ} : {P : Type ℓ} (e : Event) (d : Dec P) (c : Event) → (AtStart e → ⊥) → ((N : Machine) → candidate N e ≡ matching d c)
-      → OnRefused (BackRefusal M e) (matching d c)
+      → WhenRefused (BackRefusal M e) (matching d c)
   unfolding matching
   stuck-matching e (yes p) c w h = tt
   stuck-matching e (no p) c w h = stuck e w h
 
   unifier-asked : (e : Event) (x : Unified) (c : Event) (k : List Binding → Event) → (x ≡ too-large → BackRefusal M e values)
-      → OnRefused (BackRefusal M e) (by-unifier x c k)
+      → WhenRefused (BackRefusal M e) (by-unifier x c k)
   unfolding by-unifier
   unifier-asked e too-large c k h = h refl
   unifier-asked e clash c k h = tt
   unifier-asked e (unified m) c k h = tt
 
   body-asked : (e : Event) (x : Body) (c : Event) (k : Goal → Event) → (x ≡ too-many → BackRefusal M e locals)
-      → OnRefused (BackRefusal M e) (by-body x c k)
+      → WhenRefused (BackRefusal M e) (by-body x c k)
   unfolding by-body
   body-asked e too-many c k h = h refl
   body-asked e undefined c k h = tt
   body-asked e (defined g) c k h = tt
 
   -- what questions 6 to 9 refuse
-  candidate-refusal : (e : Event) → OnRefused (BackRefusal M e) (candidate M e)
+  candidate-refusal : (e : Event) → WhenRefused (BackRefusal M e) (candidate M e)
   unfolding candidate
   candidate-refusal (event call g [] []) = walk-begins tt
   candidate-refusal (event call g [] (b ∷ s)) = stuck (event call g [] (b ∷ s)) (λ x. x) (λ N. refl)
@@ -145,7 +145,7 @@ module _ (M : Machine) where
   unled-refused e w n = go (candidate M e) refl
     where
       go : (a : StepOutcome) → candidate M e ≡ a → candidate M e ≡ refused matches
-      go (refused q) k = k ∙ ap refused (only-matches e q w n (subst (OnRefused (BackRefusal M e)) k (candidate-refusal e)))
+      go (refused q) k = k ∙ ap refused (only-matches e q w n (subst (WhenRefused (BackRefusal M e)) k (candidate-refusal e)))
       go (gives c) k = let r = candidate-ruled M c e (candidate-iff M e c .0 k) in absurd (n (r .0) c (r .1))
 
   -- every listed refusal is made
@@ -180,7 +180,7 @@ module _ (M : Machine) where
       asked c k false (some p) u l h = let same : p ≡ q = cc in subst (BackRefusal M e) same (candidate-refused k u l)
 
       go : (a : StepOutcome) → candidate M e ≡ a → checked M e a ≡ refused q → BackRefusal M e q
-      go (refused p) k h = let same : p ≡ q = cc in subst (BackRefusal M e) same (subst (OnRefused (BackRefusal M e)) k (candidate-refusal e))
+      go (refused p) k h = let same : p ≡ q = cc in subst (BackRefusal M e) same (subst (WhenRefused (BackRefusal M e)) k (candidate-refusal e))
       go (gives c) k h = asked c (candidate-iff M e c .0 k) (ununifiable M c) (M .candidate-limit c) refl refl h
 
   -- a step back is refused exactly as listed

@@ -2,7 +2,7 @@
 use mathlib.Core.Path.{_≡_, refl, subst}
 use mathlib.Core.Bool.{true}
 use mathlib.Core.List.{List, [], _∷_}
-use Rattle.records.specs.Gate.BoolLaws.{and-both}
+use Rattle.records.specs.Gate.RecordRulesLaws.{and-both}
 use Rattle.records.specs.Format.Syntax.{Goal, truth, failure, equal, conj, disj, atom, Half, first, second, called, in-conj, in-disj, Bet, unifier, call, exit, fail, redo, Event, event, goal?}
 use Rattle.records.specs.Format.Formed.{GoalFormed, All, BetFormed}
 use Rattle.records.specs.Gate.RecordRules.{every, bet-rules, event-rules}

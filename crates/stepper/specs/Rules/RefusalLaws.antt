@@ -15,13 +15,13 @@ use Rattle.stepper.specs.Rules.ListedLaws.{rule-iff}
 use Rattle.stepper.specs.Rules.Refusals.{AtEnd, Refusal, walk-ends, no-rule, value-too-large, local-too-large, result-refused}
 
 -- Φ of the question that refuses, if one does
-abbrev pub OnRefused : (Question → Type 0) → StepOutcome → Type 0
-OnRefused Φ (refused q) = Φ q
-OnRefused Φ (gives e) = Unit {0}
+abbrev pub WhenRefused : (Question → Type 0) → StepOutcome → Type 0
+WhenRefused Φ (refused q) = Φ q
+WhenRefused Φ (gives e) = Unit {0}
 
 -- refused by 7 alone
 abbrev OnlyMatches : StepOutcome → Type 0
-OnlyMatches a = OnRefused (λ q. q ≡ matches) a
+OnlyMatches a = WhenRefused (λ q. q ≡ matches) a
 
 only-matching {ℓ} : {P : Type ℓ} (d : Dec P) (e : Event) → OnlyMatches (matching d e)
 unfolding matching
@@ -80,20 +80,20 @@ empty-machine = constant-machine clash undefined
 
 module _ (M : Machine) where
   -- an event from which every machine's rules answer alike, and are refused by 7 alone
-  stuck : (e : Event) (a : StepOutcome) → (AtEnd e → ⊥) → ((N : Machine) → rule N e ≡ a) → OnlyMatches a → OnRefused (Refusal M e) a
+  stuck : (e : Event) (a : StepOutcome) → (AtEnd e → ⊥) → ((N : Machine) → rule N e ≡ a) → OnlyMatches a → WhenRefused (Refusal M e) a
   stuck e (refused q) w same only =
       subst (Refusal M e) (sym only) (no-rule w (λ N d r. refused-not-gives (sym (same N) ∙ rule-iff N e d .1 r)))
   stuck e (gives d) w same only = tt
 
   -- what questions 6 to 9 refuse
-  rule-refusal : (e : Event) → OnRefused (Refusal M e) (rule M e)
+  rule-refusal : (e : Event) → WhenRefused (Refusal M e) (rule M e)
   unfolding rule
   rule-refusal (event call truth u s) = tt
   rule-refusal (event call failure u s) = tt
   rule-refusal (event call (equal l r) u s) = go (M .unify s l r) refl
     where
       go : (x : Unified) → M .unify s l r ≡ x
-          → OnRefused (Refusal M (event call (equal l r) u s)) (by-unifier x (event fail (equal l r) u s) (λ m. event exit (equal l r) u (unifier m ∷ s)))
+          → WhenRefused (Refusal M (event call (equal l r) u s)) (by-unifier x (event fail (equal l r) u s) (λ m. event exit (equal l r) u (unifier m ∷ s)))
       go too-large h = value-too-large h
       go clash h = tt
       go (unified m) h = tt
@@ -102,7 +102,7 @@ module _ (M : Machine) where
   rule-refusal (event call (atom p ts) u s) = go (M .body p ts u s) refl
     where
       go : (x : Body) → M .body p ts u s ≡ x
-          → OnRefused (Refusal M (event call (atom p ts) u s)) (by-body x (event fail (atom p ts) u s) (λ g. event call g (called p ts ∷ u) s))
+          → WhenRefused (Refusal M (event call (atom p ts) u s)) (by-body x (event fail (atom p ts) u s) (λ g. event call g (called p ts ∷ u) s))
       go too-many h = local-too-large h
       go undefined h = tt
       go (defined g) h = tt
@@ -151,7 +151,7 @@ module _ (M : Machine) where
   refusal-listed e q h = go (rule M e) refl h
     where
       go : (a : StepOutcome) → rule M e ≡ a → limited-by (M .result-limit) (ununifiable M e) a ≡ refused q → Refusal M e q
-      go (refused p) k h = let same : p ≡ q = cc in subst (Refusal M e) same (subst (OnRefused (Refusal M e)) k (rule-refusal e))
+      go (refused p) k h = let same : p ≡ q = cc in subst (Refusal M e) same (subst (WhenRefused (Refusal M e)) k (rule-refusal e))
       go (gives d) k h = let r = fitting-refused (ununifiable M e) (M .result-limit d) d q h in result-refused (rule-iff M e d .0 k) (r .0) (r .1)
 
   -- a step forward is refused exactly as listed

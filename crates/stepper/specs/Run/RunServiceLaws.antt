@@ -1,5 +1,5 @@
 -- Laws of the run service on bytes: it does what that many single steps do, its number is that of the step that stopped it, and its output
--- keeps its length.
+-- keeps its length; and what code replies for it.
 use mathlib.Core.Path.{_≡_, refl, sym, _∙_, ap}
 use mathlib.Core.List.{List}
 use mathlib.Core.Option.{Option·none-ne-some}
@@ -7,26 +7,32 @@ use Prim.Native.Nat.{ℕ, _≤_}
 use native.Mathlib.Nat.{zero-add}
 use native.Mathlib.Omega.{arith}
 use lib.ListN.{length, drop, replicate}
+use mathlib.Core.Bool.{false}
 use Rattle.records.specs.Format.Never.{never}
-use Rattle.records.specs.Format.Syntax.{Event, Definition}
+use Rattle.records.specs.Format.Syntax.{Event}
 use Rattle.records.specs.Format.Encode.{event-record}
 use Rattle.records.specs.Gate.Question.{Question}
 use Rattle.records.specs.Format.HeadLaws.{Bytes}
-use Rattle.records.specs.Gate.Gate.{tree, front-record}
-use Rattle.records.specs.Gate.Reply.{Answer as AnswerOf, through, reply-with}
+use Rattle.records.specs.Gate.Gate.{tree, front-record, read-program, read-event}
+use Rattle.records.specs.Gate.Reply.{through, reply-with}
 use Rattle.stepper.specs.Services.Layers.{Layers, Lawful}
 use Rattle.stepper.specs.Rules.Machine.{Machine, refused, gives}
 use Rattle.stepper.specs.Rules.Rules.{step, accepted, Lent}
 use Rattle.stepper.specs.Walks.Walk.{Direction, forward, back, Tally, encoded, at-start, walk}
-use Rattle.stepper.specs.Run.Run.{meets, Order, plain, Stop, spent, met, full, by, RunEnd, past, run, RunReply, stop-number, run-refused, run-done, run-record}
+use Rattle.stepper.specs.Run.Run.{meets, Order, plain, Stop, spent, met, full, by, RunEnd, past, run, stop-number}
+use Rattle.stepper.specs.Run.RunService.{RunReply, run-reply, run-answer, run-record, RunReplied}
 use Rattle.stepper.specs.Run.RunLaws.{Course, no-count, no-room, no-step, last-step, one-step, course, StopTold, run-told, and-run, run-is-steps}
 use Rattle.stepper.specs.Walks.Reached.{attempted}
 use Rattle.stepper.specs.Walks.ReachedLaws.{steps-attempt}
-use Rattle.stepper.specs.Services.Services.{machine, reply, step-answer, step-record, Move, serve, Program, rules-of}
+use Rattle.stepper.specs.Services.Services.{reply, step-answer, step-record, Move, serve, Program, rules-of, machine}
 use Rattle.stepper.specs.Services.ServiceLaws.{Recordable, limit-fits, front-event, read-recordable, step-recordable, step-of-record, lent, served-from}
-use Rattle.records.specs.Gate.ReplyLaws.{number-positive, reply-length}
-use Rattle.records.specs.Gate.Door.{Trees, gate}
+use Rattle.stepper.specs.Services.Desk.{layers}
+use Rattle.stepper.specs.Step.Stepped.{BothPassed, gate-number}
+use Rattle.stepper.specs.Run.RunLoop.{RanTo}
+use Rattle.records.specs.Gate.ReplyLaws.{number-positive, gives-injective, through-gives, reply-length, number-refuses}
+use Rattle.records.specs.Gate.Door.{gate}
 use Rattle.records.specs.Gate.DoorLaws.{gate-both, gate-gives}
+use Rattle.stepper.specs.declared.run.RunAnswer.{RunAnswer}
 
 -- what a run's reply says of a walk: the record in its output, and the steps taken
 unfoldable pub served-run : Direction → RunReply → Tally (List ℕ)
@@ -35,8 +41,8 @@ served-run forward r = record { event = front-record (r .output); forwards = r .
 served-run back r = record { event = front-record (r .output); forwards = 0; backs = r .taken }
 
 run-encoded : (d : Direction) (r : RunEnd) (e : Event) (out : List ℕ) → Recordable (r .event)
-    → encoded event-record (and-run d (at-start e) r) ≡ served-run d (run-done out r)
-unfolding encoded and-run served-run run-done reply-with
+    → encoded event-record (and-run d (at-start e) r) ≡ served-run d (run-reply out (gives r))
+unfolding encoded and-run served-run run-reply through reply-with
 run-encoded forward r e out f = rw (front-event (r .event) (drop (length (event-record (r .event))) out) (f .1), zero-add)
 run-encoded back r e out f = rw (front-event (r .event) (drop (length (event-record (r .event))) out) (f .1), zero-add)
 
@@ -71,8 +77,8 @@ module _ (L : Layers) (laws : Lawful L) (c : Program L) where
 
   -- the run service on an event that passes questions 11 to 14, with an output that passes 5
   run-of-tree : (d : Direction) (n : ℕ) (s : List ℕ) (e : Event) (out : List ℕ) → L .read-event s ≡ tree e → 32768 ≤ length out
-      → run-record L d n (c .program) s out ≡ run-done out (run (rules-of c) (plain d) n e)
-  unfolding run-record through
+      → run-record L d n (c .program) s out ≡ run-reply out (gives (run (rules-of c) (plain d) n e))
+  unfolding run-record run-answer through
   run-of-tree d n s e out h k = rw (gate-both (L .read-program (c .program)) (L .read-event s) (c .reads) h k)
 
   -- a run is that many single steps of the service, each lent the same output
@@ -92,7 +98,7 @@ module _ (L : Layers) (laws : Lawful L) (c : Program L) where
   -- a run whose number is 0 took all its steps
   pub run-number-done : (d : Direction) (n : ℕ) (s : List ℕ) (e : Event) (out : List ℕ) → L .read-event s ≡ tree e → 32768 ≤ length out
       → run-record L d n (c .program) s out .number ≡ 0 → run-record L d n (c .program) s out .taken ≡ n
-  unfolding run-done
+  unfolding run-reply through
   run-number-done d n s e out h k z =
       let same = run-of-tree d n s e out h k in
       ap (λ r. r .taken) same ∙ all-taken (rules-of c) d n (run (rules-of c) (plain d) n e) (run (rules-of c) (plain d) n e .why) (run-told (rules-of c) (plain d) n e) (sym (ap (λ r. r .number) same) ∙ z)
@@ -101,7 +107,7 @@ module _ (L : Layers) (laws : Lawful L) (c : Program L) where
   pub run-number-stopped : (d : Direction) (n : ℕ) (s : List ℕ) → Bytes s → (e : Event) (out : List ℕ) → L .read-event s ≡ tree e → 32768 ≤ length out
       → (run-record L d n (c .program) s out .number ≡ 0 → ⊥)
       → step-record L d (c .program) (front-record (run-record L d n (c .program) s out .output)) out .number ≡ run-record L d n (c .program) s out .number
-  unfolding run-done step-record reply-with stop-number
+  unfolding run-reply through step-record reply-with stop-number
   run-number-stopped d n s i e out h k z =
       let M = rules-of c in
       let l : Lent = record { direction = d; room = length out } in
@@ -119,15 +125,30 @@ module _ (L : Layers) (laws : Lawful L) (c : Program L) where
 -- the output of a run keeps its length
 pub run-output-length : (L : Layers) → Lawful L → (d : Direction) (n : ℕ) (program s out : List ℕ) → Bytes program → Bytes s
     → length (run-record L d n program s out .output) ≡ length out
-unfolding run-record through run-refused run-done
-run-output-length L laws d n program s out b i = go (gate (L .read-program program) (L .read-event s) (length out)) refl
+unfolding run-record run-reply run-answer
+run-output-length L laws d n program s out b i = reply-length (λ r. event-record (r .event)) out (run-answer L d n program s (length out)) fits
   where
-    go : (a : AnswerOf (Trees (List Definition) Event)) → gate (L .read-program program) (L .read-event s) (length out) ≡ a
-        → length (through (run-refused out) a (λ t. run-done out (run (machine L (t .program)) (plain d) n (t .event))) .output) ≡ length out
-    go (refused q) h = refl
-    go (gives t) h =
-        let passed = gate-gives (L .read-program program) (L .read-event s) (length out) h in
+    fits : (r : RunEnd) → run-answer L d n program s (length out) ≡ gives r → length (event-record (r .event)) ≤ length out
+    fits r h =
+        let w = through-gives (gate (L .read-program program) (L .read-event s) (length out)) _ h in
+        let t = w .0 in
+        let passed = gate-gives (L .read-program program) (L .read-event s) (length out) (w .1) in
         let P : Program L = record { program = program; bytes = b; definitions = t .program; reads = passed .0 } in
         let f = run-recordable L laws P (plain d) n (t .event) (read-recordable L laws s i (t .event) (passed .1)) in
-        let e = run (machine L (t .program)) (plain d) n (t .event) .event in
-        reply-length event-record out (gives e) (λ x k. let same : e ≡ x = cc in rw (← same) (omega (arith, limit-fits e (f .1), passed .2)))
+        rw (← gives-injective (w .2)) (omega (arith, limit-fits _ (f .1), passed .2))
+
+-- in code: the gate says no
+pub run-gate-refused : (d : Direction) (steps : ℕ) (program s out : List ℕ) {n : ℕ} → n ≡ gate-number program s (length out) → (n ≡ 0 → ⊥)
+    → RunReplied (run-record layers d steps program s out) n 0 out
+unfolding run-record run-reply run-answer through reply-with
+run-gate-refused d steps program s out e z =
+    let w = number-refuses (gate (read-program program) (read-event s) (length out)) e z in
+    rw (w .refuses) (record { number-is = w .number-is; taken-is = refl; output-is = refl })
+
+-- or the run goes
+pub run-replied : {program s out log log′ out′ : List ℕ} {r : RunAnswer} (d : Direction) (steps : ℕ) (w : BothPassed program s) → 32768 ≤ length out
+    → RanTo (run (machine layers (w .definitions)) (plain d) steps (w .event)) false log out r log′ out′
+    → RunReplied (run-record layers d steps program s out) (r .number) (r .taken) out′
+unfolding run-record run-reply run-answer through reply-with
+run-replied {program} {s} d steps w room h =
+    rw (gate-both (read-program program) (read-event s) (w .program-reads) (w .reads) room) (record { number-is = h .tells .number-is; taken-is = h .tells .taken-is; output-is = h .output-is })

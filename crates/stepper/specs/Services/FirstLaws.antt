@@ -1,50 +1,45 @@
 -- The query service: the number that refuses a query, or the first event's record within questions 5 and 10.
-use mathlib.Core.Path.{_≡_, refl, _∙_}
+use mathlib.Core.Path.{_≡_, refl, sym, _∙_}
 use mathlib.Core.Bool.{false}
 use mathlib.Core.List.{List, []}
 use Prim.Native.Nat.{ℕ}
 use native.Mathlib.Omega.{arith}
 use lib.ListN.{length}
-use borrow.Author.Tests.{lt-ltb, le-ltb}
 use Rattle.records.specs.Format.Syntax.{Goal, call, Event}
 use Rattle.records.specs.Format.Encode.{goal-bytes, ancestor-bytes, bet-bytes, event-record, record-of}
 use Rattle.records.specs.Format.HeadLaws.{Known, bytes-all}
-use Rattle.records.specs.Gate.Question.{question-number}
 use Rattle.records.specs.Gate.Gate.{tree, read-query}
 use Rattle.records.specs.Gate.GateLaws.{query-tree}
 use Rattle.records.specs.Gate.Reply.{through, answer-number, reply-with, Replied}
-use Rattle.records.specs.Gate.ReplyLaws.{number-refuses}
+use Rattle.records.specs.Gate.ReplyLaws.{number-refuses, reply-number, receipted-bytes}
 use Rattle.records.specs.Gate.Door.{event-door, with-room}
-use Rattle.records.specs.Gate.DoorLaws.{room-enough, room-short, event-open}
-use Rattle.records.specs.Ends.Stands.{Stands, body-stands}
-use Rattle.records.specs.Ends.Range.{cut-at}
+use Rattle.records.specs.Gate.DoorLaws.{event-open}
+use Rattle.records.specs.Ends.Stands.{Stands}
+use Rattle.records.specs.Ends.StandsLaws.{body-stands}
+use Rattle.records.specs.Ends.RangeLaws.{cut-at}
 use Rattle.records.specs.Writing.Plan.{planned, PlanInside}
 use Rattle.records.specs.Writing.PlanLaws.{nothing-inside, nothing-bytes, stack-kept}
-use Rattle.records.specs.Writing.Emitted.{Emitted, outcome, outcome-short, outcome-long, outcome-whole, EmitCase, short, long, whole, fit, length-record-of}
+use Rattle.records.specs.Writing.Emitted.{Emitted}
+use Rattle.records.specs.Writing.EmittedLaws.{length-record-of}
 use Rattle.records.specs.declared.put.Receipt.{Receipt}
 use Rattle.records.specs.declared.plan.Lead.the-variants.{Bare}
 use Rattle.stepper.specs.Rules.Machine.{gives}
 use Rattle.stepper.specs.Rules.Rules.{fitting, first-event}
-use Rattle.stepper.specs.Services.Services.{too-long, record-limit, reply, first-answer, first-record}
+use Rattle.stepper.specs.Services.Services.{record-limit, reply, first-answer, first-record}
+use Rattle.stepper.specs.Services.ServiceLaws.{emit-answer-event}
 use Rattle.stepper.specs.Services.Desk.{layers}
 use Rattle.stepper.specs.Plans.Layouts.{plan-of}
-use Rattle.stepper.specs.Plans.Made.{MakesStack, Plans, plan-is, cuts, piece}
+use Rattle.stepper.specs.Plans.Made.{MakesStack, Plans}
+use Rattle.stepper.specs.Plans.MadeLaws.{plan-is, cuts, piece}
 use Rattle.stepper.specs.Services.FirstPlan.{no-items, first-plan}
 
 -- what is emitted of an event's record is the reply under questions 5 and 10
 pub emitted-replied : (e : Event) (out after : List ℕ) (emit : Receipt) → Emitted out (event-record e) emit after
     → Replied (reply out (with-room (length out) (fitting false (record-limit e) (gives e)))) (emit .number) after
-unfolding outcome reply-with fitting record-limit too-long question-number
-emitted-replied e out after emit m = by (fit out (event-record e))
-  where
-    by : EmitCase out (event-record e) → Replied (reply out (with-room (length out) (fitting false (record-limit e) (gives e)))) (emit .number) after
-    by (short h) = rw (room-short (fitting false (record-limit e) (gives e)) h) (record { number-is = m .number ∙ rw outcome-short; output-is = m .output ∙ rw outcome-short })
-    by (long h k) =
-        rw (room-enough (fitting false (record-limit e) (gives e)) h, lt-ltb 32768 (length (event-record e)) k)
-        (record { number-is = m .number ∙ rw outcome-long; output-is = m .output ∙ rw outcome-long })
-    by (whole h k) =
-        rw (room-enough (fitting false (record-limit e) (gives e)) h, le-ltb 32768 (length (event-record e)) k)
-        (record { number-is = m .number ∙ rw outcome-whole; output-is = m .output ∙ rw outcome-whole })
+emitted-replied e out after emit m =
+    let a = with-room (length out) (fitting false (record-limit e) (gives e)) in
+    let w = receipted-bytes event-record out a (rw (emit-answer-event (length out) e) at m) in
+    record { number-is = w .number-is ∙ sym (reply-number event-record out a); output-is = w .output-is }
 
 -- a stack with nothing on it
 empty : {A : Type 0} (bytes : A → List ℕ) (s : List ℕ) → MakesStack bytes s no-items []

@@ -27,8 +27,7 @@ use Rattle.records.specs.declared.heads.GoalHead.{GoalHead}
 use Rattle.records.specs.declared.heads.GoalHead.the-variants.{Truth, Failure, Equal, Conj, Disj, Atom, NoGoal}
 use Rattle.records.specs.declared.places.Places.{Places}
 use Rattle.records.specs.declared.put.Range.{Range}
-use Rattle.terms.specs.Standing.Accepted.{accepted-program}
-use Rattle.terms.specs.Standing.AcceptedLaws.{goal-told}
+use Rattle.terms.specs.Standing.AcceptedLaws.{goal-told, accepted-program}
 use Rattle.terms.specs.Body.Body.{defines, definition-of}
 use Rattle.terms.specs.Body.Definitions.{ProgramAt, definition-place, find-definition}
 use Rattle.terms.specs.declared.definitions.Lookup.{Lookup}

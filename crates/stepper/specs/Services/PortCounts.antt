@@ -3,7 +3,7 @@ use Prim.Native.Nat.{ℕ}
 use lib.Dec.{eqb}
 use Rattle.records.specs.Format.Heads.{pick}
 use Rattle.stepper.specs.Services.Counts.{Counts, CountReply, one-more}
-use Rattle.stepper.specs.declared.counts.Counts.{Counts as PortCounts}
+use Rattle.stepper.specs.declared.counts.PortCounts.{PortCounts}
 use Rattle.stepper.specs.declared.counts.CountAnswer.{CountAnswer}
 
 -- the counts that a struct of four holds

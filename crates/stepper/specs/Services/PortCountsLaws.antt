@@ -14,7 +14,7 @@ use Rattle.records.specs.Ends.Places.{event-places}
 use Rattle.records.specs.declared.places.Places.{Places}
 use Rattle.stepper.specs.Services.Counts.{one-more, with-event, count-record}
 use Rattle.stepper.specs.Services.PortCounts.{counts-of, counts-reply, with-port}
-use Rattle.stepper.specs.declared.counts.Counts.{Counts as PortCounts}
+use Rattle.stepper.specs.declared.counts.PortCounts.{PortCounts}
 
 -- for code that has one more of a count
 module _ (c : PortCounts) (n : ℕ) {m : ℕ} where

@@ -5,13 +5,13 @@ use mathlib.Core.List.{List, [], _∷_, _++_}
 use mathlib.Core.Option.{Option, none, some, Option·none-ne-some, Option·some-injective, Option·map}
 use Prim.Native.Nat.{ℕ, zero, suc, _≤_}
 use native.Mathlib.Omega.{arith}
-use lib.Dec.{ltb}
+use lib.Dec.{ltb, leb}
 use lib.ListN.{length, length-append}
-use borrow.Author.Tests.{ltb-false, le-ltb}
+use borrow.Author.Tests.{ltb-true, ltb-false, le-ltb, le-leb, lt-leb}
 use Rattle.records.specs.Format.Syntax.{Goal, Ancestor, called, in-conj, in-disj, Bet, unifier, or, by, Event, event, Definition}
 use Rattle.records.specs.Format.Encode.{each, ancestor-bytes, bet-bytes, event-bytes, record-of, event-record}
 use Rattle.records.specs.Gate.RecordRules.{event-rules}
-use Rattle.records.specs.Gate.Question.{fits, question-number}
+use Rattle.records.specs.Gate.Question.{output, fits, question-number}
 use Rattle.records.specs.Gate.Door.{event-door, with-room}
 use Rattle.records.specs.Gate.DoorLaws.{room-gives, room-then, event-gives, gate-room}
 use Rattle.records.specs.Gate.ReplyLaws.{number-positive, through-gives, reply-gives}
@@ -19,7 +19,8 @@ use Rattle.records.specs.Format.HeadLaws.{Bytes}
 use Rattle.records.specs.Gate.Gate.{tree, front-record}
 use Rattle.records.specs.Gate.GateLaws.{front-is-record}
 use Rattle.records.specs.Format.WrittenLaws.{event-written}
-use Rattle.records.specs.Gate.Reply.{through, reply-with}
+use Rattle.records.specs.Gate.Reply.{on-yes, through, reply-with}
+use Rattle.records.specs.Writing.Emitted.{emit-answer}
 use Rattle.stepper.specs.Services.Layers.{Layers, ProgramSound, Lawful}
 use Rattle.stepper.specs.Rules.Machine.{LimitLaws, StepOutcome, refused, gives}
 use Rattle.stepper.specs.Rules.Rules.{fitting, step, first-event, accepted, Lent, attempt}
@@ -48,6 +49,19 @@ limit-fits e h = go (ltb 32768 (length (event-record e))) refl h
 pub fits-limit : (e : Event) → length (event-record e) ≤ 32768 → record-limit e ≡ none
 unfolding record-limit too-long
 fits-limit e h = ap too-long (le-ltb 32768 (length (event-record e)) h)
+
+-- an event's record is emitted exactly where questions 5 and 10 give the event
+pub emit-answer-event : (room : ℕ) (e : Event) → emit-answer room (event-record e)
+    ≡ through refused (with-room room (fitting false (record-limit e) (gives e))) (λ x. gives (event-record x))
+unfolding emit-answer with-room on-yes through fitting record-limit too-long
+emit-answer-event room e = go (leb 32768 room) (ltb 32768 (length (event-record e))) refl
+  where
+    go : (b t : Bool) → ltb 32768 (length (event-record e)) ≡ t
+        → on-yes output b (on-yes fits (leb (length (event-record e)) 32768) (gives (event-record e)))
+        ≡ through refused (on-yes output b (fitting false (too-long t) (gives e))) (λ x. gives (event-record x))
+    go false t q = refl
+    go true true q = rw (lt-leb (length (event-record e)) 32768 (ltb-true _ _ q))
+    go true false q = rw (le-leb (length (event-record e)) 32768 (ltb-false _ _ q))
 
 -- the front of a buffer that begins with an event's record is that record
 pub front-event : (e : Event) (rest : List ℕ) → record-limit e ≡ none → front-record (event-record e ++ rest) ≡ event-record e

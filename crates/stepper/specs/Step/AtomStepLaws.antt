@@ -13,13 +13,16 @@ use Rattle.records.specs.Gate.Question.{locals, question-number}
 use Rattle.records.specs.Format.HeadLaws.{Known}
 use Rattle.records.specs.Ends.EndLaws.{goal-long}
 use Rattle.records.specs.Writing.Plan.{PlanInside}
-use Rattle.records.specs.Ends.Places.{EventParts, event-parts}
+use Rattle.records.specs.Ends.Places.{EventParts}
+use Rattle.records.specs.Ends.PlacesLaws.{event-parts}
 use Rattle.records.specs.declared.put.Range.{Range}
 use Rattle.records.specs.Gate.Gate.{tree}
 use Rattle.terms.specs.Body.Body.{Body, too-many, undefined, body}
 use Rattle.terms.specs.Body.BodyBytes.{AtomAt}
-use Rattle.terms.specs.Standing.Accepted.{frame-of, atom-moved, accepted-atom}
-use Rattle.terms.specs.Unifier.Told.{BodyHere, BodyLong, BodyTold, body-told}
+use Rattle.terms.specs.Standing.Accepted.{frame-of, atom-moved}
+use Rattle.terms.specs.Standing.AcceptedLaws.{accepted-atom}
+use Rattle.terms.specs.Unifier.Told.{BodyHere, BodyLong, BodyTold}
+use Rattle.terms.specs.Unifier.ToldLaws.{body-told}
 use Rattle.terms.specs.declared.body.BodyAnswer.{BodyAnswer}
 use Rattle.stepper.specs.declared.emit.StepAnswer.{StepAnswer}
 use Rattle.stepper.specs.Rules.Machine.{StepOutcome, gives}

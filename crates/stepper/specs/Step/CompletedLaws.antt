@@ -10,14 +10,15 @@ use lib.ListN.{length, length-append, length-take, length-drop, take-append-drop
 use Rattle.records.specs.Gate.ReplyLaws.{gives-injective}
 use Rattle.records.specs.Format.Syntax.{Terms, Goal, atom, Ancestor, called, Binding, Bet, unifier, Port, Event, event}
 use Rattle.records.specs.Format.Encode.{word, each, counted, goal-bytes, ancestor-bytes, bet-bytes, port-byte, event-bytes, event-record, record-of, record-head}
-use Rattle.records.specs.Writing.Patched.{Put, put-length, put-part, put-around, put-front}
+use Rattle.records.specs.Writing.Patched.{Put}
+use Rattle.records.specs.Writing.PatchedLaws.{put-length, put-part, put-around, put-front}
 use Rattle.records.specs.Ends.Range.{cut, Inside}
-use Rattle.records.specs.Writing.Emitted.{record-head-body}
-use Rattle.records.specs.Ends.Stands.{stands-join, stands-second, stands-cut}
+use Rattle.records.specs.Writing.EmittedLaws.{record-head-body}
+use Rattle.records.specs.Ends.StandsLaws.{stands-join, stands-second, stands-cut}
 use Rattle.records.specs.Ends.Places.{goal-end, part-ends, EventParts}
 use Rattle.records.specs.declared.put.Range.{Range}
 use Rattle.records.specs.declared.places.PartEnds.{PartEnds}
-use Rattle.records.specs.Gate.Reply.{reply-with}
+use Rattle.records.specs.Gate.Reply.{reply-with, answer-length}
 use Rattle.terms.specs.Unifier.Equality.{unifier-bytes}
 use Rattle.terms.specs.Standing.Accepted.{bets-at}
 use Rattle.stepper.specs.Rules.Machine.{gives}
@@ -27,7 +28,7 @@ use Rattle.stepper.specs.Services.Services.{record-limit}
 use Rattle.stepper.specs.Services.ServiceLaws.{fits-limit}
 use Rattle.stepper.specs.Plans.View.{event-view}
 use Rattle.stepper.specs.Plans.LayoutLaws.{goal-starts, goal-ends}
-use Rattle.stepper.specs.Step.Stepped.{given-length, Stepped, accepted-of}
+use Rattle.stepper.specs.Step.Stepped.{Stepped, accepted-of}
 use Rattle.stepper.specs.Step.Completed.{Gap, lent-part, handed-back, InOrder, unifier-front, unifier-back, unifier-ends, body-front, body-back, body-ends, Completed}
 use Rattle.stepper.specs.declared.emit.StepAnswer.{StepAnswer}
 use Rattle.stepper.specs.declared.view.View.{View}
@@ -79,7 +80,7 @@ module _ {s : List ℕ} {v : View} (o : InOrder s v) where
 pub stepped-completed : (e : Event) {before within after front middle back : List ℕ} {at next n : ℕ} {ends : PartEnds} {answer : StepAnswer} → 32768 ≤ length before
     → length (event-record e) ≤ 32768 → at ≡ length front → n ≡ length middle → front ++ (middle ++ back) ≡ event-record e → ends ≡ part-ends e
     → Put before at middle within next → Completed within front n back ends answer after → Stepped (limited-by record-limit false (gives e)) before answer after
-unfolding limited-by reply-with given-length
+unfolding limited-by reply-with answer-length
 stepped-completed e {before} {after = after} {answer = answer} h l a m is ends put c =
     rw (fits-limit e l, fitting-none) (record {
       number-is = ap (λ x. x .number) (c .is);

@@ -13,15 +13,18 @@ use Rattle.records.specs.Format.Encode.{term-bytes, port-byte}
 use Rattle.records.specs.Gate.Question.{values, question-number}
 use Rattle.records.specs.Format.HeadLaws.{Known}
 use Rattle.records.specs.Writing.Plan.{PlanInside}
-use Rattle.records.specs.Ends.Places.{goal-end, EventParts, event-parts}
+use Rattle.records.specs.Ends.Places.{goal-end, EventParts}
+use Rattle.records.specs.Ends.PlacesLaws.{event-parts}
 use Rattle.records.specs.declared.put.Range.{Range}
 use Rattle.records.specs.Gate.Gate.{tree}
 use Rattle.terms.specs.Theory.Outcome.{Unified, too-large, clash, unified-under}
 use Rattle.terms.specs.Standing.BetRow.{RuledBets}
 use Rattle.terms.specs.Values.Applied.{TermAt}
-use Rattle.terms.specs.Standing.Accepted.{bets-at, bets-moved, term-moved, accepted-bets, left-side, right-side}
+use Rattle.terms.specs.Standing.Accepted.{bets-at, bets-moved, term-moved}
+use Rattle.terms.specs.Standing.AcceptedLaws.{accepted-bets, left-side, right-side}
 use Rattle.terms.specs.Unifier.Equality.{unifier-bytes, UnifierAnswered}
-use Rattle.terms.specs.Unifier.Told.{UnifierHere, UnifierLong, Told, told}
+use Rattle.terms.specs.Unifier.Told.{UnifierHere, UnifierLong, Told}
+use Rattle.terms.specs.Unifier.ToldLaws.{told}
 use Rattle.terms.specs.declared.equality.UnifierAnswer.{UnifierAnswer}
 use Rattle.stepper.specs.declared.emit.StepAnswer.{StepAnswer}
 use Rattle.stepper.specs.Rules.Machine.{StepOutcome, gives}

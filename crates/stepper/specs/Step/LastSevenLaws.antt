@@ -15,12 +15,14 @@ use Rattle.records.specs.Gate.Question.{question-number, matches, values, local
 use Rattle.records.specs.Format.HeadLaws.{Known, bytes-all}
 use Rattle.records.specs.Format.Heads.{pick}
 use Rattle.records.specs.Ends.Range.{cut}
-use Rattle.records.specs.Ends.Same.{same-bytes, same-true, same-refl}
-use Rattle.records.specs.Ends.Stands.{stands-second, same-tree}
+use Rattle.records.specs.Ends.Same.{same-bytes}
+use Rattle.records.specs.Ends.SameLaws.{same-true, same-refl}
+use Rattle.records.specs.Ends.StandsLaws.{stands-second, same-tree}
 use Rattle.records.specs.Format.ItemLaws.{goal-exact}
 use Rattle.records.specs.Format.Exact.{bet-exact}
 use Rattle.records.specs.Gate.GateLaws.{program-tree, event-tree}
-use Rattle.records.specs.Ends.Places.{goal-end, EventParts, event-parts}
+use Rattle.records.specs.Ends.Places.{goal-end, EventParts}
+use Rattle.records.specs.Ends.PlacesLaws.{event-parts}
 use Rattle.records.specs.Gate.Gate.{tree}
 use Rattle.records.specs.declared.plan.Plan.{Plan}
 use Rattle.terms.specs.Theory.Outcome.{Unified, too-large, clash, unified, unified-under}
@@ -31,13 +33,15 @@ use Rattle.terms.specs.Standing.BetRow.{RuledBets}
 use Rattle.terms.specs.Values.Applied.{TermAt}
 use Rattle.terms.specs.Body.BodyBytes.{AtomAt}
 use Rattle.terms.specs.Unifier.Equality.{unifier-bytes}
-use Rattle.terms.specs.Standing.Accepted.{top-end, bets-at, frame-under, bets-moved, term-moved, atom-moved, accepted-rest, left-side, right-side, parts-under}
+use Rattle.terms.specs.Standing.Accepted.{top-end, bets-at, frame-under, bets-moved, term-moved, atom-moved}
+use Rattle.terms.specs.Standing.AcceptedLaws.{accepted-rest, left-side, right-side, parts-under}
 use Rattle.terms.specs.declared.variables.Frame.{Frame}
 use Rattle.terms.specs.Unifier.Told.{UnifierHere, UnifierLong, BodyHere, BodyLong}
 use Rattle.stepper.specs.Rules.Machine.{unified?, body?, StepOutcome, gives, Machine, refused}
 use Rattle.stepper.specs.Plans.View.{event-view}
 use Rattle.stepper.specs.Plans.ViewLaws.{top-stands, rest-stands}
-use Rattle.stepper.specs.Plans.Made.{Cuts, cuts, put-cuts, Plans}
+use Rattle.stepper.specs.Plans.Made.{Cuts, Plans}
+use Rattle.stepper.specs.Plans.MadeLaws.{cuts, put-cuts}
 use Rattle.stepper.specs.Plans.LayoutLaws.{goal-starts, goal-ends, goal-stops, bet-dropped-plans, atom-left-plans}
 use Rattle.stepper.specs.Rules.AdmittedLaws.{back-refuses}
 use Rattle.stepper.specs.Step.AtomStep.{ProgramRead}

@@ -7,7 +7,7 @@ use Rattle.records.specs.Format.Syntax.{call, fail, Event, event}
 use Rattle.records.specs.Gate.Question.{matches, question-number}
 use Rattle.records.specs.Format.HeadLaws.{Known}
 use Rattle.records.specs.Gate.Gate.{tree, read-event}
-use Rattle.records.specs.Ends.Places.{event-parts}
+use Rattle.records.specs.Ends.PlacesLaws.{event-parts}
 use Rattle.stepper.specs.Rules.Machine.{Machine, refused}
 use Rattle.stepper.specs.Rules.Rules.{rule, step-forward, candidate, step-back}
 use Rattle.stepper.specs.Services.Services.{record-limit, machine}

@@ -4,11 +4,10 @@ use mathlib.Core.Path.{_≡_}
 use mathlib.Core.Bool.{false}
 use mathlib.Core.List.{List}
 use Prim.Native.Nat.{ℕ}
-use lib.ListN.{length}
 use Rattle.records.specs.Format.Syntax.{Event}
 use Rattle.records.specs.Format.Encode.{event-record}
 use Rattle.records.specs.Gate.Question.{Question, question-number}
-use Rattle.records.specs.Gate.Reply.{answer-number}
+use Rattle.records.specs.Gate.Reply.{answer-number, answer-length}
 use Rattle.records.specs.Gate.Door.{gate}
 pub use Rattle.records.specs.Gate.Door.{BothPassed}
 use Rattle.records.specs.Gate.Gate.{read-program, read-event}
@@ -21,15 +20,10 @@ use Rattle.stepper.specs.Rules.Rules.{limited-by}
 use Rattle.stepper.specs.Services.Services.{record-limit, reply}
 use Rattle.stepper.specs.Plans.Made.{Plans}
 
--- how long the record of an answer's event is; a refusal has none
-unfoldable pub given-length : StepOutcome → ℕ
-given-length (refused q) = 0
-given-length (gives e) = length (event-record e)
-
 -- the number, the length of the record that was written, where its parts end, and the output afterwards are the answer's
 pub record Stepped (a : StepOutcome) (before : List ℕ) (answer : StepAnswer) (after : List ℕ) : Type 0 where
   pub number-is : answer .number ≡ reply before a .number
-  pub length-is : answer .length ≡ given-length a
+  pub length-is : answer .length ≡ answer-length event-record a
   pub ends-are : (e : Event) → a ≡ gives e → answer .ends ≡ part-ends e
   pub output-is : after ≡ reply before a .output
 

@@ -1,39 +1,40 @@
 -- Laws of a step's answer: refused, or emitted from a plan; and what the gate's number says.
 use mathlib.Core.Path.{_≡_, refl, sym, _∙_, ap}
-use mathlib.Core.Bool.{Bool, true, false}
+use mathlib.Core.Bool.{false}
 use mathlib.Core.List.{List}
 use mathlib.Core.Option.{none}
 use Prim.Native.Nat.{ℕ, _≤_, _<_}
-use lib.Dec.{ltb}
 use lib.ListN.{length}
-use borrow.Author.Tests.{le-ltb, ltb-false, lt-ltb}
+use borrow.Author.Tests.{lt-ltb}
 use Rattle.records.specs.Format.Syntax.{Event, event}
 use Rattle.records.specs.Format.Encode.{event-record}
-use Rattle.records.specs.Gate.Question.{Question, output, fits, question-number}
+use Rattle.records.specs.Gate.Question.{Question, fits, question-number}
 use Rattle.records.specs.Gate.Gate.{tree, read-program, read-event}
 use Rattle.records.specs.Ends.Places.{part-ends}
-use Rattle.records.specs.Writing.Emitted.{Emitted, outcome}
+use Rattle.records.specs.Writing.Emitted.{Emitted}
 use Rattle.records.specs.Writing.Plan.{planned, PlanInside, plan-ends}
 use Rattle.records.specs.declared.plan.Plan.{Plan}
 use Rattle.records.specs.declared.put.Receipt.{Receipt}
 use Rattle.records.specs.Format.HeadLaws.{Known, bytes-all}
 use Rattle.records.specs.Gate.GateLaws.{event-tree}
-use Rattle.records.specs.Gate.Reply.{through, reply-with, Replied}
-use Rattle.records.specs.Gate.ReplyLaws.{number-positive, number-refuses, gives-injective, refused-not-gives}
+use Rattle.records.specs.Gate.Reply.{through, reply-with, Replied, answer-length, Receipted}
+use Rattle.records.specs.Gate.ReplyLaws.{number-positive, number-refuses, gives-injective, refused-not-gives, reply-number, receipted-bytes}
 use Rattle.records.specs.Gate.Door.{gate}
-use Rattle.records.specs.Gate.DoorLaws.{gate-both, gate-open}
+use Rattle.records.specs.Gate.DoorLaws.{room-enough, gate-both, gate-open}
 use Rattle.stepper.specs.declared.emit.StepAnswer.{StepAnswer}
 use Rattle.stepper.specs.Rules.Machine.{StepOutcome, refused, gives}
 use Rattle.stepper.specs.Walks.Walk.{Direction}
 use Rattle.stepper.specs.Rules.Rules.{fitting, limited-by, step}
 use Rattle.stepper.specs.Services.Services.{too-long, record-limit, machine, step-answer, step-record}
-use Rattle.stepper.specs.Services.ServiceLaws.{read-recordable}
-use Rattle.stepper.specs.Services.Desk.{layers, lawful}
+use Rattle.stepper.specs.Services.ServiceLaws.{limit-fits, emit-answer-event, read-recordable}
+use Rattle.stepper.specs.Rules.AnswerLaws.{fitting-put}
+use Rattle.stepper.specs.Services.Desk.{layers}
+use Rattle.stepper.specs.Services.DeskLaws.{lawful}
 use Rattle.stepper.specs.Plans.Made.{Plans}
-use Rattle.stepper.specs.Step.Stepped.{given-length, Stepped, refusal-of, accepted-of, Determines, refuses, emits, BothPassed, gate-number}
+use Rattle.stepper.specs.Step.Stepped.{Stepped, refusal-of, accepted-of, Determines, refuses, emits, BothPassed, gate-number}
 
 pub stepped-refused : {before : List ℕ} {n : ℕ} (q : Question) → n ≡ question-number q → Stepped (refused q) before (refusal-of n) before
-unfolding given-length reply-with question-number
+unfolding answer-length reply-with question-number
 stepped-refused q e = record { number-is = e; length-is = refl; ends-are = λ c k. absurd (refused-not-gives k); output-is = refl }
 
 -- a record that is too long is refused
@@ -46,35 +47,29 @@ module _ {s : List ℕ} {p : Plan} {e : Event} {before after : List ℕ} {emit :
   abbrev its-answer : StepOutcome
   its-answer = limited-by record-limit false (gives e)
 
-  abbrev is-long : Bool
-  is-long = ltb 32768 (length (event-record e))
-
-  emitted : Emitted before (event-record e) emit after
-  emitted = rw (w .is) at m
+  emitted : Receipted event-record its-answer before emit after
+  unfolding limited-by
+  emitted = receipted-bytes event-record before its-answer (rw (w .is, emit-answer-event (length before) e, room-enough its-answer h) at m)
 
   pub stepped-unemitted : (emit .number ≡ 0 → ⊥) → Stepped its-answer before (refusal-of (emit .number)) after
-  unfolding outcome limited-by fitting record-limit too-long question-number
-  stepped-unemitted z = go is-long refl
-    where
-      go : (b : Bool) → is-long ≡ b → Stepped its-answer before (refusal-of (emit .number)) after
-      go true q =
-          let n : emit .number ≡ question-number fits = emitted .number ∙ rw (le-ltb _ _ h, q) in
-          let k : after ≡ before = emitted .output ∙ rw (le-ltb _ _ h, q) in
-          rw (q, k) (stepped-refused fits n)
-      go false q = absurd (z (emitted .number ∙ rw (le-ltb _ _ h, q)))
+  unfolding answer-length
+  stepped-unemitted z =
+      let r = number-refuses its-answer (emitted .number-is) z in
+      record {
+        number-is = emitted .number-is ∙ sym (reply-number event-record before its-answer);
+        length-is = sym (ap (answer-length event-record) (r .refuses));
+        ends-are = λ c k. absurd (refused-not-gives (sym (r .refuses) ∙ k));
+        output-is = emitted .output-is;
+      }
 
   pub stepped-emitted : emit .number ≡ 0 → Stepped its-answer before (accepted-of (emit .length) (plan-ends p)) after
-  unfolding outcome limited-by fitting record-limit too-long question-number reply-with given-length
-  stepped-emitted z = go is-long refl
-    where
-      go : (b : Bool) → is-long ≡ b → Stepped its-answer before (accepted-of (emit .length) (plan-ends p)) after
-      go true q = absurd (number-positive fits (sym (emitted .number ∙ rw (le-ltb _ _ h, q)) ∙ z))
-      go false q = rw q (record {
-        number-is = refl;
-        length-is = emitted .length ∙ rw (le-ltb _ _ h, q);
-        ends-are = λ c k. w .ends (ltb-false _ _ q) ∙ ap part-ends (gives-injective k);
-        output-is = emitted .output ∙ rw (le-ltb _ _ h, q);
-      })
+  unfolding limited-by
+  stepped-emitted z = record {
+    number-is = sym z ∙ emitted .number-is ∙ sym (reply-number event-record before its-answer);
+    length-is = emitted .length-is;
+    ends-are = λ c k. let g = fitting-put (record-limit e) (gives e) c k in w .ends (limit-fits e (g .0)) ∙ ap part-ends (gives-injective (g .1));
+    output-is = emitted .output-is;
+  }
 
 -- what a number and a plan determine
 module _ {n : ℕ} {p : Plan} {s : List ℕ} {a : StepOutcome} {before : List ℕ} where

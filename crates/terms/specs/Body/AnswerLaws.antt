@@ -6,14 +6,17 @@ use Prim.Native.Nat.{ℕ, _+_, _≤_, _<_, min}
 use native.Mathlib.Omega.{arith}
 use lib.ListN.{length, take}
 use borrow.Author.Tests.{le-leb, lt-leb}
-use Rattle.records.specs.Format.Never.{never}
 use Rattle.records.specs.Format.Syntax.{Goal, arity}
 use Rattle.records.specs.Format.Syntax.Goal.{atom}
 use Rattle.records.specs.Format.Encode.{word, terms-bytes, goal-bytes}
 use Rattle.records.specs.Format.Formed.{AtomFormed}
 use Rattle.records.specs.Format.Heads.{goal-head-at}
+use Rattle.records.specs.Gate.Question.{fits}
+use Rattle.records.specs.Gate.Reply.{on-yes, reply-with}
 use Rattle.records.specs.Writing.Patched.{Put}
-use Rattle.records.specs.Ends.Stands.{Stands, stands-second, stands-within, goal-stands}
+use Rattle.records.specs.Writing.PatchedLaws.{put-front}
+use Rattle.records.specs.Ends.Stands.{Stands}
+use Rattle.records.specs.Ends.StandsLaws.{stands-second, stands-within, goal-stands}
 use Rattle.records.specs.declared.heads.GoalHead.{GoalHead}
 use Rattle.records.specs.declared.heads.GoalHead.the-variants.{Atom}
 use Rattle.terms.specs.Body.Body.{too-many, undefined, defined, locals-beyond, next-variable, definition-of, body}
@@ -22,7 +25,7 @@ use Rattle.terms.specs.Standing.Frames.{GoalAt}
 use Rattle.terms.specs.Body.Definitions.{ProgramAt, find-definition}
 use Rattle.terms.specs.Body.DefinitionLaws.{absent-none, found-in}
 use Rattle.terms.specs.Body.Arguments.{ArgumentsAt, ArgumentTable, term-places}
-use Rattle.terms.specs.Body.BodyBytes.{AtomAt, numbered-goal, body-with, BodyAnswered}
+use Rattle.terms.specs.Body.BodyBytes.{AtomAt, numbered-goal, body-with, body-given, BodyAnswered}
 use Rattle.terms.specs.declared.variables.Frame.{Frame}
 use Rattle.terms.specs.declared.definitions.Place.{Place}
 use Rattle.terms.specs.declared.definitions.Lookup.{Lookup}
@@ -33,28 +36,24 @@ use Rattle.terms.specs.declared.body.BodyAnswer.the-variants.{TooMany, U
 -- a body that fits, and one that does not, by the length that was measured
 pub written-answer : {before after : List ℕ} (g : Goal) {n to : ℕ} → n ≡ min (length before + 1) (length (goal-bytes g)) → n ≤ length before
     → Put before 0 (goal-bytes g) after to → BodyAnswered before after (defined g) (Defined n)
-written-answer {before} {after} g {n} {to} is h p =
+unfolding body-given on-yes reply-with
+written-answer {before} g {n} is h p =
     let e : n ≡ length (goal-bytes g) = omega arith in
-    let q : to ≡ length (goal-bytes g) = p .place ∙ omega arith in
-    record {
-      is = rw (le-leb (length (goal-bytes g)) (length before) (omega arith)) (ap Defined e);
-      written = λ f i k. let z : g ≡ f = cc in rw (← z) (rw q at p);
-      kept = λ no. absurd (no n refl);
-    }
+    let l = le-leb (length (goal-bytes g)) (length before) (omega arith) in
+    record { is = rw l (ap Defined e); output-is = rw l (put-front p (omega arith)) }
 
 pub long-answer : {before : List ℕ} (g : Goal) {n : ℕ} → n ≡ min (length before + 1) (length (goal-bytes g)) → length before < n → BodyAnswered before before (defined g) TooLong
-long-answer {before} g is h = record {
-  is = rw (lt-leb (length (goal-bytes g)) (length before) (omega arith));
-  written = λ f i k. let z : g ≡ f = cc in absurd (omega (arith, ap (λ (x : Goal). length (goal-bytes x)) z));
-  kept = λ no. refl;
-}
+unfolding body-given on-yes reply-with
+long-answer {before} g is h = let l = lt-leb (length (goal-bytes g)) (length before) (omega arith) in record { is = rw l; output-is = rw l }
 
 -- nothing was written
 too-many-answer : (out : List ℕ) → BodyAnswered out out too-many TooMany
-too-many-answer out = record { is = refl; written = λ f q k. never cc; kept = λ n. refl }
+unfolding body-given reply-with
+too-many-answer out = record { is = refl; output-is = refl }
 
 undefined-answer : (out : List ℕ) → BodyAnswered out out undefined Undefined
-undefined-answer out = record { is = refl; written = λ f q k. never cc; kept = λ n. refl }
+unfolding body-given reply-with
+undefined-answer out = record { is = refl; output-is = refl }
 
 module _ {s : List ℕ} {f : Frame} (a : AtomAt s f) where
   atom-here : Stands s (f .goal) (goal-bytes (atom (a .predicate) (a .terms))) (a .frame .goal .end)

@@ -14,7 +14,8 @@ use Rattle.records.specs.Format.Encode.{term-bytes, terms-bytes}
 use Rattle.records.specs.Format.Formed.{TermsFormed}
 use Rattle.records.specs.Ends.EndLaws.{term-long}
 use Rattle.records.specs.Ends.Range.{cut, Inside}
-use Rattle.records.specs.Ends.Stands.{Stands, stands-first, stands-second, stands-within, stands-cut, stands-inside, term-ends}
+use Rattle.records.specs.Ends.Stands.{Stands}
+use Rattle.records.specs.Ends.StandsLaws.{stands-first, stands-second, stands-within, stands-cut, stands-inside, term-ends}
 use Rattle.records.specs.Ends.Traversal.{position, end-at}
 use Rattle.records.specs.declared.ends.Found.{Found}
 use Rattle.records.specs.declared.put.Range.{Range}

@@ -1,14 +1,15 @@
 -- The body of an atom in bytes: what stands where the code looks for it, what it writes, and what its answer means.
 use mathlib.Core.Path.{_≡_}
-use mathlib.Core.List.{List}
+use mathlib.Core.List.{List, []}
 use mathlib.Core.Bool.{cond}
-use Prim.Native.Nat.{ℕ, _≤_}
+use Prim.Native.Nat.{ℕ}
 use lib.Dec.{leb}
 use lib.ListN.{length}
 use Rattle.records.specs.Format.Syntax.{Terms, Goal}
 use Rattle.records.specs.Format.Syntax.Goal.{atom}
 use Rattle.records.specs.Format.Encode.{goal-bytes}
-use Rattle.records.specs.Writing.Patched.{Put}
+use Rattle.records.specs.Gate.Question.{locals, fits}
+use Rattle.records.specs.Gate.Reply.{Answer, refused, gives, on-yes, reply-with}
 use Rattle.terms.specs.Body.Body.{Body, too-many, undefined, defined, numbered, substitute-goal, locals-beyond}
 use Rattle.terms.specs.Standing.Frames.{FrameAt}
 use Rattle.terms.specs.declared.variables.Frame.{Frame}
@@ -43,8 +44,14 @@ body-refusal Undefined = 0
 body-refusal (Defined n) = 0
 body-refusal TooLong = 10
 
--- the answer is the body's; where the body fits it stands at the start of the output, with the rest as it was; else nothing changes
+-- what is written for a body into an output of so many bytes: questions 9 and 10, and then its bytes; of no body there are none
+unfoldable pub body-given : (room : ℕ) → Body → Answer (List ℕ)
+unfolding on-yes
+body-given room too-many = refused locals
+body-given room undefined = gives []
+body-given room (defined g) = on-yes fits (leb (length (goal-bytes g)) room) (gives (goal-bytes g))
+
+-- the answer and the output afterwards are the body's
 pub record BodyAnswered (before after : List ℕ) (b : Body) (r : BodyAnswer) : Type 0 where
   pub is : r ≡ body-answer (length before) b
-  pub written : (g : Goal) → b ≡ defined g → length (goal-bytes g) ≤ length before → Put before 0 (goal-bytes g) after (length (goal-bytes g))
-  pub kept : ((n : ℕ) → r ≡ Defined n → ⊥) → after ≡ before
+  pub output-is : after ≡ reply-with (λ x. x) before (body-given (length before) b) .output

@@ -17,7 +17,8 @@ use Rattle.records.specs.Format.Heads.{definition-head-at, word-at}
 use Rattle.records.specs.Format.Items.{read-definition}
 use Rattle.records.specs.Format.Exact.{definition-exact}
 use Rattle.records.specs.Ends.Traversal.{end-of}
-use Rattle.records.specs.Ends.Stands.{Stands, stands-first, stands-second, stands-within, stands-ends, definition-stands, word-stands}
+use Rattle.records.specs.Ends.Stands.{Stands}
+use Rattle.records.specs.Ends.StandsLaws.{stands-first, stands-second, stands-within, stands-ends, definition-stands, word-stands}
 use Rattle.records.specs.declared.ends.Found.{Found}
 use Rattle.records.specs.declared.ends.Found.the-variants.{At, Nothing}
 use Rattle.records.specs.declared.heads.Signature.{Signature}
@@ -25,7 +26,8 @@ use Rattle.records.specs.declared.heads.Signature.the-variants.{Predicate, NoPr
 use Rattle.records.specs.declared.heads.Word.{Word}
 use Rattle.records.specs.declared.heads.Word.the-variants.{Number, Short}
 use Rattle.terms.specs.Body.Body.{defines, definition-of}
-use Rattle.terms.specs.Standing.Rows.{FirstOf, standing-first, standing-none}
+use Rattle.terms.specs.Standing.Rows.{FirstOf}
+use Rattle.terms.specs.Standing.RowsLaws.{standing-first, standing-none}
 use Rattle.terms.specs.declared.definitions.DefinitionHead.{DefinitionHead}
 use Rattle.terms.specs.declared.definitions.Place.{Place}
 use Rattle.terms.specs.declared.definitions.Lookup.{Lookup}

@@ -13,7 +13,7 @@ use Rattle.records.specs.Format.Syntax.Bet.{unifier, or, by}
 use Rattle.records.specs.Format.Encode.{word, tag, each, terms-bytes, goal-bytes, ancestor-bytes, binding-bytes, bet-bytes}
 use Rattle.records.specs.Format.Formed.{GoalFormed, AncestorFormed, BetFormed}
 use Rattle.records.specs.Gate.RecordRules.{goal-variables, ancestor-variables}
-use Rattle.records.specs.Gate.Kept.{term-met, terms-met, goal-met, along-raised}
+use Rattle.records.specs.Gate.KeptLaws.{term-met, terms-met, goal-met}
 use Rattle.records.specs.Format.Heads.{ancestor-head-at, bet-head-at, word-at}
 use Rattle.records.specs.Format.Reader.Parts.{parts}
 use Rattle.records.specs.Format.ReaderLaws.{parts-bytes}
@@ -22,7 +22,8 @@ use Rattle.records.specs.Ends.Traversal.{Node, Traversal, term-nodes, terms-nod
 use Rattle.records.specs.Ends.Traversal.Node.{variable}
 use Rattle.records.specs.Ends.Traversal.Traversal.{off, on}
 use Rattle.records.specs.Ends.Steps.{On, Tops}
-use Rattle.records.specs.Ends.Stands.{Stands, stands-second, stands-read, head-of-ancestor, ancestor-stands, head-of-bet, bet-stands, traverse-term, traverse-terms, traverse-goal}
+use Rattle.records.specs.Ends.Stands.{Stands, head-of-ancestor, head-of-bet}
+use Rattle.records.specs.Ends.StandsLaws.{stands-second, stands-read, ancestor-stands, bet-stands, traverse-term, traverse-terms, traverse-goal}
 use Rattle.records.specs.declared.heads.AncestorHead.{AncestorHead}
 use Rattle.records.specs.declared.heads.AncestorHead.the-variants.{Called, InConj, InDisj, NoAncestor}
 use Rattle.records.specs.declared.heads.BetHead.{BetHead}
@@ -34,8 +35,9 @@ use Rattle.records.specs.Ends.Above.{above}
 use Rattle.terms.specs.Body.Body.{ancestors-variables, next-variable}
 use Rattle.terms.specs.Body.Tops.{pair-variables, bet-variables, Member, member-variables, members-variables, MemberAt, StackAt, TopOf, PieceOf}
 use Rattle.terms.specs.Standing.Frames.{GoalAt, AncestorAt, PairAt, PairsAt, BetAt}
-use Rattle.terms.specs.Standing.Rows.{FirstOf, standing-first, standing-none, standing-none-end, standing-empty, standing-moved}
-use Rattle.terms.specs.Standing.BetRow.{pair-parts}
+use Rattle.terms.specs.Standing.Rows.{FirstOf, standing-empty, standing-moved}
+use Rattle.terms.specs.Standing.RowsLaws.{standing-first, standing-none, standing-none-end}
+use Rattle.terms.specs.Standing.BetRowLaws.{pair-parts}
 use Rattle.terms.specs.declared.variables.MemberTop.{MemberTop}
 use Rattle.terms.specs.declared.variables.StackKind.{StackKind}
 use Rattle.terms.specs.declared.variables.StackKind.the-variants.{Ancestors, Bets}
@@ -58,7 +60,7 @@ traverse-two {s} {at} {e} a b fa fb h =
 pub nodes-top : {w : Traversal} (l : List Node) (e : ℕ) {x : List ℕ} {r : Top} → w ≡ on l e → node-variables l ≡ x → Tops w r → TopOf x e r
 nodes-top l e {x} {r} q i t =
     let w : Tops (on l e) r = rw q at t in
-    record { top = w .top ∙ along-raised 0 (node-variables l) ∙ ap (λ (k : List ℕ). max 0 (above k)) i ∙ omega arith; end = w .end }
+    record { top = w .top ∙ ap above i; end = w .end }
 
 -- a goal
 pub goal-on : {s : List ℕ} {at : ℕ} (g : GoalAt s at) → On (traverse s at 0 1)

@@ -8,7 +8,8 @@ use lib.Seq.{take-at}
 use Rattle.records.specs.Format.Syntax.{Term}
 use Rattle.records.specs.Format.Encode.{term-bytes}
 use Rattle.records.specs.Format.Formed.{TermFormed}
-use Rattle.records.specs.Writing.Patched.{Put, put-then, put-front}
+use Rattle.records.specs.Writing.Patched.{Put}
+use Rattle.records.specs.Writing.PatchedLaws.{put-then, put-front}
 use Rattle.terms.specs.Classes.Forest.{node-count, row, rows, term-kind, term-number}
 use Rattle.terms.specs.Classes.ForestLaws.{row-length, rows-length, count-bytes}
 use Rattle.terms.specs.Classes.Laid.{Loads, Layable, Linkable, Links, pair, Lays}

@@ -9,9 +9,11 @@ use Rattle.records.specs.Format.Syntax.Term.{var, app}
 use Rattle.records.specs.Format.Syntax.Terms.{nil, cons}
 use Rattle.records.specs.Format.Encode.{word, term-bytes, terms-bytes}
 use Rattle.records.specs.Format.Formed.{TermFormed, TermsFormed}
-use Rattle.records.specs.Writing.Patched.{Put, put-none, put-set, put-then}
+use Rattle.records.specs.Writing.Patched.{Put}
+use Rattle.records.specs.Writing.PatchedLaws.{put-none, put-set, put-then}
 use Rattle.records.specs.Format.Heads.{term-head-at}
-use Rattle.records.specs.Ends.Stands.{Stands, stands-first, stands-second, stands-within, term-stands, head-of-term}
+use Rattle.records.specs.Ends.Stands.{Stands, head-of-term}
+use Rattle.records.specs.Ends.StandsLaws.{stands-first, stands-second, stands-within, term-stands}
 use Rattle.terms.specs.Classes.Forest.{joined-forest, row, rows, term-kind, term-number}
 use Rattle.terms.specs.Classes.ForestLaws.{joined-forest-bytes, joined-rows, joined-formed, count-bytes, count-positive}
 use Rattle.terms.specs.Classes.Laid.{head-of, IsValue, RowsPut, Loads}

@@ -6,7 +6,7 @@ use mathlib.Core.Bool.{Bool, true, false, _||_, false≢true}
 use Prim.Native.Nat.{ℕ}
 use lib.Dec.{eqb}
 use borrow.Author.Tests.{eqb-true}
-use Rattle.records.specs.Gate.BoolLaws.{and-both}
+use Rattle.records.specs.Gate.RecordRulesLaws.{and-both}
 use Rattle.records.specs.Format.Formed.{All}
 use Rattle.records.specs.Gate.RecordRules.{every, member}
 use Rattle.terms.specs.Theory.Variables.{Among}

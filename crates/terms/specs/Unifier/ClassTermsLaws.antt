@@ -10,8 +10,9 @@ use Rattle.records.specs.Format.Syntax.Term.{var, app}
 use Rattle.records.specs.Format.Syntax.Terms.{nil, cons}
 use Rattle.records.specs.Format.Encode.{word, term-bytes, terms-bytes}
 use Rattle.records.specs.Format.Formed.{All}
-use Rattle.records.specs.Writing.Patched.{Put, put-none, put-then, put-tail, put-length}
-use Rattle.terms.specs.Values.Fitted.{tail-length}
+use Rattle.records.specs.Writing.Patched.{Put}
+use Rattle.records.specs.Writing.PatchedLaws.{put-none, put-then, put-tail, put-length}
+use Rattle.terms.specs.Values.FittedLaws.{tail-length}
 use Rattle.terms.specs.Theory.Substitution.{term-length, terms-length}
 use Rattle.terms.specs.Theory.SubstitutionLaws.{term-length-least, terms-length-cons}
 use Rattle.terms.specs.Classes.Nodes.{at, Nodes, count, In, kind, node-number, Path, TableNode, variable, symbol, Graph}

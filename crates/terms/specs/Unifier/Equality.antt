@@ -1,14 +1,15 @@
 -- The answer for an equality under a bet stack, and the bytes of its unifier.
 use mathlib.Core.Path.{_≡_}
-use mathlib.Core.List.{List}
-use mathlib.Core.Bool.{cond}
+use mathlib.Core.List.{List, []}
+use mathlib.Core.Bool.{cond, _&&_}
 use Prim.Native.Nat.{ℕ, _≤_}
 use lib.Dec.{leb}
 use lib.ListN.{length}
 use Rattle.records.specs.Format.Syntax.{Term, Binding}
 use Rattle.records.specs.Format.Encode.{term-bytes, binding-bytes, counted}
 use Rattle.records.specs.Format.Formed.{TermFormed}
-use Rattle.records.specs.Writing.Patched.{Put}
+use Rattle.records.specs.Gate.Question.{values, fits}
+use Rattle.records.specs.Gate.Reply.{Answer, refused, gives, on-yes, reply-with}
 use Rattle.terms.specs.Theory.Unify.{unify}
 use Rattle.records.specs.declared.put.Range.{Range}
 use Rattle.terms.specs.Theory.Outcome.{value-limit, Unified, too-large, clash, unified, as-unified, unified-under}
@@ -39,11 +40,17 @@ unifier-refusal Clash = 0
 unifier-refusal (Unifier n) = 0
 unifier-refusal TooLong = 10
 
--- the answer is the outcome's; a unifier that fits stands at the start of the output, with the rest as it was; else nothing changes
+-- what is written for an outcome into an output of so many bytes: questions 8 and 10, and then the unifier's bytes; of no unifier there are none
+unfoldable pub unifier-given : (room : ℕ) → Unified → Answer (List ℕ)
+unfolding on-yes
+unifier-given room too-large = refused values
+unifier-given room clash = gives []
+unifier-given room (unified σ) = on-yes fits (leb (length (unifier-bytes σ)) 32768 && leb (length (unifier-bytes σ)) room) (gives (unifier-bytes σ))
+
+-- the answer and the output afterwards are the outcome's
 pub record UnifierAnswered (before after : List ℕ) (u : Unified) (r : UnifierAnswer) : Type 0 where
   pub is : r ≡ unifier-answer (length before) u
-  pub written : (σ : List Binding) → u ≡ unified σ → {n : ℕ} → r ≡ Unifier n → Put before 0 (unifier-bytes σ) after n
-  pub kept : ((n : ℕ) → r ≡ Unifier n → ⊥) → after ≡ before
+  pub output-is : after ≡ reply-with (λ x. x) before (unifier-given (length before) u) .output
 
 -- a value within question 8's limit
 pub record OneValue (a : List ℕ) : Type 0 where

@@ -6,12 +6,13 @@ use native.Mathlib.Decide.{ℕ-discrete, decLt}
 use native.Mathlib.Omega.{arith}
 use Prim.Native.Nat.{ℕ, zero, suc, _+_, _-_, _≤_, _<_, min}
 use lib.ListN.{length, length-append}
-use Rattle.terms.specs.Values.NodeBytes.{each-append}
+use Rattle.terms.specs.Values.NodeBytesLaws.{each-append}
 use Rattle.records.specs.Format.Syntax.{Term, Binding}
 use Rattle.records.specs.Format.Syntax.Term.{var, app}
 use Rattle.records.specs.Format.Syntax.Binding.{bind}
 use Rattle.records.specs.Format.Encode.{word, binding-bytes, each, counted}
-use Rattle.records.specs.Writing.Patched.{Put, put-none, put-then}
+use Rattle.records.specs.Writing.Patched.{Put}
+use Rattle.records.specs.Writing.PatchedLaws.{put-none, put-then}
 use Rattle.terms.specs.Theory.Substitution.{Substitution, term-length}
 use Rattle.terms.specs.Theory.Unify.{put-binding, bindings}
 use Rattle.terms.specs.Theory.BindingsLaws.{Putting, itself, put, putting, bindings-none, bindings-append}

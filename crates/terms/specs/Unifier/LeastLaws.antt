@@ -10,10 +10,11 @@ use lib.ListN.{length, take, drop, set, length-set}
 use lib.Seq.{getD-set-same, getD-set-other}
 use borrow.Author.Tests.{eqb-true, eqb-false}
 use Rattle.records.specs.Format.Encode.{word}
-use Rattle.records.specs.Writing.Patched.{Put, put-then, put-tail, put-length}
+use Rattle.records.specs.Writing.Patched.{Put}
+use Rattle.records.specs.Writing.PatchedLaws.{put-then, put-tail, put-length}
 use Rattle.terms.specs.Classes.Nodes.{at, Nodes, count, In, node-number, IsVariable}
 use Rattle.terms.specs.Unifier.ClassTerms.{ClassTable, ClassFits, Wrote}
-use Rattle.terms.specs.Values.Fitted.{tail-length}
+use Rattle.terms.specs.Values.FittedLaws.{tail-length}
 use Rattle.terms.specs.Unifier.UnifierAnswer.{Classed, Bound, Tested, Least, Chosen, PairFits, PairPut}
 
 pub table-classed : {n : Nodes} {rep size : List ℕ} → ClassTable n rep size → Classed n rep

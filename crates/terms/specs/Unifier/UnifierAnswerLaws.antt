@@ -11,7 +11,8 @@ use Rattle.records.specs.Format.Never.{never}
 use Rattle.records.specs.Format.Syntax.{Term, Binding}
 use Rattle.records.specs.Format.Encode.{word, binding-bytes, each, counted}
 use Rattle.records.specs.Format.Formed.{TermFormed}
-use Rattle.records.specs.Writing.Patched.{Put, put-ahead}
+use Rattle.records.specs.Writing.Patched.{Put}
+use Rattle.records.specs.Writing.PatchedLaws.{put-ahead}
 use Rattle.records.specs.Ends.Above.{above}
 use Rattle.terms.specs.Theory.Substitution.{Substitution}
 use Rattle.terms.specs.Theory.Variables.{both-variables}

@@ -12,7 +12,7 @@ use Rattle.records.specs.Format.Syntax.{Term, Binding, Bet}
 use Rattle.records.specs.Format.Syntax.Term.{var}
 use Rattle.records.specs.Format.Syntax.Binding.{bind}
 use Rattle.records.specs.Format.Encode.{term-bytes}
-use Rattle.records.specs.Format.Formed.{TermFormed}
+use Rattle.records.specs.Format.Formed.{All, TermFormed, BetFormed}
 use Rattle.records.specs.Gate.RecordRules.{every, bet-rules}
 use Rattle.records.specs.Format.Heads.{word-at}
 use Rattle.records.specs.Ends.Stands.{Stands}
@@ -82,10 +82,11 @@ pub record PairTable (s places firsts : List ℕ) (i : ℕ) : Type 0 where
   pub places-held : i ≤ length places
   pub firsts-held : i ≤ length firsts
 
--- they are the pairs of these bets
+-- they are the pairs of these bets, which are well formed
 pub record PairsListed (bets : List Bet) (s places firsts : List ℕ) (i : ℕ) : Type 0 where
   pub table : PairTable s places firsts i
   pub are : table .bets ≡ bets
+  pub formed : All BetFormed bets
 
 -- what a look for v finds: the place in the tables of the last entry that binds it, or that there is none
 pub record FoundPair (bets : List Bet) (i v : ℕ) (r : Found) : Type 0 where

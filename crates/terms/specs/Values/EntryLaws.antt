@@ -12,7 +12,7 @@ use lib.Dec.{ltb}
 use lib.ListN.{length, getD, take, drop, length-append}
 use lib.Seq.{take-length}
 use borrow.Author.Tests.{eq-eqb, ne-eqb, ltb-false, not-true}
-use Rattle.records.specs.Gate.BoolLaws.{and-both}
+use Rattle.records.specs.Gate.RecordRulesLaws.{and-both}
 use Rattle.records.specs.Format.Never.{never}
 use Rattle.records.specs.Format.Syntax.{Term, Binding, Bet}
 use Rattle.records.specs.Format.Syntax.Term.{var}

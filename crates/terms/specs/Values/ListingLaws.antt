@@ -6,6 +6,7 @@ use native.Mathlib.Omega.{arith}
 use Prim.Native.Nat.{ℕ, _+_, _-_, _*_, _≤_, _<_}
 use lib.ListN.{length, set, length-append, length-set}
 use lib.Seq.{getD-set-same, getD-set-other}
+use Rattle.records.specs.Format.Formed.{All, BetFormed}
 use Rattle.records.specs.Format.Syntax.{Binding, Bet}
 use Rattle.records.specs.Format.Syntax.Binding.{bind}
 use Rattle.records.specs.Gate.RecordRules.{every, bet-rules}
@@ -13,12 +14,14 @@ use Rattle.records.specs.Format.Heads.{bet-head-at}
 use Rattle.records.specs.Format.Items.{read-bet}
 use Rattle.records.specs.Ends.Traversal.{position, end-at, end-of}
 use Rattle.records.specs.Format.Exact.{bet-exact}
-use Rattle.records.specs.Ends.Stands.{stands-within, stands-ends, term-ends}
+use Rattle.records.specs.Ends.StandsLaws.{stands-within, stands-ends, term-ends}
 use Rattle.records.specs.declared.ends.Found.{Found}
 use Rattle.terms.specs.Theory.SubstitutionLaws.{term-length-least}
-use Rattle.terms.specs.Standing.Rows.{FirstOf, standing-first}
+use Rattle.terms.specs.Standing.Rows.{FirstOf}
+use Rattle.terms.specs.Standing.RowsLaws.{standing-first}
 use Rattle.terms.specs.Standing.Frames.{PairAt, PairsAt, BetAt, BetsAt}
-use Rattle.terms.specs.Standing.BetRow.{RuledBets, bet-pairs, head-pairs, PairParts, pair-parts, head-pairs-are, pairs-of, bet-pairs-long}
+use Rattle.terms.specs.Standing.BetRow.{RuledBets, bet-pairs, head-pairs, PairParts}
+use Rattle.terms.specs.Standing.BetRowLaws.{pair-parts, head-pairs-are, pairs-of, bet-pairs-long}
 use Rattle.terms.specs.Values.EntryLaws.{entries-append, own-length}
 use Rattle.terms.specs.Values.Entries.{PairEntry, Entered, Entereds, PairsListed, own, pair-entries, PairsEntered}
 
@@ -131,13 +134,13 @@ unfolding pair-entries
 bets-start p = record { done = []; left = p .row; whole = refl; count = refl; entered = tt; few = omega arith; held = omega arith }
 
 module _ {s : List ℕ} {bets : List Bet} {places firsts : List ℕ} {at n k : ℕ} (u : BetsListing s bets places firsts at n k) where
-  pub bets-end : every bet-rules bets ≡ true → length firsts ≡ length places → n ≡ 0 → PairsListed bets s places firsts k
-  bets-end r m e = go (u .left .items) (u .whole) (u .left .many)
+  pub bets-end : All BetFormed bets → every bet-rules bets ≡ true → length firsts ≡ length places → n ≡ 0 → PairsListed bets s places firsts k
+  bets-end f r m e = go (u .left .items) (u .whole) (u .left .many)
     where
       go : (l : List Bet) → u .done ++ l ≡ bets → length l ≡ n → PairsListed bets s places firsts k
       go [] w c =
           let d : u .done ≡ bets = sym (append-nil (u .done)) ∙ w in
-          record { table = record { bets = u .done; rules = rw d r; count = u .count; entered = u .entered; places-held = u .held; firsts-held = omega (arith, u .held) }; are = d }
+          record { table = record { bets = u .done; rules = rw d r; count = u .count; entered = u .entered; places-held = u .held; firsts-held = omega (arith, u .held) }; are = d; formed = f }
       go (b ∷ l) w c = absurd (omega arith)
 
   module _ (h : 0 < n) where

@@ -21,16 +21,17 @@ use Rattle.records.specs.Gate.Door.{event-door}
 use Rattle.records.specs.Gate.DoorLaws.{room-enough, room-short}
 use Rattle.records.specs.Ends.Places.{event-places}
 use Rattle.records.specs.Ends.Range.{cut, Inside}
-use Rattle.records.specs.Ends.Stands.{stands-cut, stands-inside, stands-within}
+use Rattle.records.specs.Ends.StandsLaws.{stands-cut, stands-inside, stands-within}
 use Rattle.records.specs.Writing.Patched.{Put}
 use Rattle.records.specs.declared.places.Places.{Places}
 use Rattle.records.specs.declared.put.Receipt.{Receipt}
 use Rattle.terms.specs.Theory.Substitution.{apply}
 use Rattle.terms.specs.Theory.SubstitutionLaws.{term-length-least}
 use Rattle.terms.specs.Theory.Outcome.{value}
-use Rattle.terms.specs.Standing.Accepted.{accepted-bets}
+use Rattle.terms.specs.Standing.AcceptedLaws.{accepted-bets}
 use Rattle.terms.specs.Standing.BetRow.{RuledBets}
-use Rattle.terms.specs.Values.Answered.{Answered, answered-fits, answered-large, value-refusal}
+use Rattle.terms.specs.Values.Answered.{Answered, value-refusal}
+use Rattle.terms.specs.Values.AnsweredLaws.{answered-fits, answered-large}
 use Rattle.terms.specs.Values.ValueService.{within-limit, value-into, value-answer, bets-of}
 use Rattle.terms.specs.declared.substitute.Sized.{Sized}
 use Rattle.terms.specs.declared.substitute.Sized.the-variants.{Fits, TooLarge}

@@ -2,7 +2,7 @@
 use native.Mathlib.Omega.{arith}
 use Prim.Native.Nat.{_-_}
 use Rattle.records.specs.Format.Encode.{goal-bytes}
-use Rattle.records.specs.Writing.Patched.{put-length}
+use Rattle.records.specs.Writing.PatchedLaws.{put-length}
 use Rattle.canonical.specs.Form.Canonical.{branch}
 use Rattle.canonical.specs.Sorting.Entries.{clause-at}
 use Rattle.canonical.specs.Sorting.EntryLaws.{clause-within, head-read, head-unread}
@@ -39,7 +39,7 @@ loop-less : tie.Need-loop-less Inv-loop μ-loop
 loop-less c = omega arith
 
 loop-again : tie.Need-loop-again Inv-loop μ-loop
-loop-again c = equating-next (c .before .before .before .before .before .loop .inv) (omega arith) (c .before .before .put-equation .ensures)
+loop-again c = equating-next (c .before .before .before .before .before .before .before .loop .inv) (omega arith) (c .before .before .before .before .put-equation .ensures) (c .before .term-end .ensures) (c .position .ensures)
 
 write-renamed-requires : tie.Need-write-renamed-requires Inv-loop μ-loop
 write-renamed-requires c κs = (goal-on (c .before .before .loop .inv) (omega arith), (c .before .before .before .before .before .before .before .before .before .pre .1 .0, goal-room (c .before .before .loop .inv) (omega arith) (c .before .before .before .before .before .before .before .before .before .pre .1 .1)))
@@ -63,6 +63,8 @@ put-branch-spec =
     add-pos
     loop-holds
     put-equation-requires
+    (λ c κs. search needs)
+    (λ c κs. search needs)
     add-x
     loop-less
     loop-again

@@ -1,8 +1,8 @@
 -- `put_equation`: two kind bytes, the variable and the term, one after the other.
 use native.Mathlib.Omega.{arith}
-use Rattle.canonical.specs.Writing.Equation.{equation-length, equation-put}
-use Rattle.records.specs.Writing.Patched.{put-length}
-use Rattle.terms.specs.Body.Numbering.{renamed}
+use Rattle.canonical.specs.Writing.EquationLaws.{equation-length, equation-put}
+use Rattle.records.specs.Writing.PatchedLaws.{put-length}
+use Rattle.terms.specs.Body.Renaming.{renamed}
 use Rattle.records.specs.Ends.Traversal.{traverse}
 use borrow.Author.Needs.{needs}
 use Rattle.canonical.proofs.branch.put_equation.Statement.{statement}

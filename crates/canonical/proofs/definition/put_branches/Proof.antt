@@ -3,7 +3,7 @@ use native.Mathlib.Omega.{arith}
 use Prim.Native.Nat.{_-_}
 use lib.ListN.{length}
 use Rattle.records.specs.Format.Encode.{goal-bytes}
-use Rattle.records.specs.Writing.Patched.{put-length}
+use Rattle.records.specs.Writing.PatchedLaws.{put-length}
 use Rattle.canonical.specs.Sorting.Entries.{clauses-in}
 use Rattle.canonical.specs.Sorting.EntryLaws.{group-clause}
 use Rattle.canonical.specs.Writing.Definition.{joined-branches}

@@ -1,6 +1,6 @@
 -- `put_definition`: the first clause's head, the totals and the branches are the definition's parts.
 use native.Mathlib.Omega.{arith}
-use Rattle.records.specs.Writing.Patched.{put-length}
+use Rattle.records.specs.Writing.PatchedLaws.{put-length}
 use Rattle.canonical.specs.Sorting.EntryLaws.{group-clause, head-unread}
 use Rattle.canonical.specs.Writing.DefinitionLaws.{arity-small, definition-size, definition-put}
 use borrow.Author.Needs.{needs}

@@ -3,7 +3,7 @@ use native.Mathlib.Omega.{arith}
 use Prim.Native.Nat.{_-_}
 use lib.ListN.{length}
 use Rattle.records.specs.Format.Encode.{each, definition-bytes}
-use Rattle.canonical.specs.Writing.PartlyPut.{partly-length}
+use Rattle.canonical.specs.Writing.PartlyPutLaws.{partly-length}
 use Rattle.canonical.specs.Sorting.Remaining.{program-of}
 use Rattle.canonical.specs.Sorting.RemainingLaws.{remaining-next}
 use Rattle.canonical.specs.Writing.ProgramLaws.{Defining, defining-start, defining-locals, defining-room, defining-next, defining-end}

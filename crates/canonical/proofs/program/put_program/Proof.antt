@@ -1,7 +1,7 @@
 -- `put_program`: what the measuring says of questions 9 and 10.
 use mathlib.Core.Path.{sym, ap, _∙_}
 use native.Mathlib.Omega.{arith}
-use Rattle.records.specs.Writing.Patched.{put-length}
+use Rattle.records.specs.Writing.PatchedLaws.{put-length}
 use Rattle.canonical.specs.Writing.Program.{survey-refusal}
 use Rattle.canonical.specs.Writing.ReplyLaws.{program-measured, reply-refused, survey-fits, reply-whole}
 use borrow.Author.Needs.{needs}

@@ -1,6 +1,6 @@
 -- `put_record`: the head, the count and the definitions, one after the other.
 use native.Mathlib.Omega.{arith}
-use Rattle.records.specs.Writing.Patched.{put-length}
+use Rattle.records.specs.Writing.PatchedLaws.{put-length}
 use Rattle.canonical.specs.Writing.ReplyLaws.{program-measured, put-program}
 use Rattle.canonical.proofs.program.put_record.Statement.{statement}
 use Rattle.canonical.proofs.program.put_record.Tie as tie

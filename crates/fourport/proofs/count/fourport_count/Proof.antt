@@ -43,10 +43,10 @@ use denote.Triple.Clauses.{ensured, lasts}
 use denote.Exit.{yes}
 use Rattle.stepper.specs.Services.Counts.{count-record}
 use Rattle.stepper.specs.Services.PortCounts.{counts-of, reply-of}
-use Rattle.stepper.specs.declared.counts.Counts.{Counts}
+use Rattle.stepper.specs.declared.counts.PortCounts.{PortCounts}
 use Rattle.stepper.specs.declared.counts.CountAnswer.{CountAnswer}
-use Rattle.stepper.proofs.counts.Counts as T
-use Rattle.stepper.proofs.counts.Counts.Laws as T′
+use Rattle.stepper.proofs.counts.PortCounts as T
+use Rattle.stepper.proofs.counts.PortCounts.Laws as T′
 use Rattle.stepper.proofs.counts.CountAnswer as R
 use Rattle.stepper.proofs.counts.CountAnswer.Laws as R′
 use Rattle.stepper.proofs.counts.count as g
@@ -62,7 +62,7 @@ abbrev stayed : Stays (f.ended .signature .params) (f.ended .kept)
 stayed = (stay-ref (0 ∷ []) tt (plain (λ _. T.the-row)), (stay-none-slice (1 ∷ []) tt (plain (λ _. u8)) yes, tt))
 
 -- the machine values of counts, and the one of an answer
-abbrev vals : Counts → List Val
+abbrev vals : PortCounts → List Val
 vals = LL.vals T.the-type T′.the-laws
 
 abbrev val : CountAnswer → Val
@@ -73,8 +73,8 @@ module _ {M : Type 1} (𝓤 : URA M) (H : Heap 𝓤) (A : Atoms 𝓤) (at-mem : 
   abbrev Callee : Contract 𝓤
   Callee = tripleOf 𝓤 H A g.signature (g.spec 𝓤 H A at-mem run)
 
-module _ {M : Type 1} (𝓤 : URA M) (H : Heap 𝓤) (A : Atoms 𝓤) (W : Given 𝓤 H A) (at-mem : Memory → SProp 𝓤) (run : Routine → Fun 𝓤) (κ κ′ : Lft) (q q′ : Share) (b o : ℕ) (γ : GName) (h : Counts) (s : RefT (List ℕ)) where
-  abbrev x : RefT Counts × (RefT (List ℕ) × Unit {0})
+module _ {M : Type 1} (𝓤 : URA M) (H : Heap 𝓤) (A : Atoms 𝓤) (W : Given 𝓤 H A) (at-mem : Memory → SProp 𝓤) (run : Routine → Fun 𝓤) (κ κ′ : Lft) (q q′ : Share) (b o : ℕ) (γ : GName) (h : PortCounts) (s : RefT (List ℕ)) where
+  abbrev x : RefT PortCounts × (RefT (List ℕ) × Unit {0})
   x = (record { ptr = (b, o); name = γ; now = h }, (s, tt))
 
   -- the machine value of the event's slice

@@ -1,4 +1,5 @@
-use Rattle.records.specs.Ends.Same.{same-bytes, from-on, same-start, same-next, same-end, differ-here}
+use Rattle.records.specs.Ends.Same.{same-bytes, from-on}
+use Rattle.records.specs.Ends.SameLaws.{same-start, same-next, same-end, differ-here}
 use lib.ListN.{take, drop}
 use mathlib.Core.Path.{_≡_, sym, _∙_}
 use Prim.Native.Nat.{_-_, _≤_}

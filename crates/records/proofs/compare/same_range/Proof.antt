@@ -1,4 +1,4 @@
-use Rattle.records.specs.Ends.Same.{differ-size, same-size}
+use Rattle.records.specs.Ends.SameLaws.{differ-size, same-size}
 use native.Mathlib.Omega.{arith}
 use borrow.Author.Needs.{needs}
 use Rattle.records.proofs.compare.same_range.Statement.{statement}

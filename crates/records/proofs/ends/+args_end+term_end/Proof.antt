@@ -1,7 +1,7 @@
 use native.Mathlib.Omega.{arith}
 use Prim.Native.Nat.{ℕ, _+_, _*_, _-_, _<_}
 use lib.ListN.{length}
-use Rattle.records.specs.Ends.HeadRoom.{term-room}
+use Rattle.records.specs.Ends.HeadRoomLaws.{term-room}
 use Rattle.records.specs.declared.heads.TermHead.the-variants.{Variable, Symbol}
 use Rattle.records.proofs.EndSteps.{variable-end, symbol-end, no-end, no-args, args-more, args-stop, args-bound}
 use borrow.Author.Needs.{needs}

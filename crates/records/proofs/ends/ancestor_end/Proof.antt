@@ -1,6 +1,6 @@
 use Rattle.records.specs.declared.heads.AncestorHead.the-variants.{Called, InConj, InDisj, NoAncestor}
-use Rattle.records.specs.Ends.ItemEnds.{ancestor-ends}
-use Rattle.records.specs.Ends.HeadRoom.{ancestor-room}
+use Rattle.records.specs.Ends.ItemEndsLaws.{ancestor-ends}
+use Rattle.records.specs.Ends.HeadRoomLaws.{ancestor-room}
 use mathlib.Core.Path.{_∙_}
 use native.Mathlib.Omega.{arith}
 use borrow.Author.Needs.{needs}

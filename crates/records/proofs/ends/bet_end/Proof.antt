@@ -1,6 +1,6 @@
 use Rattle.records.specs.declared.heads.BetHead.the-variants.{Unifier, Or, By, NoBet}
-use Rattle.records.specs.Ends.ItemEnds.{bet-ends}
-use Rattle.records.specs.Ends.HeadRoom.{bet-room}
+use Rattle.records.specs.Ends.ItemEndsLaws.{bet-ends}
+use Rattle.records.specs.Ends.HeadRoomLaws.{bet-room}
 use mathlib.Core.Path.{_∙_}
 use native.Mathlib.Omega.{arith}
 use borrow.Author.Needs.{needs}

@@ -1,6 +1,6 @@
 use Rattle.records.specs.declared.heads.Word.the-variants.{Number, Short}
-use Rattle.records.specs.Ends.ItemEnds.{binding-ends}
-use Rattle.records.specs.Ends.HeadRoom.{word-room}
+use Rattle.records.specs.Ends.ItemEndsLaws.{binding-ends}
+use Rattle.records.specs.Ends.HeadRoomLaws.{word-room}
 use mathlib.Core.Path.{_∙_}
 use native.Mathlib.Omega.{arith}
 use borrow.Author.Needs.{needs}

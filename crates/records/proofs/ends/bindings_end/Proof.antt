@@ -1,4 +1,4 @@
-use Rattle.records.specs.Ends.ItemEnds.{none-ends, more-ends, never-ends}
+use Rattle.records.specs.Ends.ItemEndsLaws.{none-ends, more-ends, never-ends}
 use Rattle.records.specs.Ends.Traversal.{end-of}
 use Rattle.records.specs.Format.Items.{many, read-binding}
 use mathlib.Core.Path.{_≡_, refl, sym, _∙_}

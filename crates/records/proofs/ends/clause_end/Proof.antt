@@ -1,6 +1,6 @@
 use Rattle.records.specs.declared.heads.Signature.the-variants.{Predicate, NoPredicate}
-use Rattle.records.specs.Ends.ItemEnds.{clause-ends}
-use Rattle.records.specs.Ends.HeadRoom.{clause-room}
+use Rattle.records.specs.Ends.ItemEndsLaws.{clause-ends}
+use Rattle.records.specs.Ends.HeadRoomLaws.{clause-room}
 use mathlib.Core.Path.{_∙_}
 use native.Mathlib.Omega.{arith}
 use borrow.Author.Needs.{needs}

@@ -1,6 +1,6 @@
 use Rattle.records.specs.declared.heads.Signature.the-variants.{Predicate, NoPredicate}
-use Rattle.records.specs.Ends.ItemEnds.{definition-ends}
-use Rattle.records.specs.Ends.HeadRoom.{definition-room}
+use Rattle.records.specs.Ends.ItemEndsLaws.{definition-ends}
+use Rattle.records.specs.Ends.HeadRoomLaws.{definition-room}
 use mathlib.Core.Path.{_∙_}
 use native.Mathlib.Omega.{arith}
 use borrow.Author.Needs.{needs}

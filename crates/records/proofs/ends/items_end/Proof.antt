@@ -1,4 +1,5 @@
-use Rattle.records.specs.Ends.ItemEnds.{items-end, no-items, more-items, never-items}
+use Rattle.records.specs.Ends.ItemEnds.{items-end}
+use Rattle.records.specs.Ends.ItemEndsLaws.{no-items, more-items, never-items}
 use mathlib.Core.Path.{_≡_, refl, sym, _∙_}
 use native.Mathlib.Omega.{arith}
 use borrow.Author.Needs.{needs}

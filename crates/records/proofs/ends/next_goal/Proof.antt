@@ -1,6 +1,6 @@
 use Rattle.records.specs.declared.heads.GoalHead.the-variants.{Truth, Failure, Equal, Conj, Disj, Atom, NoGoal}
 use Rattle.records.specs.Ends.EndLaws.{announced, next-arm}
-use Rattle.records.specs.Ends.HeadRoom.{goal-room}
+use Rattle.records.specs.Ends.HeadRoomLaws.{goal-room}
 use mathlib.Core.Path.{ap, _∙_}
 use native.Mathlib.Omega.{arith}
 use borrow.Author.Needs.{needs}

@@ -1,4 +1,4 @@
-use Rattle.records.specs.Gate.EventEnds.{no-event, no-event-goal, event-bets}
+use Rattle.records.specs.Gate.EventEndsLaws.{no-event, no-event-goal, event-bets}
 use native.Mathlib.Omega.{arith}
 use borrow.Author.Needs.{needs}
 use Rattle.records.proofs.gate.bets_place.Statement.{statement}

@@ -1,5 +1,5 @@
-use Rattle.records.specs.Gate.EventEnds.{bets-read, bets-unread}
-use Rattle.records.specs.Gate.Rows.{ends-at}
+use Rattle.records.specs.Gate.EventEndsLaws.{bets-read, bets-unread}
+use Rattle.records.specs.Gate.RowsLaws.{ends-at}
 use mathlib.Core.Path.{sym, _∙_}
 use borrow.Author.Needs.{needs}
 use Rattle.records.proofs.gate.bets_verdict.Statement.{statement}

@@ -1,6 +1,6 @@
-use Rattle.records.specs.Gate.Rows.{ends-at}
-use Rattle.records.specs.Gate.GateEnds.{refuses}
-use Rattle.records.specs.Gate.CountedEnds.{clauses-unread, clauses-judged}
+use Rattle.records.specs.Gate.RowsLaws.{ends-at}
+use Rattle.records.specs.Gate.GateEndsLaws.{refuses}
+use Rattle.records.specs.Gate.CountedEndsLaws.{clauses-unread, clauses-judged}
 use mathlib.Core.Path.{sym, _∙_}
 use borrow.Author.Needs.{needs}
 use Rattle.records.proofs.gate.clauses_verdict.Statement.{statement}

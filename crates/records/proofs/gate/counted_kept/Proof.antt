@@ -1,6 +1,6 @@
-use Rattle.records.specs.Gate.CountedEnds.{row-kept, row-found, row-lost}
+use Rattle.records.specs.Gate.CountedEndsLaws.{row-kept, row-found, row-lost}
 use Rattle.records.specs.declared.heads.Word.the-variants.{Number}
-use Rattle.records.specs.Ends.HeadRoom.{word-room}
+use Rattle.records.specs.Ends.HeadRoomLaws.{word-room}
 use mathlib.Core.Path.{_∙_}
 use native.Mathlib.Omega.{arith}
 use borrow.Author.Needs.{needs}

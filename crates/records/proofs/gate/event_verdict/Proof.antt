@@ -1,5 +1,5 @@
-use Rattle.records.specs.Gate.GateEnds.{refuses}
-use Rattle.records.specs.Gate.EventEnds.{event-unread, event-judged}
+use Rattle.records.specs.Gate.GateEndsLaws.{refuses}
+use Rattle.records.specs.Gate.EventEndsLaws.{event-unread, event-judged}
 use borrow.Author.Needs.{needs}
 use Rattle.records.proofs.gate.event_verdict.Statement.{statement}
 use Rattle.records.proofs.gate.event_verdict.Tie as tie

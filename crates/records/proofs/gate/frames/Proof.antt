@@ -1,4 +1,4 @@
-use Rattle.records.specs.Gate.GateEnds.{short-frame, long-frame, frame-by, no-frame}
+use Rattle.records.specs.Gate.GateEndsLaws.{short-frame, long-frame, frame-by, no-frame}
 use native.Mathlib.Omega.{arith}
 use borrow.Author.Needs.{needs}
 use Rattle.records.proofs.gate.frames.Statement.{statement}

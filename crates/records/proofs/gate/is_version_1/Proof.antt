@@ -1,4 +1,4 @@
-use Rattle.records.specs.Gate.GateEnds.{version-by}
+use Rattle.records.specs.Gate.GateEndsLaws.{version-by}
 use borrow.Author.Needs.{needs}
 use Rattle.records.proofs.gate.is_version_1.Statement.{statement}
 use Rattle.records.proofs.gate.is_version_1.Tie as tie

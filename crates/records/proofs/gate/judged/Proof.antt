@@ -1,6 +1,6 @@
 use native.Mathlib.Omega.{arith}
 use mathlib.Core.Bool.{true, false}
-use Rattle.records.specs.Gate.GateEnds.{more-bytes, last-byte}
+use Rattle.records.specs.Gate.GateEndsLaws.{more-bytes, last-byte}
 use Rattle.records.proofs.gate.judged.Statement.{statement}
 use Rattle.records.proofs.gate.judged.Tie as tie
 

@@ -1,4 +1,4 @@
-use Rattle.records.specs.Gate.GateEnds.{unframed, other-version, opened, framed-length}
+use Rattle.records.specs.Gate.GateEndsLaws.{unframed, other-version, opened, framed-length}
 use borrow.Author.Tests.{not-true, not-false}
 use mathlib.Core.Path.{sym, _∙_}
 use Rattle.records.proofs.gate.opening_of.Statement.{statement}

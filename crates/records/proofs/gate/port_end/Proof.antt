@@ -1,4 +1,4 @@
-use Rattle.records.specs.Gate.EventEnds.{past-port, port-at, no-port}
+use Rattle.records.specs.Gate.EventEndsLaws.{past-port, port-at, no-port}
 use native.Mathlib.Omega.{arith}
 use borrow.Author.Needs.{needs}
 use Rattle.records.proofs.gate.port_end.Statement.{statement}

@@ -1,4 +1,4 @@
-use Rattle.records.specs.Gate.CountedEnds.{program-falls, program-rising, definitions-ends}
+use Rattle.records.specs.Gate.CountedEndsLaws.{program-falls, program-rising, definitions-ends}
 use borrow.Author.Tests.{not-true, not-false}
 use Rattle.records.proofs.gate.program_kept.Statement.{statement}
 use Rattle.records.proofs.gate.program_kept.Tie as tie

@@ -1,4 +1,4 @@
-use Rattle.records.specs.Gate.CountedEnds.{program-row, definitions-found, definitions-lost}
+use Rattle.records.specs.Gate.CountedEndsLaws.{program-row, definitions-found, definitions-lost}
 use mathlib.Core.Path.{_∙_}
 use borrow.Author.Needs.{needs}
 use Rattle.records.proofs.gate.program_rises.Statement.{statement}

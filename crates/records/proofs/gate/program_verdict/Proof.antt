@@ -1,5 +1,5 @@
-use Rattle.records.specs.Gate.GateEnds.{refuses}
-use Rattle.records.specs.Gate.CountedEnds.{program-unread, program-judged, program-found}
+use Rattle.records.specs.Gate.GateEndsLaws.{refuses}
+use Rattle.records.specs.Gate.CountedEndsLaws.{program-unread, program-judged, program-found}
 use borrow.Author.Needs.{needs}
 use Rattle.records.proofs.gate.program_verdict.Statement.{statement}
 use Rattle.records.proofs.gate.program_verdict.Tie as tie

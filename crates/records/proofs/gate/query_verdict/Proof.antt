@@ -1,6 +1,6 @@
 use native.Mathlib.Omega.{arith}
-use Rattle.records.specs.Gate.GateEnds.{refuses}
-use Rattle.records.specs.Gate.CountedEnds.{query-unread, query-judged}
+use Rattle.records.specs.Gate.GateEndsLaws.{refuses}
+use Rattle.records.specs.Gate.CountedEndsLaws.{query-unread, query-judged}
 use borrow.Author.Needs.{needs}
 use Rattle.records.proofs.gate.query_verdict.Statement.{statement}
 use Rattle.records.proofs.gate.query_verdict.Tie as tie

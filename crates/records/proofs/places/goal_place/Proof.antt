@@ -1,4 +1,4 @@
-use Rattle.records.specs.Ends.Places.{goal-is, goal-off}
+use Rattle.records.specs.Ends.PlacesLaws.{goal-is, goal-off}
 use native.Mathlib.Omega.{arith}
 use borrow.Author.Needs.{needs}
 use Rattle.records.proofs.places.goal_place.Statement.{statement}

@@ -1,4 +1,4 @@
-use Rattle.records.specs.Ends.Places.{ends-are}
+use Rattle.records.specs.Ends.PlacesLaws.{ends-are}
 use borrow.Author.Needs.{needs}
 use Rattle.records.proofs.places.part_ends.Statement.{statement}
 use Rattle.records.proofs.places.part_ends.Tie as tie

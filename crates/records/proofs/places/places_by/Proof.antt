@@ -1,4 +1,4 @@
-use Rattle.records.specs.Ends.Places.{accepted-long, places-are}
+use Rattle.records.specs.Ends.PlacesLaws.{accepted-long, places-are}
 use native.Mathlib.Omega.{arith}
 use borrow.Author.Needs.{needs}
 use Rattle.records.proofs.places.places_by.Statement.{statement}

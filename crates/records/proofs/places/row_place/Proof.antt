@@ -1,6 +1,6 @@
 use Rattle.records.specs.declared.heads.Word.the-variants.{Number}
-use Rattle.records.specs.Ends.Places.{row-is, row-off, row-short}
-use Rattle.records.specs.Ends.HeadRoom.{word-room}
+use Rattle.records.specs.Ends.PlacesLaws.{row-is, row-off, row-short}
+use Rattle.records.specs.Ends.HeadRoomLaws.{word-room}
 use native.Mathlib.Omega.{arith}
 use borrow.Author.Needs.{needs}
 use Rattle.records.proofs.places.row_place.Statement.{statement}

@@ -1,17 +1,17 @@
 use Rattle.records.specs.Writing.Plan.{planned}
 use Rattle.records.specs.Writing.PlanLaws.{limited-long, limited-whole}
-use Rattle.records.specs.Writing.Emitted.{emitted-short, emitted-long, emitted-whole, put-record}
+use Rattle.records.specs.Writing.EmittedLaws.{emitted-short, emitted-long, emitted-whole, put-record}
 use borrow.Author.Needs.{needs}
 use Rattle.records.proofs.plan.emit_plan.Statement.{statement}
 use Rattle.records.proofs.plan.emit_plan.Tie as tie
 
 returns : tie.Need-returns
-returns c = emitted-short (c .if1 .taken)
+returns c = emitted-short _ (c .if1 .taken)
 
 returns-2 : tie.Need-returns-2
 returns-2 c =
     let start = c .before .before .before .before .before in
-    emitted-long (c .before .before .if1 .left) (limited-long (start .pre) (c .before .measure-plan .ensures) (c .if2 .taken))
+    emitted-long _ (c .before .before .if1 .left) (limited-long (start .pre) (c .before .measure-plan .ensures) (c .if2 .taken))
 
 returns-3 : tie.Need-returns-3
 unfolding planned

@@ -1,6 +1,6 @@
 use native.Mathlib.Omega.{arith}
 use lib.ListN.{length-append}
-use Rattle.records.specs.Writing.Patched.{put-then, put-room}
+use Rattle.records.specs.Writing.PatchedLaws.{put-then, put-room}
 use Rattle.records.specs.Writing.Plan.{planned-body, stack-bytes, stack-length}
 use Rattle.records.specs.Writing.PlanLaws.{length-piece, length-stack}
 use borrow.Author.Needs.{needs}

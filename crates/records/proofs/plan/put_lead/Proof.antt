@@ -1,5 +1,5 @@
 use native.Mathlib.Omega.{arith}
-use Rattle.records.specs.Writing.Patched.{put-none, put-then}
+use Rattle.records.specs.Writing.PatchedLaws.{put-none, put-then}
 use borrow.Author.Needs.{needs}
 use Rattle.records.proofs.plan.put_lead.Statement.{statement}
 use Rattle.records.proofs.plan.put_lead.Tie as tie

@@ -1,4 +1,4 @@
-use Rattle.records.specs.Writing.Patched.{put-then}
+use Rattle.records.specs.Writing.PatchedLaws.{put-then}
 use Rattle.records.specs.Ends.Range.{size}
 use Rattle.records.specs.Writing.Plan.{piece-bytes}
 use borrow.Author.Needs.{needs}

@@ -1,5 +1,5 @@
 use native.Mathlib.Omega.{arith}
-use Rattle.records.specs.Writing.Patched.{put-then}
+use Rattle.records.specs.Writing.PatchedLaws.{put-then}
 use Rattle.records.specs.Ends.Range.{size}
 use Rattle.records.specs.Writing.Plan.{stack-bytes}
 use Rattle.records.specs.Writing.PlanLaws.{length-piece}

@@ -1,5 +1,5 @@
 use borrow.Author.Needs.{needs}
-use Rattle.records.specs.Writing.Patched.{put-set}
+use Rattle.records.specs.Writing.PatchedLaws.{put-set}
 use Rattle.records.proofs.put.put_byte.Statement.{statement}
 use Rattle.records.proofs.put.put_byte.Tie as tie
 

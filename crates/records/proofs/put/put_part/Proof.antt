@@ -6,7 +6,8 @@ use native.Mathlib.Omega.{arith}
 use lib.ListN.{length, take}
 use lib.Seq.{take-length}
 use borrow.Author.Needs.{needs}
-use Rattle.records.specs.Writing.Patched.{Put, put-none, put-turn, put-length}
+use Rattle.records.specs.Writing.Patched.{Put}
+use Rattle.records.specs.Writing.PatchedLaws.{put-none, put-turn, put-length}
 use Rattle.records.proofs.put.put_part.Statement.{statement}
 use Rattle.records.proofs.put.put_part.Tie as tie
 

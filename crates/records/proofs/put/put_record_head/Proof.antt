@@ -1,5 +1,5 @@
 use borrow.Author.Needs.{needs}
-use Rattle.records.specs.Writing.Patched.{put-then}
+use Rattle.records.specs.Writing.PatchedLaws.{put-then}
 use Rattle.records.proofs.put.put_record_head.Statement.{statement}
 use Rattle.records.proofs.put.put_record_head.Tie as tie
 

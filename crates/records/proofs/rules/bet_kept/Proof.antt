@@ -1,7 +1,7 @@
 use Rattle.records.proofs.RuleArms.{or-other, by-other, none-other}
 use Rattle.records.specs.declared.heads.BetHead.the-variants.{Unifier, Or, By, NoBet}
-use Rattle.records.specs.Gate.Kept.{unifier-through, unifier-kept, other-kept}
-use Rattle.records.specs.Ends.HeadRoom.{bet-room}
+use Rattle.records.specs.Gate.KeptLaws.{unifier-through, unifier-kept, other-kept}
+use Rattle.records.specs.Ends.HeadRoomLaws.{bet-room}
 use mathlib.Core.Path.{sym, _∙_}
 use native.Mathlib.Omega.{arith}
 use borrow.Author.Needs.{needs}

@@ -1,7 +1,7 @@
 use Rattle.records.proofs.RuleArms.{no-clause}
 use Rattle.records.specs.declared.heads.Signature.the-variants.{Predicate}
-use Rattle.records.specs.Gate.Kept.{clause-through, clause-kept}
-use Rattle.records.specs.Ends.HeadRoom.{clause-room}
+use Rattle.records.specs.Gate.KeptLaws.{clause-through, clause-kept}
+use Rattle.records.specs.Ends.HeadRoomLaws.{clause-room}
 use mathlib.Core.Path.{sym, _∙_}
 use native.Mathlib.Omega.{arith}
 use borrow.Author.Needs.{needs}

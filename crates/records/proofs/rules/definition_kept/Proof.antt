@@ -1,7 +1,7 @@
 use Rattle.records.proofs.RuleArms.{at-most, no-definition}
 use Rattle.records.specs.declared.heads.Signature.the-variants.{Predicate}
-use Rattle.records.specs.Gate.Kept.{definition-through, definition-kept}
-use Rattle.records.specs.Ends.HeadRoom.{definition-room}
+use Rattle.records.specs.Gate.KeptLaws.{definition-through, definition-kept}
+use Rattle.records.specs.Ends.HeadRoomLaws.{definition-room}
 use mathlib.Core.Path.{sym, _∙_}
 use native.Mathlib.Omega.{arith}
 use borrow.Author.Needs.{needs}

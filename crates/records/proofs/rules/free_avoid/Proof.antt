@@ -1,9 +1,10 @@
 use Rattle.records.proofs.RuleArms.{unmarked, no-break, no-pair, pairs-next, avoided, met-some, none-met}
-use Rattle.records.specs.Gate.Rows.{Ends, row-at, row-none}
+use Rattle.records.specs.Gate.Rows.{Ends, row-at}
+use Rattle.records.specs.Gate.RowsLaws.{row-none}
 use Rattle.records.specs.Ends.Traversal.{end-of}
 use Rattle.records.specs.Format.Items.{many, read-binding}
 use Rattle.records.specs.declared.heads.Word.the-variants.{Number}
-use Rattle.records.specs.Ends.HeadRoom.{word-room}
+use Rattle.records.specs.Ends.HeadRoomLaws.{word-room}
 use Rattle.records.specs.Gate.RecordRules.{free}
 use borrow.Author.Tests.{not-true, not-false}
 use mathlib.Core.Path.{_≡_, refl, sym, ap, _∙_}

@@ -1,6 +1,7 @@
 use Rattle.records.specs.Format.Items.{read-ancestor}
 use Rattle.records.specs.Ends.ItemEnds.{item-end}
-use Rattle.records.specs.Gate.Rows.{item-kept, no-rules}
+use Rattle.records.specs.Gate.Rows.{item-kept}
+use Rattle.records.specs.Gate.RowsLaws.{no-rules}
 use borrow.Author.Needs.{needs}
 use Rattle.records.proofs.rules.item_kept.Statement.{statement}
 use Rattle.records.proofs.rules.item_kept.Tie as tie

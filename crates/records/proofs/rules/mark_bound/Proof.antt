@@ -1,11 +1,12 @@
 use Rattle.records.proofs.RuleArms.{no-break, no-pair, pairs-next, marks-next, marks-done}
-use Rattle.records.specs.Gate.Rows.{Ends, row-at, row-none}
+use Rattle.records.specs.Gate.Rows.{Ends, row-at}
+use Rattle.records.specs.Gate.RowsLaws.{row-none}
 use Rattle.records.specs.Ends.Traversal.{end-of}
-use Rattle.records.specs.Gate.MarkLaws.{length-marked}
+use Rattle.records.specs.Gate.SetLaws.{length-marked}
 use Rattle.records.specs.Gate.Sets.{all-marked}
 use Rattle.records.specs.Format.Items.{many, read-binding}
 use Rattle.records.specs.declared.heads.Word.the-variants.{Number}
-use Rattle.records.specs.Ends.HeadRoom.{word-room}
+use Rattle.records.specs.Ends.HeadRoomLaws.{word-room}
 use Rattle.records.specs.Gate.RecordRules.{bound}
 use lib.ListN.{length}
 use mathlib.Core.Path.{_≡_, refl, sym, ap, _∙_}

@@ -1,4 +1,5 @@
-use Rattle.records.specs.Ends.Steps.{On, met, traverse-from, to-variable, to-other, to-end}
+use Rattle.records.specs.Ends.Steps.{On, met, traverse-from}
+use Rattle.records.specs.Ends.StepsLaws.{to-variable, to-other, to-end}
 use Rattle.records.specs.Gate.SetLaws.{exactly-start, exactly-next, exactly-not, exactly-end}
 use Rattle.records.specs.Gate.Sets.{exactly-from}
 use Rattle.records.specs.Gate.RecordRules.{exactly}

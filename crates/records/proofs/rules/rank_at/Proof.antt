@@ -1,6 +1,6 @@
 use native.Mathlib.Omega.{arith}
 use mathlib.Core.Path.{sym, ap, _∙_}
-use Rattle.records.specs.Ends.HeadRoom.{definition-room}
+use Rattle.records.specs.Ends.HeadRoomLaws.{definition-room}
 use Rattle.records.specs.Gate.Ranks.{signature-rank, rank-at}
 use Rattle.records.specs.declared.heads.Signature.the-variants.{Predicate}
 use borrow.Author.Needs.{needs}

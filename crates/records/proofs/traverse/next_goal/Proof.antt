@@ -1,7 +1,7 @@
 use Rattle.records.specs.declared.heads.GoalHead.the-variants.{Truth, Failure, Equal, Conj, Disj, Atom, NoGoal}
 use Rattle.records.proofs.TraversalArms.{goal-arm}
-use Rattle.records.specs.Ends.Steps.{on-bound}
-use Rattle.records.specs.Ends.HeadRoom.{goal-room}
+use Rattle.records.specs.Ends.StepsLaws.{on-bound}
+use Rattle.records.specs.Ends.HeadRoomLaws.{goal-room}
 use mathlib.Core.Path.{_∙_}
 use native.Mathlib.Omega.{arith}
 use borrow.Author.Needs.{needs}

@@ -1,7 +1,7 @@
 use Rattle.records.specs.declared.heads.TermHead.the-variants.{Variable, Symbol, NoTerm}
 use Rattle.records.proofs.TraversalArms.{term-arm}
-use Rattle.records.specs.Ends.Steps.{on-bound}
-use Rattle.records.specs.Ends.HeadRoom.{term-room}
+use Rattle.records.specs.Ends.StepsLaws.{on-bound}
+use Rattle.records.specs.Ends.HeadRoomLaws.{term-room}
 use native.Mathlib.Omega.{arith}
 use borrow.Author.Needs.{needs}
 use Rattle.records.proofs.traverse.next_term.Statement.{statement}

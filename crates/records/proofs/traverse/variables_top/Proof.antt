@@ -1,6 +1,7 @@
-use Rattle.records.specs.Ends.Steps.{Underway, raised, traverse-from, underway-start, underway-variable, underway-other, underway-done, to-variable, to-other}
+use Rattle.records.specs.Ends.Steps.{Underway, raised, traverse-from}
+use Rattle.records.specs.Ends.StepsLaws.{underway-start, underway-variable, underway-other, underway-done, to-variable, to-other, above-met}
 use lib.ListN.{length}
-use mathlib.Core.Path.{sym}
+use mathlib.Core.Path.{sym, _∙_}
 use native.Mathlib.Omega.{arith}
 use Prim.Native.Nat.{_-_}
 use borrow.Author.Needs.{needs}
@@ -38,7 +39,7 @@ enum-told : tie.Need-enum-told Inv-loop μ-loop
 enum-told c = search needs
 
 returns : tie.Need-returns Inv-loop μ-loop
-returns c = let w = underway-done _ (c .before .before .before .before .shared-slice-known .given) (c .before .before .before .loop .inv) (c .before .before .next-node .ensures) (c .enum-told .given .1) in record { top = sym (w .0); end = sym (w .1) }
+returns c = let w = underway-done _ (c .before .before .before .before .shared-slice-known .given) (c .before .before .before .loop .inv) (c .before .before .next-node .ensures) (c .enum-told .given .1) in record { top = sym (w .0) ∙ simp above-met; end = sym (w .1) }
 
 pub variables-top-spec : {M : Type 1} → statement M
 variables-top-spec =

@@ -1,4 +1,4 @@
-use Rattle.records.specs.Writing.Patched.{put-then}
+use Rattle.records.specs.Writing.PatchedLaws.{put-then}
 use borrow.Author.Needs.{needs}
 use Rattle.stepper.proofs.around.put_unifier_top.Statement.{statement}
 use Rattle.stepper.proofs.around.put_unifier_top.Tie as tie

@@ -1,7 +1,8 @@
 use mathlib.Core.Path.{_∙_}
 use native.Mathlib.Omega.{arith}
-use Rattle.records.specs.Writing.Patched.{put-then, put-length}
-use Rattle.records.specs.Ends.Range.{size, length-cut}
+use Rattle.records.specs.Writing.PatchedLaws.{put-then, put-length}
+use Rattle.records.specs.Ends.Range.{size}
+use Rattle.records.specs.Ends.RangeLaws.{length-cut}
 use Rattle.stepper.specs.Step.Completed.{body-front, body-back}
 use Rattle.stepper.specs.Step.CompletedLaws.{completed, atom-inside, stacks-inside}
 use borrow.Author.Needs.{needs}

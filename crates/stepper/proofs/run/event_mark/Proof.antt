@@ -1,5 +1,5 @@
 use borrow.Author.Needs.{needs}
-use Rattle.stepper.specs.Run.RunLoop.{mark-placed}
+use Rattle.stepper.specs.Run.RunLoopLaws.{mark-placed}
 use Rattle.stepper.proofs.run.event_mark.Statement.{statement}
 use Rattle.stepper.proofs.run.event_mark.Tie as tie
 

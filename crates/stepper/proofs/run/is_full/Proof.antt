@@ -1,6 +1,6 @@
 use mathlib.Core.Path.{refl}
 use Rattle.stepper.specs.Run.Run.{is-full, less-room}
-use Rattle.stepper.specs.Run.RunLoop.{full-told}
+use Rattle.stepper.specs.Run.RunLoopLaws.{full-told}
 use Rattle.stepper.proofs.run.is_full.Statement.{statement}
 use Rattle.stepper.proofs.run.is_full.Tie as tie
 

@@ -3,7 +3,7 @@ use Prim.Native.Nat.{_+_, _*_, _≤_}
 use native.Mathlib.Omega.{arith}
 use lib.ListN.{length}
 use borrow.Author.Needs.{needs}
-use Rattle.stepper.specs.Run.RunLoop.{room-left}
+use Rattle.stepper.specs.Run.RunLoopLaws.{room-left}
 use Rattle.stepper.proofs.run.log_mark.Statement.{statement}
 use Rattle.stepper.proofs.run.log_mark.Tie as tie
 

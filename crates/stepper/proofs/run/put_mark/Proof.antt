@@ -1,6 +1,6 @@
 use native.Mathlib.Omega.{arith}
 use lib.ListN.{length-set}
-use Rattle.stepper.specs.Run.RunLoop.{three-set}
+use Rattle.stepper.specs.Run.RunLoopLaws.{three-set}
 use borrow.Author.Needs.{needs}
 use Rattle.stepper.proofs.run.put_mark.Statement.{statement}
 use Rattle.stepper.proofs.run.put_mark.Tie as tie

@@ -1,8 +1,8 @@
 use mathlib.Core.Path.{sym, _∙_}
 use borrow.Author.Needs.{needs}
 use Rattle.stepper.specs.Step.SteppedLaws.{gate-passed}
-use Rattle.stepper.specs.Run.Run.{direction}
-use Rattle.stepper.specs.Run.RunLoop.{run-gate-refused, run-replied}
+use Rattle.stepper.specs.Run.RunLoop.{direction}
+use Rattle.stepper.specs.Run.RunServiceLaws.{run-gate-refused, run-replied}
 use Rattle.stepper.proofs.run.run.Statement.{statement}
 use Rattle.stepper.proofs.run.run.Tie as tie
 

@@ -3,7 +3,7 @@ use native.Mathlib.Omega.{arith}
 use lib.ListN.{length}
 use lib.Seq.{length-take-le}
 use Rattle.stepper.specs.Step.SteppedLaws.{event-short}
-use Rattle.stepper.specs.Run.RunLoop.{standing-first, end-short, end-room, ran-to}
+use Rattle.stepper.specs.Run.RunLoopLaws.{standing-first, end-short, end-room, ran-to}
 use borrow.Author.Needs.{needs}
 use Rattle.stepper.proofs.run.run_from.Statement.{statement}
 use Rattle.stepper.proofs.run.run_from.Tie as tie

@@ -4,7 +4,8 @@ use Prim.Native.Nat.{_-_, _≤_}
 use native.Mathlib.Omega.{arith}
 use lib.ListN.{length}
 use borrow.Author.Needs.{needs}
-use Rattle.stepper.specs.Run.RunLoop.{RunStands, Keeps, standing-on, keeps-on, keeps-stopped, keeps-all}
+use Rattle.stepper.specs.Run.RunLoop.{RunStands, Keeps, standing-on}
+use Rattle.stepper.specs.Run.RunLoopLaws.{keeps-on, keeps-stopped, keeps-all}
 use Rattle.stepper.proofs.run.run_on.Statement.{statement}
 use Rattle.stepper.proofs.run.run_on.Tie as tie
 

@@ -1,7 +1,7 @@
 use mathlib.Core.Path.{sym, _∙_}
 use native.Mathlib.Omega.{arith}
 use lib.Seq.{length-take-le}
-use Rattle.stepper.specs.Run.RunLoop.{standing-passed, standing-ends, turn-full, turn-refused, given-short, given-room, given-reads, given-ends, turn-given}
+use Rattle.stepper.specs.Run.RunLoopLaws.{standing-passed, standing-ends, turn-full, turn-refused, given-short, given-room, given-reads, given-ends, turn-given}
 use borrow.Author.Needs.{needs}
 use Rattle.stepper.proofs.run.run_turn.Statement.{statement}
 use Rattle.stepper.proofs.run.run_turn.Tie as tie

@@ -1,7 +1,7 @@
 use Rattle.stepper.specs.Step.AtomStepLaws.{body-told-as}
 use Rattle.stepper.specs.Step.LastSevenLaws.{under-atom, whole-goal, body-beyond, body-missing, body-same, body-long}
-use Rattle.stepper.specs.Plans.Made.{put-cuts}
-use Rattle.terms.specs.Standing.Accepted.{accepted-program}
+use Rattle.stepper.specs.Plans.MadeLaws.{put-cuts}
+use Rattle.terms.specs.Standing.AcceptedLaws.{accepted-program}
 use borrow.Author.Needs.{needs}
 use Rattle.stepper.proofs.same.same_body.Statement.{statement}
 use Rattle.stepper.proofs.same.same_body.Tie as tie

@@ -1,7 +1,7 @@
 use Rattle.stepper.specs.Step.EqualityStepLaws.{told-as}
 use Rattle.stepper.specs.Step.LastSevenLaws.{rest-bets, unifier-left, unifier-right, unifier-large, unifier-clash, unifier-same, unifier-long, unifier-cut}
 use Rattle.stepper.specs.Step.SteppedLaws.{event-short}
-use Rattle.stepper.specs.Plans.Made.{put-cuts}
+use Rattle.stepper.specs.Plans.MadeLaws.{put-cuts}
 use borrow.Author.Needs.{needs}
 use Rattle.stepper.proofs.same.same_unifier.Statement.{statement}
 use Rattle.stepper.proofs.same.same_unifier.Tie as tie

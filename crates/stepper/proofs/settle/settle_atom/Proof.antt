@@ -1,5 +1,5 @@
 use native.Mathlib.Omega.{arith}
-use Rattle.terms.specs.Standing.Accepted.{accepted-program}
+use Rattle.terms.specs.Standing.AcceptedLaws.{accepted-program}
 use Rattle.stepper.specs.Step.CompletedLaws.{lent-kept, handed-room}
 use Rattle.stepper.specs.Step.AtomStepLaws.{goal-atom, undefined-within, atom-order, atom-beyond, atom-missing, body-room, atom-defined, atom-long, body-told-as}
 use borrow.Author.Needs.{needs}

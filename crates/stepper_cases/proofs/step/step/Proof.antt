@@ -1,5 +1,5 @@
 -- Each branch is the service of its direction.
-use Rattle.stepper_cases.specs.Stepped.{stepped-back, stepped-forward}
+use Rattle.stepper_cases.specs.SteppedLaws.{stepped-back, stepped-forward}
 use borrow.Author.Needs.{needs}
 use Rattle.stepper_cases.proofs.step.step.Statement.{statement}
 use Rattle.stepper_cases.proofs.step.step.Tie as tie

@@ -7,8 +7,8 @@ use Rattle.terms.specs.Body.Arguments.{TermTable}
 use Rattle.terms.specs.Body.Body.{numbered}
 use Rattle.terms.specs.Standing.Frames.{GoalAt}
 use Rattle.terms.specs.Body.BodyBytes.{numbered-goal}
-use Rattle.terms.specs.Values.Ahead.{ahead-on, ahead-less, ahead-less-other}
-use Rattle.terms.specs.Body.WritingLaws.{Counting, counting-start, counting-variable, counting-other, counting-full, counting-done}
+use Rattle.terms.specs.Values.AheadLaws.{ahead-on, ahead-less, ahead-less-other}
+use Rattle.terms.specs.Body.BodyLengthLaws.{Counting, counting-start, counting-variable, counting-other, counting-full, counting-done}
 use borrow.Author.Needs.{needs}
 use Rattle.terms.proofs.body.body_length.Statement.{statement}
 use Rattle.terms.proofs.body.body_length.Tie as tie

@@ -1,7 +1,7 @@
 -- `head_at` reads the head of a node.
 use Rattle.records.specs.declared.heads.TermHead.the-variants.{Symbol}
 use Rattle.terms.specs.Classes.Laid.{head-of}
-use Rattle.records.specs.Ends.HeadRoom.{term-room}
+use Rattle.records.specs.Ends.HeadRoomLaws.{term-room}
 use mathlib.Core.Path.{sym, ap, _∙_}
 use native.Mathlib.Omega.{arith}
 use borrow.Author.Needs.{needs}

@@ -1,6 +1,6 @@
 -- `list_bet`: the pairs of a bet stand behind its kind and its count.
 use native.Mathlib.Omega.{arith}
-use Rattle.terms.specs.Standing.BetRow.{pairs-of}
+use Rattle.terms.specs.Standing.BetRowLaws.{pairs-of}
 use Rattle.terms.specs.Values.ListingLaws.{filled-no-pairs, filled-pairs}
 use borrow.Author.Needs.{needs}
 use Rattle.terms.proofs.pairs.list_bet.Statement.{statement}

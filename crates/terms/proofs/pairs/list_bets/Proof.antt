@@ -24,7 +24,7 @@ loop-again : tie.Need-loop-again Inv-loop μ-loop
 loop-again c = (λ p. let u = c .before .before .before .before .before .before .before .before .before .before .loop .inv .0 p in bets-next u (omega arith) (omega arith) (c .before .before .before .before .before .before .list-bet .ensures (bets-here u (omega arith))) (c .before .bet-end .ensures) (c .position .ensures), search needs, search needs)
 
 returns : tie.Need-returns Inv-loop μ-loop
-returns c = λ p. bets-end (c .before .loop .inv .0 p) (p .rules) (omega arith) (omega arith)
+returns c = λ p. bets-end (c .before .loop .inv .0 p) (p .row .formed) (p .rules) (omega arith) (omega arith)
 
 pub list-bets-spec : {M : Type 1} → statement M
 list-bets-spec =

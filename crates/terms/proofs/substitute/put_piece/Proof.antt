@@ -1,6 +1,7 @@
 use native.Mathlib.Omega.{arith}
-use Rattle.records.specs.Ends.Range.{size, length-cut}
-use Rattle.terms.specs.Values.Fitted.{fitted-fits, fitted-large}
+use Rattle.records.specs.Ends.Range.{size}
+use Rattle.records.specs.Ends.RangeLaws.{length-cut}
+use Rattle.terms.specs.Values.FittedLaws.{fitted-fits, fitted-large}
 use mathlib.Core.Path.{refl}
 use borrow.Author.Needs.{needs}
 use Rattle.terms.proofs.substitute.put_piece.Statement.{statement}

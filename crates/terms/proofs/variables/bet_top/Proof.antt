@@ -1,6 +1,6 @@
 -- `bet_top` reads a bet up to its pairs.
 use Rattle.records.specs.declared.heads.BetHead.the-variants.{Unifier, Or, By, NoBet}
-use Rattle.records.specs.Ends.HeadRoom.{bet-room}
+use Rattle.records.specs.Ends.HeadRoomLaws.{bet-room}
 use Rattle.terms.specs.Body.TopLaws.{goal-on, bet-arm, by-piece}
 use native.Mathlib.Omega.{arith}
 use borrow.Author.Needs.{needs}

@@ -1,6 +1,6 @@
 -- `pair_top` walks over the term behind the variable.
 use Rattle.records.specs.declared.heads.Word.the-variants.{Number}
-use Rattle.records.specs.Ends.HeadRoom.{word-room}
+use Rattle.records.specs.Ends.HeadRoomLaws.{word-room}
 use Rattle.terms.specs.Body.TopLaws.{pair-on, pair-tops, pair-never}
 use native.Mathlib.Omega.{arith}
 use borrow.Author.Needs.{needs}

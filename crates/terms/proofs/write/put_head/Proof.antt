@@ -1,6 +1,6 @@
 -- `put_head` writes a node's own bytes.
 use Rattle.terms.specs.Unifier.ClassTermsLaws.{head-variable, head-symbol}
-use Rattle.records.specs.Writing.Patched.{put-then, put-length}
+use Rattle.records.specs.Writing.PatchedLaws.{put-then, put-length}
 use lib.ListN.{length}
 use mathlib.Core.Path.{ap}
 use native.Mathlib.Omega.{arith}

@@ -2,7 +2,7 @@
 use mathlib.Core.Path.{sym, ap, _∙_}
 use native.Mathlib.Omega.{arith}
 use Rattle.records.specs.Gate.Gate.{read-program, read-event}
-use Rattle.terms.specs.Standing.Accepted.{accepted-program}
+use Rattle.terms.specs.Standing.AcceptedLaws.{accepted-program}
 use Rattle.records.specs.Gate.DoorLaws.{program-open, event-open}
 use Rattle.terms_cases.specs.Kinds.{kind-byte}
 use Rattle.terms_cases.specs.BodyLaws.{program-replied, event-replied, other-replied, atom-found, body-replied}

@@ -1,5 +1,5 @@
 use native.Mathlib.Omega.{arith}
-use Rattle.records.specs.Writing.Patched.{put-then}
+use Rattle.records.specs.Writing.PatchedLaws.{put-then}
 use Rattle.walk_text.specs.Line.{stop-bytes}
 use borrow.Author.Needs.{needs}
 use Rattle.walk_text.proofs.line.put_stop.Statement.{statement}

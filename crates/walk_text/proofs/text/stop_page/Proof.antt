@@ -2,7 +2,7 @@ use mathlib.Core.Path.{_≡_}
 use native.Mathlib.Omega.{arith}
 use lib.ListN.{length}
 use borrow.Author.Needs.{needs}
-use Rattle.records.specs.Writing.Patched.{put-length}
+use Rattle.records.specs.Writing.PatchedLaws.{put-length}
 use Rattle.walk_text.specs.RestLaws.{gives-last}
 use Rattle.walk_text.proofs.text.stop_page.Statement.{statement}
 use Rattle.walk_text.proofs.text.stop_page.Tie as tie

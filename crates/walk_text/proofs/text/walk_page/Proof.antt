@@ -3,7 +3,7 @@ use native.Mathlib.Omega.{arith}
 use lib.ListN.{length}
 use lib.Seq.{length-take-le}
 use borrow.Author.Needs.{needs}
-use Rattle.records.specs.Writing.Patched.{put-length}
+use Rattle.records.specs.Writing.PatchedLaws.{put-length}
 use Rattle.walk_text.specs.RestLaws.{log-inside, lines-room, lines-fit, page-goes, page-ends}
 use Rattle.walk_text.proofs.text.walk_page.Statement.{statement}
 use Rattle.walk_text.proofs.text.walk_page.Tie as tie

@@ -65,8 +65,8 @@ pub fn write_variable(out: &mut [u8], at: usize, v: usize) -> usize
     put_word(out, next, v)
 }
 
-// A variable, at the start of the output.
-fn put_new(out: &mut [u8], v: usize) -> Sized
+// The variable v itself, at the start of the output.
+fn put_itself(out: &mut [u8], v: usize) -> Sized
     ensures { λ r. ⌜ Fitted (now (out .entry)) (term-bytes (var v)) (now (out .exit)) r ⌝ }
 {
     if out.len() < VARIABLE_SIZE {
@@ -92,7 +92,7 @@ fn put_numbered(
         let range = argument(table, v);
         return put_piece(out, event, range);
     }
-    put_new(out, m + (v - k))
+    put_itself(out, m + (v - k))
 }
 
 // Where, among the first i pairs of a table, the last one stands that binds v.
@@ -156,7 +156,7 @@ fn put_variable(
     match by {
         Replacing::Numbered(k, m) => put_numbered(out, event, table, k, m, v),
         Replacing::Pairs(i) => match find_value(event, table, firsts, i, v) {
-            Bound::Free(x) => put_new(out, x),
+            Bound::Free(x) => put_itself(out, x),
             Bound::To(k) => {
                 let at = table[k] + 2;
                 let above = firsts[k];

@@ -24,7 +24,7 @@ use Rattle.terms.proofs.substitute.put_variable.Kinds as put-variable-k
 use Rattle.terms.proofs.substitute.+put_nodes+put_variable.Lts-put_variable as put-variable-lts
 use Rattle.records.proofs.traverse.next_node.Reads as next-node-reads
 use Rattle.terms.proofs.substitute.find_value.Reads as find-value-reads
-use Rattle.terms.proofs.substitute.put_new.Reads as put-new-reads
+use Rattle.terms.proofs.substitute.put_itself.Reads as put-itself-reads
 use Rattle.terms.proofs.substitute.put_numbered.Reads as put-numbered-reads
 use Rattle.terms.proofs.substitute.put_piece.Reads as put-piece-reads
 use Rattle.terms.proofs.substitute.+put_nodes+put_variable.{statement}
@@ -148,61 +148,61 @@ put-nodes-same-length-3 t c = put-length (c .before .before .before .loop .inv (
 put-nodes-returns-3 : (t : ℕ) → put-nodes-lts.Need-returns-3 (next-node-reads.Asked, next-node-reads.Learnt, put-variable-below t, put-variable.Post, put-piece-reads.Asked, put-piece-reads.Learnt) (put-nodes-at t) put-nodes.Post put-nodes-Inv-loop put-nodes-μ-loop
 put-nodes-returns-3 t c = λ θ p. fitting-done (c .before .before .before .loop .inv θ p) (c .before .before .before .before .before .shared-slice-known4 .given) (c .before .before .next-node .ensures) (c .enum-told3 .given .1)
 
-put-variable-enum-known-by : (t : ℕ) → put-variable-lts.Need-enum-known-by (put-numbered-reads.Asked, put-numbered-reads.Learnt, find-value-reads.Asked, find-value-reads.Learnt, put-new-reads.Asked, put-new-reads.Learnt, put-nodes-below t, put-nodes.Post) (put-variable-at t) put-variable.Post
+put-variable-enum-known-by : (t : ℕ) → put-variable-lts.Need-enum-known-by (put-numbered-reads.Asked, put-numbered-reads.Learnt, find-value-reads.Asked, find-value-reads.Learnt, put-itself-reads.Asked, put-itself-reads.Learnt, put-nodes-below t, put-nodes.Post) (put-variable-at t) put-variable.Post
 put-variable-enum-known-by t c = search needs
 
-put-variable-put-numbered-requires : (t : ℕ) → put-variable-lts.Need-put-numbered-requires (put-numbered-reads.Asked, put-numbered-reads.Learnt, find-value-reads.Asked, find-value-reads.Learnt, put-new-reads.Asked, put-new-reads.Learnt, put-nodes-below t, put-nodes.Post) (put-variable-at t) put-variable.Post
+put-variable-put-numbered-requires : (t : ℕ) → put-variable-lts.Need-put-numbered-requires (put-numbered-reads.Asked, put-numbered-reads.Learnt, find-value-reads.Asked, find-value-reads.Learnt, put-itself-reads.Asked, put-itself-reads.Learnt, put-nodes-below t, put-nodes.Post) (put-variable-at t) put-variable.Post
 put-variable-put-numbered-requires t c κs = let w = c .before .before .before .before .before .before .before .before .pre .1 .0 .1 .numbers (c .before .before .by .given .1) in (w .0, (w .2, c .before .before .before .before .before .before .before .before .pre .1 .1))
 
-put-variable-enum-known-by-2 : (t : ℕ) → put-variable-lts.Need-enum-known-by-2 (put-numbered-reads.Asked, put-numbered-reads.Learnt, find-value-reads.Asked, find-value-reads.Learnt, put-new-reads.Asked, put-new-reads.Learnt, put-nodes-below t, put-nodes.Post) (put-variable-at t) put-variable.Post
+put-variable-enum-known-by-2 : (t : ℕ) → put-variable-lts.Need-enum-known-by-2 (put-numbered-reads.Asked, put-numbered-reads.Learnt, find-value-reads.Asked, find-value-reads.Learnt, put-itself-reads.Asked, put-itself-reads.Learnt, put-nodes-below t, put-nodes.Post) (put-variable-at t) put-variable.Post
 put-variable-enum-known-by-2 t c = search needs
 
-put-variable-find-value-requires : (t : ℕ) → put-variable-lts.Need-find-value-requires (put-numbered-reads.Asked, put-numbered-reads.Learnt, find-value-reads.Asked, find-value-reads.Learnt, put-new-reads.Asked, put-new-reads.Learnt, put-nodes-below t, put-nodes.Post) (put-variable-at t) put-variable.Post
+put-variable-find-value-requires : (t : ℕ) → put-variable-lts.Need-find-value-requires (put-numbered-reads.Asked, put-numbered-reads.Learnt, find-value-reads.Asked, find-value-reads.Learnt, put-itself-reads.Asked, put-itself-reads.Learnt, put-nodes-below t, put-nodes.Post) (put-variable-at t) put-variable.Post
 put-variable-find-value-requires t c κs = c .before .before .before .before .before .before .before .pre .1 .0 .1 .pairs (c .before .by2 .given .1) .0
 
-put-variable-enum-known-x : (t : ℕ) → put-variable-lts.Need-enum-known-x (put-numbered-reads.Asked, put-numbered-reads.Learnt, find-value-reads.Asked, find-value-reads.Learnt, put-new-reads.Asked, put-new-reads.Learnt, put-nodes-below t, put-nodes.Post) (put-variable-at t) put-variable.Post
+put-variable-enum-known-x : (t : ℕ) → put-variable-lts.Need-enum-known-x (put-numbered-reads.Asked, put-numbered-reads.Learnt, find-value-reads.Asked, find-value-reads.Learnt, put-itself-reads.Asked, put-itself-reads.Learnt, put-nodes-below t, put-nodes.Post) (put-variable-at t) put-variable.Post
 put-variable-enum-known-x t c = search needs
 
-put-variable-put-new-requires : (t : ℕ) → put-variable-lts.Need-put-new-requires (put-numbered-reads.Asked, put-numbered-reads.Learnt, find-value-reads.Asked, find-value-reads.Learnt, put-new-reads.Asked, put-new-reads.Learnt, put-nodes-below t, put-nodes.Post) (put-variable-at t) put-variable.Post
-put-variable-put-new-requires t c κs = search needs
+put-variable-put-itself-requires : (t : ℕ) → put-variable-lts.Need-put-itself-requires (put-numbered-reads.Asked, put-numbered-reads.Learnt, find-value-reads.Asked, find-value-reads.Learnt, put-itself-reads.Asked, put-itself-reads.Learnt, put-nodes-below t, put-nodes.Post) (put-variable-at t) put-variable.Post
+put-variable-put-itself-requires t c κs = search needs
 
-put-variable-enum-known-k : (t : ℕ) → put-variable-lts.Need-enum-known-k (put-numbered-reads.Asked, put-numbered-reads.Learnt, find-value-reads.Asked, find-value-reads.Learnt, put-new-reads.Asked, put-new-reads.Learnt, put-nodes-below t, put-nodes.Post) (put-variable-at t) put-variable.Post
+put-variable-enum-known-k : (t : ℕ) → put-variable-lts.Need-enum-known-k (put-numbered-reads.Asked, put-numbered-reads.Learnt, find-value-reads.Asked, find-value-reads.Learnt, put-itself-reads.Asked, put-itself-reads.Learnt, put-nodes-below t, put-nodes.Post) (put-variable-at t) put-variable.Post
 put-variable-enum-known-k t c = search needs
 
-put-variable-mul-at : (t : ℕ) → put-variable-lts.Need-mul-at (put-numbered-reads.Asked, put-numbered-reads.Learnt, find-value-reads.Asked, find-value-reads.Learnt, put-new-reads.Asked, put-new-reads.Learnt, put-nodes-below t, put-nodes.Post) (put-variable-at t) put-variable.Post
+put-variable-mul-at : (t : ℕ) → put-variable-lts.Need-mul-at (put-numbered-reads.Asked, put-numbered-reads.Learnt, find-value-reads.Asked, find-value-reads.Learnt, put-itself-reads.Asked, put-itself-reads.Learnt, put-nodes-below t, put-nodes.Post) (put-variable-at t) put-variable.Post
 put-variable-mul-at t c = let q = c .before .before .before .before .before .before .before .before .before .before .before .pre .1 .0 .1 .pairs (c .before .before .before .before .before .by2 .given .1) in let b = c .before .before .before .find-value .ensures (q .0) .bound (c .before .k .given .1) in omega (arith, b .within .0)
 
-put-variable-shared-slice-read-at : (t : ℕ) → put-variable-lts.Need-shared-slice-read-at (put-numbered-reads.Asked, put-numbered-reads.Learnt, find-value-reads.Asked, find-value-reads.Learnt, put-new-reads.Asked, put-new-reads.Learnt, put-nodes-below t, put-nodes.Post) (put-variable-at t) put-variable.Post
+put-variable-shared-slice-read-at : (t : ℕ) → put-variable-lts.Need-shared-slice-read-at (put-numbered-reads.Asked, put-numbered-reads.Learnt, find-value-reads.Asked, find-value-reads.Learnt, put-itself-reads.Asked, put-itself-reads.Learnt, put-nodes-below t, put-nodes.Post) (put-variable-at t) put-variable.Post
 put-variable-shared-slice-read-at t c = let q = c .before .before .before .before .before .before .before .before .before .before .before .before .pre .1 .0 .1 .pairs (c .before .before .before .before .before .before .by2 .given .1) in let b = c .before .before .before .before .find-value .ensures (q .0) .bound (c .before .before .k .given .1) in b .within .0
 
-put-variable-add-at : (t : ℕ) → put-variable-lts.Need-add-at (put-numbered-reads.Asked, put-numbered-reads.Learnt, find-value-reads.Asked, find-value-reads.Learnt, put-new-reads.Asked, put-new-reads.Learnt, put-nodes-below t, put-nodes.Post) (put-variable-at t) put-variable.Post
+put-variable-add-at : (t : ℕ) → put-variable-lts.Need-add-at (put-numbered-reads.Asked, put-numbered-reads.Learnt, find-value-reads.Asked, find-value-reads.Learnt, put-itself-reads.Asked, put-itself-reads.Learnt, put-nodes-below t, put-nodes.Post) (put-variable-at t) put-variable.Post
 put-variable-add-at t c = let q = c .before .before .before .before .before .before .before .before .before .before .before .before .pre .1 .0 .1 .pairs (c .before .before .before .before .before .before .by2 .given .1) in let b = c .before .before .before .before .find-value .ensures (q .0) .bound (c .before .before .k .given .1) in omega (arith, b .room)
 
-put-variable-mul-above : (t : ℕ) → put-variable-lts.Need-mul-above (put-numbered-reads.Asked, put-numbered-reads.Learnt, find-value-reads.Asked, find-value-reads.Learnt, put-new-reads.Asked, put-new-reads.Learnt, put-nodes-below t, put-nodes.Post) (put-variable-at t) put-variable.Post
+put-variable-mul-above : (t : ℕ) → put-variable-lts.Need-mul-above (put-numbered-reads.Asked, put-numbered-reads.Learnt, find-value-reads.Asked, find-value-reads.Learnt, put-itself-reads.Asked, put-itself-reads.Learnt, put-nodes-below t, put-nodes.Post) (put-variable-at t) put-variable.Post
 put-variable-mul-above t c = let q = c .before .before .before .before .before .before .before .before .before .before .before .before .pre .1 .0 .1 .pairs (c .before .before .before .before .before .before .by2 .given .1) in let b = c .before .before .before .before .find-value .ensures (q .0) .bound (c .before .before .k .given .1) in omega (arith, b .within .1)
 
-put-variable-shared-slice-read-above : (t : ℕ) → put-variable-lts.Need-shared-slice-read-above (put-numbered-reads.Asked, put-numbered-reads.Learnt, find-value-reads.Asked, find-value-reads.Learnt, put-new-reads.Asked, put-new-reads.Learnt, put-nodes-below t, put-nodes.Post) (put-variable-at t) put-variable.Post
+put-variable-shared-slice-read-above : (t : ℕ) → put-variable-lts.Need-shared-slice-read-above (put-numbered-reads.Asked, put-numbered-reads.Learnt, find-value-reads.Asked, find-value-reads.Learnt, put-itself-reads.Asked, put-itself-reads.Learnt, put-nodes-below t, put-nodes.Post) (put-variable-at t) put-variable.Post
 put-variable-shared-slice-read-above t c = let q = c .before .before .before .before .before .before .before .before .before .before .before .before .before .pre .1 .0 .1 .pairs (c .before .before .before .before .before .before .before .by2 .given .1) in let b = c .before .before .before .before .before .find-value .ensures (q .0) .bound (c .before .before .before .k .given .1) in b .within .1
 
-put-variable-put-nodes-requires : (t : ℕ) → put-variable-lts.Need-put-nodes-requires (put-numbered-reads.Asked, put-numbered-reads.Learnt, find-value-reads.Asked, find-value-reads.Learnt, put-new-reads.Asked, put-new-reads.Learnt, put-nodes-below t, put-nodes.Post) (put-variable-at t) put-variable.Post
+put-variable-put-nodes-requires : (t : ℕ) → put-variable-lts.Need-put-nodes-requires (put-numbered-reads.Asked, put-numbered-reads.Learnt, find-value-reads.Asked, find-value-reads.Learnt, put-itself-reads.Asked, put-itself-reads.Learnt, put-nodes-below t, put-nodes.Post) (put-variable-at t) put-variable.Post
 put-variable-put-nodes-requires t c κs = let q = c .before .before .before .before .before .before .before .before .before .before .before .before .before .before .pre .1 .0 .1 .pairs (c .before .before .before .before .before .before .before .before .by2 .given .1) in let b = c .before .before .before .before .before .before .find-value .ensures (q .0) .bound (c .before .before .before .before .k .given .1) in (omega (arith, c .before .before .before .before .before .before .before .before .before .before .before .before .before .before .pre .0, ap pairs-left (c .before .before .before .before .before .before .before .before .by2 .given .1), b .fewer), ((_, replaces-pairs (b .above)), b .on))
 
-put-variable-same-length : (t : ℕ) → put-variable-lts.Need-same-length (put-numbered-reads.Asked, put-numbered-reads.Learnt, find-value-reads.Asked, find-value-reads.Learnt, put-new-reads.Asked, put-new-reads.Learnt, put-nodes-below t, put-nodes.Post) (put-variable-at t) put-variable.Post
+put-variable-same-length : (t : ℕ) → put-variable-lts.Need-same-length (put-numbered-reads.Asked, put-numbered-reads.Learnt, find-value-reads.Asked, find-value-reads.Learnt, put-itself-reads.Asked, put-itself-reads.Learnt, put-nodes-below t, put-nodes.Post) (put-variable-at t) put-variable.Post
 put-variable-same-length t c = search needs
 
-put-variable-returns : (t : ℕ) → put-variable-lts.Need-returns (put-numbered-reads.Asked, put-numbered-reads.Learnt, find-value-reads.Asked, find-value-reads.Learnt, put-new-reads.Asked, put-new-reads.Learnt, put-nodes-below t, put-nodes.Post) (put-variable-at t) put-variable.Post
+put-variable-returns : (t : ℕ) → put-variable-lts.Need-returns (put-numbered-reads.Asked, put-numbered-reads.Learnt, find-value-reads.Asked, find-value-reads.Learnt, put-itself-reads.Asked, put-itself-reads.Learnt, put-nodes-below t, put-nodes.Post) (put-variable-at t) put-variable.Post
 put-variable-returns t c = λ θ w. let q = w .numbers (c .before .before .before .before .before .by .given .1) in rw (q .1) (c .before .before .put-numbered .ensures (q .0))
 
-put-variable-same-length-2 : (t : ℕ) → put-variable-lts.Need-same-length-2 (put-numbered-reads.Asked, put-numbered-reads.Learnt, find-value-reads.Asked, find-value-reads.Learnt, put-new-reads.Asked, put-new-reads.Learnt, put-nodes-below t, put-nodes.Post) (put-variable-at t) put-variable.Post
+put-variable-same-length-2 : (t : ℕ) → put-variable-lts.Need-same-length-2 (put-numbered-reads.Asked, put-numbered-reads.Learnt, find-value-reads.Asked, find-value-reads.Learnt, put-itself-reads.Asked, put-itself-reads.Learnt, put-nodes-below t, put-nodes.Post) (put-variable-at t) put-variable.Post
 put-variable-same-length-2 t c = search needs
 
-put-variable-returns-2 : (t : ℕ) → put-variable-lts.Need-returns-2 (put-numbered-reads.Asked, put-numbered-reads.Learnt, find-value-reads.Asked, find-value-reads.Learnt, put-new-reads.Asked, put-new-reads.Learnt, put-nodes-below t, put-nodes.Post) (put-variable-at t) put-variable.Post
-put-variable-returns-2 t c = λ θ w. let q = w .pairs (c .before .before .before .before .before .before .before .before .before .by2 .given .1) in rw (q .1, c .before .before .before .before .before .before .before .find-value .ensures (q .0) .free (c .before .before .before .before .before .x .given .1)) (c .before .before .put-new .ensures)
+put-variable-returns-2 : (t : ℕ) → put-variable-lts.Need-returns-2 (put-numbered-reads.Asked, put-numbered-reads.Learnt, find-value-reads.Asked, find-value-reads.Learnt, put-itself-reads.Asked, put-itself-reads.Learnt, put-nodes-below t, put-nodes.Post) (put-variable-at t) put-variable.Post
+put-variable-returns-2 t c = λ θ w. let q = w .pairs (c .before .before .before .before .before .before .before .before .before .by2 .given .1) in rw (q .1, c .before .before .before .before .before .before .before .find-value .ensures (q .0) .free (c .before .before .before .before .before .x .given .1)) (c .before .before .put-itself .ensures)
 
-put-variable-same-length-3 : (t : ℕ) → put-variable-lts.Need-same-length-3 (put-numbered-reads.Asked, put-numbered-reads.Learnt, find-value-reads.Asked, find-value-reads.Learnt, put-new-reads.Asked, put-new-reads.Learnt, put-nodes-below t, put-nodes.Post) (put-variable-at t) put-variable.Post
+put-variable-same-length-3 : (t : ℕ) → put-variable-lts.Need-same-length-3 (put-numbered-reads.Asked, put-numbered-reads.Learnt, find-value-reads.Asked, find-value-reads.Learnt, put-itself-reads.Asked, put-itself-reads.Learnt, put-nodes-below t, put-nodes.Post) (put-variable-at t) put-variable.Post
 put-variable-same-length-3 t c = search needs
 
-put-variable-returns-3 : (t : ℕ) → put-variable-lts.Need-returns-3 (put-numbered-reads.Asked, put-numbered-reads.Learnt, find-value-reads.Asked, find-value-reads.Learnt, put-new-reads.Asked, put-new-reads.Learnt, put-nodes-below t, put-nodes.Post) (put-variable-at t) put-variable.Post
+put-variable-returns-3 : (t : ℕ) → put-variable-lts.Need-returns-3 (put-numbered-reads.Asked, put-numbered-reads.Learnt, find-value-reads.Asked, find-value-reads.Learnt, put-itself-reads.Asked, put-itself-reads.Learnt, put-nodes-below t, put-nodes.Post) (put-variable-at t) put-variable.Post
 put-variable-returns-3 t c = λ θ w. let q = w .pairs (c .before .before .before .before .before .before .before .before .before .before .before .by2 .given .1) in let b = c .before .before .before .before .before .before .before .before .before .find-value .ensures (q .0) .bound (c .before .before .before .before .before .before .before .k .given .1) in rw (q .1, ← (b .bytes)) (c .before .before .put-nodes .ensures _ (replaces-pairs (b .above)))
 
 pub +put-nodes+put-variable-spec : {M : Type 1} → statement M
@@ -240,7 +240,7 @@ pub +put-nodes+put-variable-spec : {M : Type 1} → statement M
     (put-nodes-enum-told-3 t)
     (put-nodes-same-length-3 t)
     (put-nodes-returns-3 t))
-    λ t. put-variable-lts.spec (put-numbered-reads.Asked, put-numbered-reads.Learnt, find-value-reads.Asked, find-value-reads.Learnt, put-new-reads.Asked, put-new-reads.Learnt, put-nodes-below t, put-nodes.Post)
+    λ t. put-variable-lts.spec (put-numbered-reads.Asked, put-numbered-reads.Learnt, find-value-reads.Asked, find-value-reads.Learnt, put-itself-reads.Asked, put-itself-reads.Learnt, put-nodes-below t, put-nodes.Post)
     (put-variable-at t)
     put-variable.Post
     (put-variable-enum-known-by t)
@@ -248,7 +248,7 @@ pub +put-nodes+put-variable-spec : {M : Type 1} → statement M
     (put-variable-enum-known-by-2 t)
     (put-variable-find-value-requires t)
     (put-variable-enum-known-x t)
-    (put-variable-put-new-requires t)
+    (put-variable-put-itself-requires t)
     (put-variable-enum-known-k t)
     (put-variable-mul-at t)
     (put-variable-shared-slice-read-at t)

@@ -14,11 +14,11 @@ put-piece-requires c κs = argument-inside (c .before .before .before .before .b
 returns : tie.Need-returns
 returns c = λ a. rw (← (argument-cut a (c .before .before .before .before .before .before .before .before .before .args .m) _ (c .before .before .before .before .before .if1 .taken) (c .before .before .before .before .argument .ensures))) (c .before .before .put-piece .ensures)
 
-add-put-new : tie.Need-add-put-new
-add-put-new c = omega (arith, c .before .before .before .before .before .pre .1)
+add-put-itself : tie.Need-add-put-itself
+add-put-itself c = omega (arith, c .before .before .before .before .before .pre .1)
 
 returns-2 : tie.Need-returns-2
-returns-2 c = λ a. rw (numbered-behind (a .listed) _ _ (c .before .before .before .before .if1 .left)) (c .before .before .put-new .ensures)
+returns-2 c = λ a. rw (numbered-behind (a .listed) _ _ (c .before .before .before .before .if1 .left)) (c .before .before .put-itself .ensures)
 
 pub put-numbered-spec : {M : Type 1} → statement M
 put-numbered-spec =
@@ -28,7 +28,7 @@ put-numbered-spec =
     put-piece-requires
     (λ c. search needs)
     returns
-    add-put-new
+    add-put-itself
     (λ c κs. search needs)
     (λ c. search needs)
     returns-2)

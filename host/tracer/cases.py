@@ -1,11 +1,11 @@
-"""The cases: pages with rules and a query, and programs by chance, each as clauses and a goal."""
+"""The cases: pages with rules and a query, and programs by chance, each with a name, as clauses and a goal."""
 import pathlib
 
 from desk_model.canonical import to_the_right
-from desk_model.substitution import replaced
 from desk_model.trees import *
 from garage.page import section
 from garage.text import Names, Text, clauses, query
+from made import Made, clause
 from model_checks.chance import Chance
 
 UNDEFINED = [(7, 0), (8, 1)]
@@ -17,26 +17,14 @@ def page_case(path):
     return path.stem, rules, query(Text(section(page, 'Query'), symbols, predicates))
 
 
-def in_order(parts):
-    """variable numbers in the order in which they occur"""
-    met, todo = [], list(parts)
-    while todo:
-        each = todo.pop(0)
-        todo[:0] = each.parts
-        if isinstance(each, Var) and each.number not in met:
-            met.append(each.number)
-    return met
-
-
 class Programs(Chance):
-    def clause(self, key, callable_keys):
-        """a fact or a rule; its variables are those that occur"""
+    def rule(self, key, callable_keys):
+        """a fact or a rule"""
         number, arity = key
         variables = self.randint(0, 3)
-        head = tuple(self.term(variables, self.choice([0, 0, 1, 2])) for _ in range(arity))
+        head = [self.term(variables, self.choice([0, 0, 1, 2])) for _ in range(arity)]
         body = Truth() if self.random() < 0.45 else self.goal(variables + self.randint(0, 1), callable_keys, self.randint(0, 2))
-        names = {v: Var(i) for i, v in enumerate(in_order([*head, body]))}
-        return Clause(number, len(names), tuple(replaced(t, names) for t in head), replaced(body, names))
+        return clause(number, head, body)
 
     def asked(self, keys):
         """one to three atoms whose arguments are mostly variables, and now and then any goal"""
@@ -55,14 +43,18 @@ class Programs(Chance):
         for n, key in enumerate(keys):
             for _ in range(self.choice([1, 2, 2, 3])):
                 called = keys if self.random() < 0.25 else keys[n + 1:]
-                rules.append(self.clause(key, called + (UNDEFINED if self.random() < 0.1 else [])))
+                rules.append(self.rule(key, called + (UNDEFINED if self.random() < 0.1 else [])))
         return rules, self.asked(keys)
 
 
-def cases(pages, count, seed):
-    """(name, clauses, goal); program n of seed s is named s.n"""
-    chance = Programs(seed)
-    return [page_case(path) for path in pages] + [(f'{seed}.{n}', *chance.case()) for n in range(count)]
+def programs(count, seed):
+    """(name, clauses, goal); program n of seed s is named s.n, and every third one is made"""
+    chance, made = Programs(seed), Made(seed)
+    return [(f'made {seed}.{n}', *made.case()) if n % 3 == 0 else (f'{seed}.{n}', *chance.case()) for n in range(count)]
+
+
+def is_made(name):
+    return name.startswith('made ')
 
 
 def pages(repository):

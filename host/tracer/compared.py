@@ -1,13 +1,7 @@
-"""What is compared of a walk of the desk with Prolog, and the verdicts: agrees, captured, endless, differs.
-
-captured: the desk shows something else than Prolog and just what the model of release 1 shows, and the model with m over the bets too (request M-101)
-shows what Prolog shows. endless: the same, as far as it goes, where neither Prolog's search for an answer nor that model's walk came to an end.
-differs: anything else that is not equal.
-"""
+"""What is compared of a walk of the desk with Prolog: whatever is not equal differs."""
 import functools
 
 from desk_model.trees import *
-from model import model_walk, walk_over_bets
 from prolog import boxes_case, own_case, run
 
 SECONDS_PER_WALK = 1
@@ -17,7 +11,6 @@ KINDS = {
     'answers': 'answers in order, beside plain Prolog',
     'atoms': "call and exit of atoms, beside SWI-Prolog's own tracer",
 }
-VERDICTS = 'agrees', 'captured', 'endless', 'differs'
 
 
 class Query:
@@ -45,15 +38,8 @@ class Compared:
         self.number, self.query, self.walk = number, query, walk
 
     @functools.cache
-    def model(self, over_bets):
-        return (walk_over_bets if over_bets else model_walk)(self.walk.program, self.query.goal)
-
-    def shown_by(self, walk, kind):
-        return walk.shown(kind, self.query.asked, self.query.all_answers)
-
-    @functools.cache
     def shown(self, kind):
-        return self.shown_by(self.walk, kind)
+        return self.walk.shown(kind, self.query.asked, self.query.all_answers)
 
     def limit(self, kind):
         """one more than the walk shows where it ended, so that anything more would be seen; the first answer is the last one wanted"""
@@ -67,23 +53,6 @@ class Compared:
     def own(self):
         values = [Var(v) for v in sorted(variables(self.query.asked))]
         return own_case(self.number, self.limit('answers'), self.limit('atoms'), self.query, values)
-
-    def verdict(self, kind, prolog):
-        if self.shown(kind) == prolog:
-            return 'agrees'
-        if self.shown_by(self.model(False), kind) != self.shown(kind) or not self.is_capture(kind, prolog):
-            return 'differs'
-        return 'endless' if prolog[-1:] == ['endless'] else 'captured'
-
-    def is_capture(self, kind, prolog):
-        """the walk with m over the bets shows what Prolog shows: where that walk is cut, as far as it goes and past the first difference"""
-        over_bets, limit = self.model(True), self.limit(kind)
-        other = self.shown_by(over_bets, kind)
-        if over_bets.ended() or len(other) >= limit:
-            return other[:limit] == prolog
-        if prolog[-1:] == ['endless']:
-            return other[:len(prolog) - 1] == prolog[:-1]
-        return prolog[:len(other)] == other and len(other) > first_difference(self.shown(kind), prolog)
 
 
 def first_difference(one, other):

@@ -14,12 +14,13 @@ def definition(program, atom):
     return None
 
 
-def body(program, atom, ancestors):
-    """the body at the call of the atom, or None: head variables become the arguments as they stand, local i becomes m + i"""
+def body(program, atom, ancestors, bets):
+    """the body at the call of the atom, or None: head variables become the arguments as they stand, local i becomes m + i, where m is one above the
+    highest variable number of the call event, 0 where it has none"""
     found = definition(program, atom)
     if found is None:
         return None
-    m = 1 + max(atom.greatest, ancestors.greatest)
+    m = 1 + max(atom.greatest, ancestors.greatest, bets.greatest)
     ask(9, found.locals == 0 or m + found.locals - 1 <= GREATEST_VARIABLE)
     given = dict(enumerate(atom.args))
     for i in range(found.locals):

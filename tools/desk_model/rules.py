@@ -3,7 +3,7 @@
 A and B stand for any goal, P for an atom, T1 and T2 for terms, M for a unifier; U and S for the rest of the ancestors and of the bets.
 A side that names no ancestor or no bet leaves that stack as it is. Behind the bars stands what else must hold, forward and back:
 
-unifier     M is the unifier of S(T1) and S(T2)      body      B is P's body, numbered with P and U
+unifier     M is the unifier of S(T1) and S(T2)      body      B is P's body, numbered with P, U and S
 no unifier  S(T1) and S(T2) have none                no body   P has no definition
 question 8, question 9   the question is put, and the last 7 compares M or B
 """

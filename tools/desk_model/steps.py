@@ -15,7 +15,7 @@ def call_unifier(found):
 
 def call_body(program, found):
     """of P as at its call; puts question 9"""
-    return body(program, found['P'], found['U'])
+    return body(program, found['P'], found['U'], found['S'])
 
 
 def holds(condition, program, found):

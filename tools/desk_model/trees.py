@@ -178,6 +178,17 @@ class Clause(Part):
     body: Part
 
 
+def in_order(parts):
+    """the variable numbers in terms and goals, each once, as they occur"""
+    met, todo = [], list(parts)
+    while todo:
+        each = todo.pop(0)
+        todo[:0] = each.parts
+        if isinstance(each, Var) and each.number not in met:
+            met.append(each.number)
+    return met
+
+
 def variables(part):
     """the set of variable numbers in a term or goal"""
     met, todo = set(), [part]

@@ -72,8 +72,7 @@ forward('variable 65,280 and 255 locals', LOCALS, at(CALL, atom(9), [atom(5, var
 forward('variable 65,281 and 255 locals', LOCALS, at(CALL, atom(9), [atom(5, var(65281))]), want=(9, None))
 forward('variable 65,535 and no local', LOCALS, at(CALL, atom(6, var(65535))), want=(0, at(CALL, eq(var(65535), A), [atom(6, var(65535))])))
 forward('variable 65,535 and no definition', LOCALS, at(CALL, atom(5, var(65535), A)), want=(0, at(FAILS, atom(5, var(65535), A))))
-IN_BETS = [unifier((65535, A)), by(eq(var(65535), A))]
-forward('variable 65,535 in bets alone', LOCALS, at(CALL, atom(5, V3), bets=IN_BETS), want=(0, at(CALL, eq(V3, var(4)), [atom(5, V3)], IN_BETS)))
+forward('variable 65,535 in bets alone', LOCALS, at(CALL, atom(5, V3), bets=[unifier((65535, A)), by(eq(var(65535), A))]), want=(9, None))
 forward('no variable at all: the first local is 0', LOCALS, at(CALL, atom(5, A)), want=(0, at(CALL, eq(A, V0), [atom(5, A)])))
 forward('fail under an atom has no question 9', LOCALS, at(FAILS, TRUE, [atom(5, var(65535))]), want=(0, at(FAILS, atom(5, var(65535)))))
 

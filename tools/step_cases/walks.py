@@ -1,4 +1,5 @@
 """Whole walks forward and back: garage rules, recursion, walks that end in fail, and those that are refused."""
+from step_cases import p_q_r
 from step_cases.table import *
 from desk_model.canonical import canonical_program
 
@@ -40,9 +41,10 @@ heading('walk that ends in fail')
 walk('V=a;V=b, then V=c', program(definition(5, 1, 0, disj(eq(V0, A), eq(V0, B)))), record(conj(atom(5, V0), eq(V0, sym(4)))), 100)
 walk('true, fail', NO_DEFINITIONS, record(conj(TRUE, FAIL)), 100)
 walk('an undefined atom in the second half', NO_DEFINITIONS, record(conj(disj(TRUE, TRUE), P)), 100)
-# p(A) :- A=g(L). q :- L=1. r(A) :- A=g(2).  At q the number of p's L stands in bets alone and is taken again.
-CAUGHT = rules(clause(1, 2, [V0], eq(V0, sym(6, V1))), clause(2, 1, [], eq(V0, sym(1))), clause(3, 1, [V0], eq(V0, sym(6, sym(2)))))
-walk('p(W), (q, r(W)): a local\'s number is taken again', CAUGHT, record(conj(atom(1, V0), conj(atom(2), atom(3, V0)))), 200)
+
+heading('numbers that stand in bets alone')
+assert rules(*p_q_r.CLAUSES) == p_q_r.PROGRAM
+walk('p(W), (q, r(W)): 23 steps to the exit', p_q_r.PROGRAM, p_q_r.QUERY, 200, want=p_q_r.THERE_AND_BACK)
 
 heading('recursion')
 # q(a). q(f(Z)) :- q(Z).

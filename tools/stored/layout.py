@@ -67,6 +67,11 @@ def rightward(kind, n, last):
     return (bytes([kind]) + TRUE) * n + last
 
 
+def halved(n, goal):
+    """n times the goal, joined by conjunctions whose halves are nearly of one size, so that no event of it has many ancestors"""
+    return goal if n == 1 else conj(halved(n - n // 2, goal), halved(n // 2, goal))
+
+
 # ---- Ancestors and bets
 def in_conj(tag, a, b):
     return bytes([0x30, tag]) + a + b

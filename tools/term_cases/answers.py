@@ -37,7 +37,7 @@ def atom_body(program_record, event_record):
     program, event = gate.program(program_record), gate.event(event_record)
     if not isinstance(event.goal, Atom):
         return 'other'
-    found = body(program, event.goal, event.ancestors)
+    found = body(program, event.goal, event.ancestors, event.bets)
     if found is None:
         return 'none'
     return 'long' if found.length > ROOM else printed(written(found))

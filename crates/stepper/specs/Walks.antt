@@ -5,6 +5,7 @@ pub mod Reached
 pub mod Inverse
 pub mod TreeDemands
 pub mod ByteDemands
+pub mod TriangularBets
 pub mod DemandsExample
 pub mod WalkLaws
 pub mod ReachedLaws

@@ -5,6 +5,7 @@ pub mod Mgu
 pub mod MostGeneral
 pub mod Unify
 pub mod Outcome
+pub mod Triangular
 pub mod Examples
 pub mod SubstitutionLaws
 pub mod VariablesLaws
@@ -18,3 +19,4 @@ pub mod DifferenceLaws
 pub mod UnifyLaws
 pub mod UnifyFormedLaws
 pub mod OutcomeLaws
+pub mod TriangularLaws

@@ -1,4 +1,4 @@
-// The first new variable: one more than the greatest of an event's goal and ancestors, or 0 if there is none.
+// The first new variable: one more than the greatest of an event's goal, ancestors and bets, or 0 if there is none.
 // The members of a stack are passed one after another, and behind a unifier its pairs: both are counted as they are to come, so that one loop
 // goes over a stack of either kind.
 use records::heads::AncestorHead;
@@ -14,9 +14,9 @@ ghost use mathlib.Core.Path.{_≡_};
 ghost use Prim.Native.Nat.{max};
 ghost use Rattle.records.specs.Gate.RecordRules.{ancestor-variables};
 ghost use Rattle.records.specs.Ends.Above.{above};
-ghost use Rattle.terms.specs.Body.Body.{next-variable};
+ghost use Rattle.terms.specs.Body.Body.{pair-variables, bet-variables, next-variable};
 ghost use Rattle.terms.specs.Standing.Frames.{AncestorAt, BetAt, PairAt, FrameAt};
-ghost use Rattle.terms.specs.Body.Tops.{TopOf, PieceOf, MemberAt, StackAt, pair-variables, bet-variables, member-variables, members-variables};
+ghost use Rattle.terms.specs.Body.Tops.{TopOf, PieceOf, MemberAt, StackAt, member-variables, members-variables};
 
 // Where an event's goal and its stacks stand, and how many parts a stack has.
 pub struct Frame {
@@ -188,7 +188,6 @@ fn stack_top(event: &[u8], at: usize, stack: StackKind, n: usize, m: usize) -> u
     }
 }
 
-// Bets are not looked at.
 pub fn next_variable(event: &[u8], frame: Frame) -> usize
     requires { ⌜ FrameAt (now event) frame ⌝ }
     ensures { λ r. ⌜ ((f : FrameAt (now (event .entry)) frame) → r ≡ next-variable (f .goal .item) (f .ancestors .items) (f .bets .items)) ⌝ }
@@ -201,11 +200,12 @@ pub fn next_variable(event: &[u8], frame: Frame) -> usize
             goals: 1,
         },
     );
-    stack_top(
+    let m = stack_top(
         event,
         frame.ancestors,
         StackKind::Ancestors,
         frame.depth,
         t.top,
-    )
+    );
+    stack_top(event, frame.bets, StackKind::Bets, frame.height, m)
 }

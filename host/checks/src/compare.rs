@@ -1,6 +1,7 @@
 //! One case put to the desk and to the twin; number, record and every other byte of the output are compared.
 
 use crate::generate::Dice;
+use crate::numbering::numbered;
 use crate::rules::rule;
 use crate::table::{Met, Table};
 use fourport::{raw, Counts};
@@ -146,6 +147,9 @@ impl Checker {
         let twin = if back { services::back } else { services::forward };
         let sides = self.sides(room, |out| (desk(program, event, out), vec![]), || reply(twin(program, event, room)));
         let answer = self.settle(service, sides, Inputs { records: &[program, event], numbers: format!("output {room}") })?;
+        if let Some(met) = numbered(direction, program, event, answer.number) {
+            self.table.add_numbered(met);
+        }
         if answer.number == 0 {
             let (from, to) = if back { (&answer.bytes[..], event) } else { (event, &answer.bytes[..]) };
             if let Some(rule) = rule(from, to) {

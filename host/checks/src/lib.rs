@@ -4,6 +4,7 @@
 pub mod compare;
 pub mod generate;
 pub mod kinds;
+pub mod numbering;
 pub mod rules;
 pub mod table;
 

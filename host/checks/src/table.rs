@@ -1,6 +1,7 @@
-//! What was met: cases by kind, by service and number, steps by rule.
+//! What was met: cases by kind, by service and number, steps by rule, bodies by the part that numbers them.
 
 use crate::compare::Service;
+use crate::numbering::{Numbered, ENDS, PLACES, WAYS};
 use crate::rules::RULES;
 use std::fmt;
 use std::time::Duration;
@@ -32,6 +33,7 @@ pub struct Table {
     kinds: Vec<(&'static str, Row)>,
     services: [Row; Service::ALL.len()],
     rules: [[u64; 2]; RULES.len()],
+    numbered: [[[u64; ENDS.len()]; WAYS.len()]; PLACES.len()],
     /// pairs of lists of steps whose ends are different, and equal
     pub ends: [u64; 2],
 }
@@ -42,6 +44,7 @@ impl Table {
             kinds: kinds.iter().map(|&kind| (kind, Row::default())).collect(),
             services: Default::default(),
             rules: [[0; 2]; RULES.len()],
+            numbered: Default::default(),
             ends: [0; 2],
         }
     }
@@ -60,6 +63,14 @@ impl Table {
 
     pub fn add_rule(&mut self, rule: usize, back: bool) {
         self.rules[rule][usize::from(back)] += 1;
+    }
+
+    pub fn add_numbered(&mut self, met: Numbered) {
+        self.numbered[met.place][met.way][met.end] += 1;
+    }
+
+    fn times(&self, met: Numbered) -> u64 {
+        self.numbered[met.place][met.way][met.end]
     }
 
     pub fn cases(&self) -> u64 {
@@ -88,6 +99,8 @@ impl Table {
                 }
             }
         }
+        let unmet = Numbered::due().filter(|&met| self.times(met) == 0);
+        missed.extend(unmet.map(|met| format!("never numbered, {}, greatest in {}: {}", WAYS[met.way], PLACES[met.place], ENDS[met.end])));
         if self.ends.contains(&0) {
             missed.push("two lists of steps always ended alike, or never".into());
         }
@@ -95,10 +108,18 @@ impl Table {
     }
 }
 
+fn shown(count: u64) -> String {
+    if count == 0 {
+        ".".into()
+    } else {
+        count.to_string()
+    }
+}
+
 fn line(f: &mut fmt::Formatter<'_>, name: &str, row: &Row) -> fmt::Result {
     write!(f, "{name:<12}{:>8}", row.cases())?;
     for count in row.numbers.iter().chain([&row.empty]) {
-        write!(f, "{:>7}", if *count == 0 { ".".into() } else { count.to_string() })?;
+        write!(f, "{:>7}", shown(*count))?;
     }
     let seconds = |time: Duration| time.as_secs_f64();
     writeln!(f, "{:>8.2}{:>8.2}{:>9.2}", seconds(row.desk), seconds(row.twin), seconds(row.slowest) * 1000.0)
@@ -108,6 +129,21 @@ fn head(f: &mut fmt::Formatter<'_>, name: &str) -> fmt::Result {
     write!(f, "{name:<12}{:>8}", "cases")?;
     (0..15).try_for_each(|number| write!(f, "{number:>7}"))?;
     writeln!(f, "{:>7}{:>8}{:>8}{:>9}", "empty", "desk s", "twin s", "most ms")
+}
+
+impl Table {
+    /// For each part that has the greatest variable, and each way in which a body is numbered, what came of it.
+    fn numbered_lines(&self, f: &mut fmt::Formatter<'_>) -> fmt::Result {
+        write!(f, "\n{:<34}", "")?;
+        WAYS.iter().try_for_each(|way| write!(f, "  {way:<33}"))?;
+        write!(f, "\n{:<34}", "greatest variable in")?;
+        WAYS.iter().try_for_each(|_| ENDS.iter().try_for_each(|end| write!(f, "{end:>7}")))?;
+        for (place, ways) in PLACES.iter().zip(&self.numbered) {
+            write!(f, "\n{place:<34}")?;
+            ways.iter().flatten().try_for_each(|count| write!(f, "{:>7}", shown(*count)))?;
+        }
+        writeln!(f)
+    }
 }
 
 impl fmt::Display for Table {
@@ -121,6 +157,7 @@ impl fmt::Display for Table {
         for (rule, [forward, back]) in RULES.iter().zip(&self.rules) {
             writeln!(f, "{rule:<62}{forward:>9}{back:>9}")?;
         }
+        self.numbered_lines(f)?;
         let [different, equal] = self.ends;
         writeln!(f, "\ntwo lists of steps: {equal} pairs ended at equal events, {different} at different ones")
     }

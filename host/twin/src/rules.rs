@@ -54,7 +54,7 @@ fn unified(event: &Event, left: &TermRef, right: &TermRef, count: usize) -> Resu
     Ok(unifier::unifier(&left, &right))
 }
 
-/// The body of the atom, numbered for this goal and the ancestors above which m stands; question 9. Nothing for an atom without a definition.
+/// The body of the atom, its locals numbered from m; question 9. Nothing for an atom without a definition.
 fn body_of(program: &Program, atom: &GoalRef, m: u32) -> Result<Option<GoalRef>, Refusal> {
     let GoalShape::Atom(predicate, arguments) = atom.shape() else { return Ok(None) };
     match program.definition(*predicate, arguments.len()) {
@@ -169,7 +169,7 @@ fn entered(program: &Program, event: &Event) -> Result<Change, Refusal> {
         None => return no_rule(),
         // call of P's body, P on U ← call P
         Some(Ancestor::Atom(p)) if event.port == Call => {
-            return match body_of(program, p, p.above().max(event.ancestors.above_below_top()))? {
+            return match body_of(program, p, event.stacks_above())? {
                 Some(body) if same_goal(&body, goal) => change(Call, p, Drop, Keep),
                 _ => no_rule(),
             };

@@ -108,6 +108,26 @@ fn canonical_form() {
     assert_eq!(canonical(&program(&[]), ROOM), gives(program(&[])));
 }
 
+/// SPECIFICATION 4: the goal holds variable 4, a bet 9 or 65,535.
+#[test]
+fn locals_above_the_bets() {
+    let one_local = program(&[definition(5, 1, 1, &equality(&variable(0), &variable(1)))]);
+    let goal = atom(5, &[variable(4)]);
+    for bet in [unifier(&[(9, a())]), unifier(&[(1, symbol(6, &[variable(9)]))]), by(&atom(8, &[variable(9)]))] {
+        let bets = [or(1), bet];
+        let at = |port| event(port, &goal, &[], &bets);
+        let in_body = |port, local| event(port, &equality(&variable(4), &variable(local)), std::slice::from_ref(&goal), &bets);
+        assert_eq!(forward(&one_local, &at(1), ROOM), gives(in_body(1, 10)));
+        assert_eq!(back(&one_local, &in_body(1, 10), ROOM), gives(at(1)));
+        assert_eq!(back(&one_local, &in_body(1, 5), ROOM), refused(7));
+        assert_eq!(back(&one_local, &at(3), ROOM), gives(in_body(3, 10)));
+    }
+    let last = [unifier(&[(65_535, a())])];
+    assert_eq!(forward(&one_local, &event(1, &goal, &[], &last), ROOM), refused(9));
+    assert_eq!(back(&one_local, &event(1, &TRUE, std::slice::from_ref(&goal), &last), ROOM), refused(9));
+    assert_eq!(back(&one_local, &event(3, &goal, &[], &last), ROOM), refused(9));
+}
+
 #[test]
 fn limits() {
     let (passes, over) = (nested(2047, &a()), nested(2045, &symbol(6, &[variable(1), variable(2), variable(3)])));

@@ -11,7 +11,6 @@ use Rattle.records.specs.Format.Syntax.Goal.{atom}
 use Rattle.records.specs.Format.Encode.{word, terms-bytes, goal-bytes}
 use Rattle.records.specs.Format.Formed.{AtomFormed}
 use Rattle.records.specs.Format.Heads.{goal-head-at}
-use Rattle.records.specs.Gate.Question.{fits}
 use Rattle.records.specs.Gate.Reply.{on-yes, reply-with}
 use Rattle.records.specs.Writing.Patched.{Put}
 use Rattle.records.specs.Writing.PatchedLaws.{put-front}
@@ -98,7 +97,7 @@ module _ {s : List ℕ} {f : Frame} (a : AtomAt s f) where
   first-new = next-variable (a .frame .goal .item) (a .frame .ancestors .items) (a .frame .bets .items)
 
   pub first-new-small : {m : ℕ} → m ≡ first-new → m ≤ 65536
-  first-new-small e = rw e (next-variable-formed (a .frame .goal .item) (a .frame .ancestors .items) (a .frame .bets .items) (a .frame .goal .formed) (a .frame .ancestors .formed))
+  first-new-small e = rw e (next-variable-formed (a .frame .goal .item) (a .frame .ancestors .items) (a .frame .bets .items) (a .frame .goal .formed) (a .frame .ancestors .formed) (a .frame .bets .formed))
 
   module _ {m : ℕ} (new : m ≡ first-new) {b : Bool} (l : ℕ) (test : b ≡ locals-beyond m l) where
     pub body-too-many : (out : List ℕ) (g : Goal) → b ≡ true → BodyAnswered out out (body-with l g (a .terms) first-new) TooMany

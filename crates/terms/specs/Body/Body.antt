@@ -1,19 +1,21 @@
 -- The body of an atom (SPECIFICATION 4): its definition's goal with the head's variables become the atom's arguments, as they stand and all
 -- at once, and the locals become new variables.
--- Choices: the first new variable is one definition, which is given the whole call event though only goal and ancestors are looked at.
+-- Choices: the first new variable is one definition over the whole call event, so a body depends on the program and on that event alone.
 use mathlib.Core.List.{List, [], _∷_, _++_}
 use mathlib.Core.Bool.{Bool, _&&_, cond}
 use mathlib.Core.HLevel.{Discrete}
 use mathlib.Core.Option.{Option, none, some}
 use Prim.Native.Nat.{ℕ, zero, suc, _+_}
 use lib.Dec.{eqb, ltb}
-use Rattle.records.specs.Format.Syntax.{Terms, Goal, Ancestor, Bet, Definition, arity}
+use Rattle.records.specs.Format.Syntax.{Terms, Goal, Ancestor, Binding, Bet, Definition, arity}
 use Rattle.records.specs.Format.Syntax.Term.{var}
 use Rattle.records.specs.Format.Syntax.Terms.{nil, cons}
 use Rattle.records.specs.Format.Syntax.Goal.{truth, failure, equal, conj, disj, atom}
+use Rattle.records.specs.Format.Syntax.Binding.{bind}
+use Rattle.records.specs.Format.Syntax.Bet.{unifier, or, by}
 use Rattle.records.specs.Format.Syntax.Definition.{definition}
 use Rattle.records.specs.Format.Encode.{each}
-use Rattle.records.specs.Gate.RecordRules.{goal-variables, ancestor-variables}
+use Rattle.records.specs.Gate.RecordRules.{term-variables, goal-variables, ancestor-variables}
 use Rattle.records.specs.Ends.Above.{above}
 use Rattle.terms.specs.Theory.Substitution.{Substitution, substitute, substitute-all}
 
@@ -21,9 +23,26 @@ use Rattle.terms.specs.Theory.Substitution.{Substitution, substitute, su
 abbrev pub ancestors-variables : List Ancestor → List ℕ
 ancestors-variables u = each ancestor-variables u
 
--- m: one more than the greatest variable number in the goal and the ancestors of the call event, or 0 if there is none
+-- the variables of a pair: the one that is bound, and those of the term that it is bound to
+abbrev pub pair-variables : Binding → List ℕ
+pair-variables (bind v t) = v ∷ term-variables t
+
+-- the variables of a bet, and of a bet stack
+abbrev pub bet-variables : Bet → List ℕ
+bet-variables (unifier σ) = each pair-variables σ
+bet-variables (or n) = []
+bet-variables (by g) = goal-variables g
+
+abbrev pub bets-variables : List Bet → List ℕ
+bets-variables s = each bet-variables s
+
+-- the variables of a goal, its ancestors and its bets
+abbrev pub event-variables : Goal → List Ancestor → List Bet → List ℕ
+event-variables g ancestors bets = goal-variables g ++ (ancestors-variables ancestors ++ bets-variables bets)
+
+-- m: one above the greatest variable of the call event's goal, ancestors and bets, 0 where they hold none
 unfoldable pub next-variable : Goal → List Ancestor → List Bet → ℕ
-next-variable g ancestors bets = above (goal-variables g ++ ancestors-variables ancestors)
+next-variable g ancestors bets = above (event-variables g ancestors bets)
 
 -- the i-th head variable becomes the i-th argument, the i-th variable behind them m + i
 abbrev pub numbered : Terms → ℕ → Substitution

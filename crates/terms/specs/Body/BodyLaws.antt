@@ -1,6 +1,6 @@
--- Laws of an atom's body: the new variables are above all of the goal and the ancestors, and the body of a well-formed atom is well formed.
+-- Laws of an atom's body: the body of a well-formed atom is well formed, and its variables are the atom's and new ones.
 use mathlib.Core.Path.{_≡_, refl, sym, _∙_, ap}
-use mathlib.Core.Logic.{inl, inr}
+use mathlib.Core.Logic.{_⊎_, inl, inr}
 use mathlib.Core.List.{List, [], _∷_, _++_}
 use mathlib.Core.Bool.{Bool, true, false, cond}
 use mathlib.Core.Option.{Option, none, some}
@@ -10,15 +10,18 @@ use lib.Dec.{eqb, ltb}
 use borrow.Author.Tests.{eqb-true, ltb-true, lt-ltb, ltb-false}
 use Rattle.records.specs.Gate.RecordRulesLaws.{and-both}
 use Rattle.records.specs.Format.Never.{never}
-use Rattle.records.specs.Format.Syntax.{Terms, Goal, Ancestor, Bet, Definition, arity}
+use Rattle.records.specs.Format.Syntax.{Terms, Goal, Ancestor, Binding, Bet, Definition, arity}
 use Rattle.records.specs.Format.Syntax.Terms.{nil, cons}
 use Rattle.records.specs.Format.Syntax.Goal.{truth, failure, equal, conj, disj, atom}
 use Rattle.records.specs.Format.Syntax.Ancestor.{called, in-conj, in-disj}
+use Rattle.records.specs.Format.Syntax.Binding.{bind}
+use Rattle.records.specs.Format.Syntax.Bet.{unifier, or, by}
 use Rattle.records.specs.Format.Syntax.Definition.{definition}
-use Rattle.records.specs.Format.Formed.{TermFormed, TermsFormed, AtomFormed, GoalFormed, All, AncestorFormed, DefinitionFormed}
-use Rattle.records.specs.Gate.RecordRules.{term-variables, goal-variables, ancestor-variables, every, rising, keys, definition-rules, program-rules}
-use Rattle.terms.specs.Theory.Substitution.{Substitution}
-use Rattle.terms.specs.Theory.SubstitutionLaws.{arity-substitute}
+use Rattle.records.specs.Format.Encode.{each}
+use Rattle.records.specs.Format.Formed.{TermFormed, TermsFormed, AtomFormed, GoalFormed, All, AncestorFormed, BindingFormed, BetFormed, DefinitionFormed}
+use Rattle.records.specs.Gate.RecordRules.{term-variables, terms-variables, goal-variables, ancestor-variables, every, rising, keys, definition-rules, program-rules}
+use Rattle.terms.specs.Theory.Substitution.{Substitution, substitute, substitute-all, Occurs, Occurs-in}
+use Rattle.terms.specs.Theory.SubstitutionLaws.{occurs-substitute, occurs-substitute-all, arity-substitute}
 use Rattle.terms.specs.Theory.FormedLaws.{substitute-formed, substitute-all-formed, occurs-formed, occurs-in-formed}
 use Rattle.terms.specs.Theory.Variables.{Among}
 use Rattle.terms.specs.Theory.VariablesLaws.{
@@ -35,6 +38,10 @@ use Rattle.terms.specs.Theory.VariablesLaws.{
 use Rattle.terms.specs.Theory.TestLaws.{every-all, all-among}
 use Rattle.terms.specs.Body.Body.{
   ancestors-variables,
+  pair-variables,
+  bet-variables,
+  bets-variables,
+  event-variables,
   next-variable,
   numbered,
   substitute-goal,
@@ -85,36 +92,44 @@ goal-variable-formed (disj a b) k v h = elim (among-either v (goal-variables a) 
 ]
 goal-variable-formed (atom p ts) k v h = occurs-in-formed v ts (k .2) (among-occurs-in v ts h)
 
-pub ancestor-variable-formed : (a : Ancestor) → AncestorFormed a → (v : ℕ) → Among v (ancestor-variables a) → v < 65536
+-- so does one of a row whose items have such variables
+each-formed : {A : Type 0} {Formed : A → Type 0} (variables : A → List ℕ) → ((a : A) → Formed a → (v : ℕ) → Among v (variables a) → v < 65536)
+    → (l : List A) → All Formed l → (v : ℕ) → Among v (each variables l) → v < 65536
+each-formed variables f [] k v h = absurd h
+each-formed variables f (a ∷ l) k v h = elim (among-either v (variables a) (each variables l) h) [
+  | inl o ↦ f a (k .0) v o
+  | inr o ↦ each-formed variables f l (k .1) v o
+]
+
+ancestor-variable-formed : (a : Ancestor) → AncestorFormed a → (v : ℕ) → Among v (ancestor-variables a) → v < 65536
 ancestor-variable-formed (called p ts) k v h = goal-variable-formed (atom p ts) k v h
 ancestor-variable-formed (in-conj s a b) k v h = goal-variable-formed (conj a b) k v h
 ancestor-variable-formed (in-disj s a b) k v h = goal-variable-formed (disj a b) k v h
 
-pub ancestors-variable-formed : (u : List Ancestor) → All AncestorFormed u → (v : ℕ) → Among v (ancestors-variables u) → v < 65536
-ancestors-variable-formed [] k v h = absurd h
-ancestors-variable-formed (a ∷ u) k v h = elim (among-either v (ancestor-variables a) (ancestors-variables u) h) [
-  | inl o ↦ ancestor-variable-formed a (k .0) v o
-  | inr o ↦ ancestors-variable-formed u (k .1) v o
-]
+pair-variable-formed : (b : Binding) → BindingFormed b → (v : ℕ) → Among v (pair-variables b) → v < 65536
+pair-variable-formed (bind x t) k v (inl e) = rw e (k .0)
+pair-variable-formed (bind x t) k v (inr o) = occurs-formed v t (k .1) (among-occurs v t o)
 
--- the first new variable is above each of the goal and of the ancestors
-pub next-above-goal : (g : Goal) (u : List Ancestor) (s : List Bet) (v : ℕ) → Among v (goal-variables g) → v < next-variable g u s
-unfolding next-variable
-next-above-goal g u s v h =
-    among-above v (goal-variables g ++ ancestors-variables u) (among-left v (goal-variables g) (ancestors-variables u) h)
+bet-variable-formed : (b : Bet) → BetFormed b → (v : ℕ) → Among v (bet-variables b) → v < 65536
+bet-variable-formed (unifier σ) k v h = each-formed pair-variables pair-variable-formed σ (k .1) v h
+bet-variable-formed (or n) k v h = absurd h
+bet-variable-formed (by g) k v h = goal-variable-formed g k v h
 
-pub next-above-ancestors : (g : Goal) (u : List Ancestor) (s : List Bet) (v : ℕ) → Among v (ancestors-variables u) → v < next-variable g u s
+-- the first new variable is above each that stands in the event,
+pub next-above : (g : Goal) (u : List Ancestor) (s : List Bet) (v : ℕ) → Among v (event-variables g u s) → v < next-variable g u s
 unfolding next-variable
-next-above-ancestors g u s v h =
-    among-above v (goal-variables g ++ ancestors-variables u) (among-right v (goal-variables g) (ancestors-variables u) h)
+next-above g u s v h = among-above v (event-variables g u s) h
 
--- and at most 65,536 in a well-formed event
-pub next-variable-formed : (g : Goal) (u : List Ancestor) (s : List Bet) → GoalFormed g → All AncestorFormed u → next-variable g u s ≤ 65536
+-- and at most 65,536 in a well-formed one
+pub next-variable-formed : (g : Goal) (u : List Ancestor) (s : List Bet) → GoalFormed g → All AncestorFormed u → All BetFormed s → next-variable g u s ≤ 65536
 unfolding next-variable
-next-variable-formed g u s h k =
-    above-least 65536 (goal-variables g ++ ancestors-variables u) (λ v o. elim (among-either v (goal-variables g) (ancestors-variables u) o) [
+next-variable-formed g u s h k l =
+    above-least 65536 (event-variables g u s) (λ v o. elim (among-either v (goal-variables g) (ancestors-variables u ++ bets-variables s) o) [
       | inl p ↦ goal-variable-formed g h v p
-      | inr p ↦ ancestors-variable-formed u k v p
+      | inr p ↦ elim (among-either v (ancestors-variables u) (bets-variables s) p) [
+        | inl q ↦ each-formed ancestor-variables ancestor-variable-formed u k v q
+        | inr q ↦ each-formed bet-variables bet-variable-formed s l v q
+      ]
     ])
 
 -- arguments and new variables are well formed
@@ -166,3 +181,51 @@ body-formed program p ts u s g d r a e = found (definition-of program p (arity t
         let y = definition-found (λ c. definition-rules c ≡ true) program p (arity ts) (definition q n l b) z
         (every-all definition-rules program (and-both (rising (keys program)) (every definition-rules program) r .1)) in
         numbers q n l b (x .0) (y .0) (x .1) (locals-beyond m l) refl f
+
+-- a variable of a goal under a substitution stands in what one of the goal's variables became
+among-substitute : (θ : Substitution) (g : Goal) (v : ℕ) → Among v (goal-variables (substitute-goal θ g)) → (w : ℕ) × Occurs v (θ w)
+among-substitute θ truth v h = absurd h
+among-substitute θ failure v h = absurd h
+among-substitute θ (equal t u) v h = elim (among-either v (term-variables (substitute θ t)) (term-variables (substitute θ u)) h) [
+  | inl o ↦ let r = occurs-substitute θ t v (among-occurs v (substitute θ t) o) in (r .0, r .2)
+  | inr o ↦ let r = occurs-substitute θ u v (among-occurs v (substitute θ u) o) in (r .0, r .2)
+]
+among-substitute θ (conj a b) v h = elim (among-either v (goal-variables (substitute-goal θ a)) (goal-variables (substitute-goal θ b)) h) [
+  | inl o ↦ among-substitute θ a v o
+  | inr o ↦ among-substitute θ b v o
+]
+among-substitute θ (disj a b) v h = elim (among-either v (goal-variables (substitute-goal θ a)) (goal-variables (substitute-goal θ b)) h) [
+  | inl o ↦ among-substitute θ a v o
+  | inr o ↦ among-substitute θ b v o
+]
+among-substitute θ (atom p ts) v h = let r = occurs-substitute-all θ ts v (among-occurs-in v (substitute-all θ ts) h) in (r .0, r .2)
+
+-- an argument, or a number from m on
+numbered-variable : (ts : Terms) (m i v : ℕ) → Occurs v (numbered ts m i) → Occurs-in v ts ⊎ (m ≤ v)
+numbered-variable nil m i v o = inr (let e : v ≡ m + i = o in omega arith)
+numbered-variable (cons t ts) m zero v o = inl (inl o)
+numbered-variable (cons t ts) m (suc i) v o = elim (numbered-variable ts m i v o) [ inl r ↦ inl (inr r) | inr r ↦ inr r ]
+
+-- Locals are new: a variable of an atom's body stands in the atom, or nowhere in the event that calls it: not in its goal, its ancestors or its bets.
+pub locals-new : (program : List Definition) (p : ℕ) (ts : Terms) (u : List Ancestor) (s : List Bet) (g : Goal) → body program p ts u s ≡ defined g
+    → (v : ℕ) → Among v (goal-variables g) → Among v (terms-variables ts) ⊎ (Among v (event-variables (atom p ts) u s) → ⊥)
+unfolding body
+locals-new program p ts u s g e v h = found (definition-of program p (arity ts)) e
+  where
+    m : ℕ
+    m = next-variable (atom p ts) u s
+
+    numbers : (b : Goal) (c : Bool) → cond c too-many (defined (substitute-goal (numbered ts m) b)) ≡ defined g
+        → Among v (terms-variables ts) ⊎ (Among v (event-variables (atom p ts) u s) → ⊥)
+    numbers b true f = never cc
+    numbers b false f =
+        let w : g ≡ substitute-goal (numbered ts m) b = cc in
+        let r = among-substitute (numbered ts m) b v (rw w at h) in
+        elim (numbered-variable ts m (r .0) v (r .1)) [
+          | inl o ↦ inl (occurs-in-among v ts o)
+          | inr o ↦ inr (λ k. let z = next-above (atom p ts) u s v k in omega arith)
+        ]
+
+    found : (o : Option Definition) → body-of o ts m ≡ defined g → Among v (terms-variables ts) ⊎ (Among v (event-variables (atom p ts) u s) → ⊥)
+    found none f = never cc
+    found (some (definition q n l b)) f = numbers b (locals-beyond m l) f

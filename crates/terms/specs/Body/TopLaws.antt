@@ -32,8 +32,8 @@ use Rattle.records.specs.declared.heads.Word.{Word}
 use Rattle.records.specs.declared.heads.Word.the-variants.{Number, Short}
 use Rattle.records.specs.declared.traverse.Top.{Top}
 use Rattle.records.specs.Ends.Above.{above}
-use Rattle.terms.specs.Body.Body.{ancestors-variables, next-variable}
-use Rattle.terms.specs.Body.Tops.{pair-variables, bet-variables, Member, member-variables, members-variables, MemberAt, StackAt, TopOf, PieceOf}
+use Rattle.terms.specs.Body.Body.{ancestors-variables, pair-variables, bet-variables, bets-variables, next-variable}
+use Rattle.terms.specs.Body.Tops.{Member, member-variables, members-variables, MemberAt, StackAt, TopOf, PieceOf}
 use Rattle.terms.specs.Standing.Frames.{GoalAt, AncestorAt, PairAt, PairsAt, BetAt}
 use Rattle.terms.specs.Standing.Rows.{FirstOf, standing-empty, standing-moved}
 use Rattle.terms.specs.Standing.RowsLaws.{standing-first, standing-none, standing-none-end}
@@ -251,7 +251,11 @@ module _ {k : StackKind} {s : List ℕ} {at n low pos pairs left m : ℕ} (g : G
               let w : max (above (each pair-variables (g .own u .items))) (above (members-variables k (g .rest u .items))) ≡ above (members-variables k (g .rest u .items)) = omega (arith, none-left u) in
               ap (max m) (w ∙ v) ∙ regrouped m (r .top) p q ∙ ap (λ (i : ℕ). max i (max p q)) (sym e)
 
--- both together are the first new variable
-pub next-is : (g : Goal) (u : List Ancestor) (b : List Bet) (t r : ℕ) → t ≡ above (goal-variables g) → r ≡ max t (above (ancestors-variables u)) → r ≡ next-variable g u b
+-- all three together are the first new variable
+pub next-is : (g : Goal) (u : List Ancestor) (s : List Bet) {a b c : ℕ} → a ≡ above (goal-variables g) → b ≡ max a (above (ancestors-variables u))
+    → c ≡ max b (above (bets-variables s)) → c ≡ next-variable g u s
 unfolding next-variable
-next-is g u b t r p q = q ∙ ap (λ (k : ℕ). max k (above (ancestors-variables u))) p ∙ sym (above-append (goal-variables g) (ancestors-variables u))
+next-is g u s p q r =
+    let x = above-append (goal-variables g) (ancestors-variables u ++ bets-variables s) in
+    let y = above-append (ancestors-variables u) (bets-variables s) in
+    omega (arith, p, q, r, x, y)

@@ -1,29 +1,19 @@
 -- The variables of the members of an event's stacks, and what code tells of them: one more than the greatest, and where a member ends.
 use mathlib.Core.Path.{_≡_}
-use mathlib.Core.List.{List, [], _∷_}
+use mathlib.Core.List.{List}
 use Prim.Native.Nat.{ℕ, _<_, max}
-use Rattle.records.specs.Format.Syntax.{Ancestor, Binding, Bet}
-use Rattle.records.specs.Format.Syntax.Binding.{bind}
-use Rattle.records.specs.Format.Syntax.Bet.{unifier, or, by}
+use Rattle.records.specs.Format.Syntax.{Ancestor, Bet}
 use Rattle.records.specs.Format.Encode.{each, ancestor-bytes, bet-bytes}
 use Rattle.records.specs.Format.Formed.{AncestorFormed, BetFormed}
-use Rattle.records.specs.Gate.RecordRules.{term-variables, goal-variables, ancestor-variables}
+use Rattle.records.specs.Gate.RecordRules.{ancestor-variables}
 use Rattle.records.specs.declared.traverse.Top.{Top}
 use Rattle.records.specs.Ends.Above.{above}
+use Rattle.terms.specs.Body.Body.{pair-variables, bet-variables}
 use Rattle.terms.specs.Standing.Rows.{StandingItem, StandingRow}
 use Rattle.terms.specs.Standing.Frames.{PairsAt}
 use Rattle.terms.specs.declared.variables.MemberTop.{MemberTop}
 use Rattle.terms.specs.declared.variables.StackKind.{StackKind}
 use Rattle.terms.specs.declared.variables.StackKind.the-variants.{Ancestors, Bets}
-
--- the variables of a pair, its own first, and of a bet
-abbrev pub pair-variables : Binding → List ℕ
-pair-variables (bind v t) = v ∷ term-variables t
-
-abbrev pub bet-variables : Bet → List ℕ
-bet-variables (unifier σ) = each pair-variables σ
-bet-variables (or h) = []
-bet-variables (by g) = goal-variables g
 
 -- the members of a stack: ancestors or bets
 abbrev pub Member : StackKind → Type 0

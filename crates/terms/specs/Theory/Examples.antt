@@ -3,14 +3,14 @@ use mathlib.Core.Path.{_≡_, refl}
 use mathlib.Core.List.{List, [], _∷_}
 use mathlib.Core.Option.{none, some}
 use native.Mathlib.Decide.{ℕ-discrete, decLt}
-use Rattle.records.specs.Format.Syntax.{Term, Definition}
+use Rattle.records.specs.Format.Syntax.{Term, Goal, Definition}
 use Rattle.records.specs.Format.Syntax.Term.{var, app}
 use Rattle.records.specs.Format.Syntax.Terms.{nil, cons}
 use Rattle.records.specs.Format.Syntax.Goal.{equal, disj}
 use Rattle.records.specs.Format.Syntax.Half.{first}
 use Rattle.records.specs.Format.Syntax.Ancestor.{called}
 use Rattle.records.specs.Format.Syntax.Binding.{bind}
-use Rattle.records.specs.Format.Syntax.Bet.{unifier, or}
+use Rattle.records.specs.Format.Syntax.Bet.{unifier, or, by}
 use Rattle.records.specs.Format.Syntax.Definition.{definition}
 use Rattle.terms.specs.Theory.Substitution.{apply}
 use Rattle.terms.specs.Theory.Unify.{unify}
@@ -76,7 +76,7 @@ no-definition : body p-program 0 nil [] [] ≡ undefined
 unfolding body definition-of next-variable
 no-definition = refl
 
--- a local is numbered above the goal and the ancestors: variable 65,534 and one local pass, 65,535 is too many
+-- a local is numbered above all of the call event: with variable 65,534 there is a number for one local, with 65,535 there is none
 abbrev one-local : List Definition
 one-local = definition 0 1 1 (equal (var 0) (var 1)) ∷ []
 
@@ -87,3 +87,32 @@ local-numbered = refl
 local-too-many : body one-local 0 (cons (var 65535) nil) [] [] ≡ too-many
 unfolding body definition-of next-variable
 local-too-many = refl
+
+-- SPECIFICATION 11.18: a goal holds variable 4, a bet holds 9, and nothing holds a greater one: the locals are 10 and 11. A bet holds a variable that it
+-- binds, that stands in a term which it binds, or in the goal of a BY.
+abbrev two-locals : List Definition
+two-locals = definition 0 1 2 (equal (f₁ (var 1)) (f₂ (var 0) (var 2))) ∷ []
+
+abbrev from-10 : Goal
+from-10 = equal (f₁ (var 10)) (f₂ (var 4) (var 11))
+
+above-bound : body two-locals 0 (cons (var 4) nil) [] (unifier (bind 9 a ∷ []) ∷ []) ≡ defined from-10
+unfolding body definition-of next-variable
+above-bound = refl
+
+above-term : body two-locals 0 (cons (var 4) nil) [] (or first ∷ unifier (bind 3 (f₁ (var 9)) ∷ []) ∷ []) ≡ defined from-10
+unfolding body definition-of next-variable
+above-term = refl
+
+above-by : body two-locals 0 (cons (var 4) nil) [] (unifier [] ∷ by (equal (var 9) a) ∷ []) ≡ defined from-10
+unfolding body definition-of next-variable
+above-by = refl
+
+-- a bet that holds 65,535 leaves no number for a local, and is nothing to a definition without locals
+bet-too-many : body one-local 0 (cons a nil) [] (unifier (bind 65535 a ∷ []) ∷ []) ≡ too-many
+unfolding body definition-of next-variable
+bet-too-many = refl
+
+no-local-needed : body p-program 0 (cons a nil) [] (unifier (bind 65535 a ∷ []) ∷ []) ≡ defined (disj (equal a a) (equal a b))
+unfolding body definition-of next-variable
+no-local-needed = refl

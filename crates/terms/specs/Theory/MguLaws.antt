@@ -28,9 +28,9 @@ pub data Becomes (σ : List Binding) (v : ℕ) : Type 0 where
   binds : (t : Term) → Binds σ v t → as-substitution σ v ≡ t → Becomes σ v
   stays : ((t : Term) → Binds σ v t → ⊥) → as-substitution σ v ≡ var v → Becomes σ v
 
-pub becomes : (n : ℕ) (σ : List Binding) → Rises n σ → (v : ℕ) → Becomes σ v
-becomes n [] r v = stays (λ t h. h) refl
-becomes n (bind x t ∷ σ) r v = go (ℕ-discrete v x) (becomes (suc x) σ (r .1) v)
+pub becomes : (σ : List Binding) (v : ℕ) → Becomes σ v
+becomes [] v = stays (λ t h. h) refl
+becomes (bind x t ∷ σ) v = go (ℕ-discrete v x) (becomes σ v)
   where
     go : Dec (v ≡ x) → Becomes σ v → Becomes (bind x t ∷ σ) v
     go (yes e) k = binds t (inl (e, refl)) (rw e (if-pos (ℕ-discrete x x) refl t (as-substitution σ x)))
@@ -40,7 +40,7 @@ becomes n (bind x t ∷ σ) r v = go (ℕ-discrete v x) (becomes (suc x) σ (r .
 
 -- a variable below the start of a rising list stays
 pub below-stays : (n : ℕ) (σ : List Binding) → Rises n σ → (v : ℕ) → v < n → as-substitution σ v ≡ var v
-below-stays n σ r v l = elim (becomes n σ r v) [
+below-stays n σ r v l = elim (becomes σ v) [
   | binds t h e ↦ (let k = rises-least n σ r v t h in absurd (omega arith))
   | stays f e ↦ e
 ]
@@ -81,14 +81,14 @@ same-list n (bind x t ∷ σ) (bind y u ∷ τ) r q a b e = go (decLt x y) (decL
 module _ {s t : Term} where
   -- the second use of a most general unifier changes nothing
   pub idempotent : {σ : List Binding} → IsMgu s t σ → (v : ℕ) → substitute (as-substitution σ) (as-substitution σ v) ≡ as-substitution σ v
-  idempotent {σ} m v = go (becomes 0 σ (m .rising) v)
+  idempotent {σ} m v = go (becomes σ v)
     where
       go : Becomes σ v → substitute (as-substitution σ) (as-substitution σ v) ≡ as-substitution σ v
       go (stays f e) = rw e e
       go (binds u h e) = rw e (substitute-agree (as-substitution σ) var u each ∙ substitute-var u)
         where
           each : (w : ℕ) → Occurs w u → as-substitution σ w ≡ var w
-          each w o = elim (becomes 0 σ (m .rising) w) [ binds u′ h′ e′ ↦ absurd (m .apart v w u u′ h h′ o) | stays f e′ ↦ e′ ]
+          each w o = elim (becomes σ w) [ binds u′ h′ e′ ↦ absurd (m .apart v w u u′ h h′ o) | stays f e′ ↦ e′ ]
 
   -- a unifier is not changed by a most general one before it
   pub absorbed : {σ : List Binding} → IsMgu s t σ → (θ : Substitution) → Unifies s t θ → (v : ℕ) → substitute θ (as-substitution σ v) ≡ θ v
@@ -101,7 +101,7 @@ module _ {s t : Term} where
 
   -- a variable that becomes a variable becomes no higher one
   pub lowest-stays : {σ : List Binding} → IsMgu s t σ → (v w : ℕ) → as-substitution σ v ≡ var w → w ≤ v
-  lowest-stays {σ} m v w e = elim (becomes 0 σ (m .rising) v) [
+  lowest-stays {σ} m v w e = elim (becomes σ v) [
     | binds u h k ↦ let l : w < v = m .lowest v w (rw (sym e ∙ k) h) in omega arith
     | stays f k ↦ let l : v ≡ w = cc in omega arith
   ]

@@ -6,6 +6,7 @@ pub mod dice;
 pub mod events;
 pub mod families;
 pub mod goals;
+pub mod greatest;
 pub mod programs;
 pub mod sized;
 pub mod terms;

@@ -1,21 +1,23 @@
 //! Each limit of SPECIFICATION 10 on both sides, and empty things.
 
+use super::numbering;
 use crate::compare::{Checked, Checker};
 use crate::generate::clauses::fact_of;
 use crate::generate::families::{chain, doubling, ladder, system};
+use crate::generate::greatest::{called, PLACES};
 use crate::generate::sized::{bet_of, goal_of, term_of};
 use crate::generate::Dice;
 use layout::{
-    atom, by, clause, clauses, conjunction, definition, disjunction, equality, event, half, nested, or, program, record, symbol, unifier, variable,
-    FAIL, IN_CONJUNCTION, RECORD_LIMIT as ROOM, TRUE,
+    atom, by, clause, clauses, conjunction, definition, disjunction, equality, event, nested, or, program, record, symbol, unifier, variable, FAIL,
+    RECORD_LIMIT as ROOM, TRUE,
 };
 
-pub fn round(checker: &mut Checker, _: &mut Dice) -> Checked<()> {
+pub fn round(checker: &mut Checker, dice: &mut Dice) -> Checked<()> {
     outputs(checker)?;
     record_lengths(checker)?;
     results(checker)?;
     values(checker)?;
-    locals(checker)?;
+    locals(checker, dice)?;
     canonical_locals(checker)?;
     canonical_lengths(checker)?;
     arities(checker)?;
@@ -126,31 +128,14 @@ fn values(checker: &mut Checker) -> Checked<()> {
     Ok(())
 }
 
-/// Question 9: the last local at 65,534 to 65,536, from the goal's variable and from an ancestor's; forward and both ways back.
-fn locals(checker: &mut Checker) -> Checked<()> {
+/// Question 9: the last local at 65,534 to 65,536, from each part that can have the greatest variable; forward and both ways back.
+fn locals(checker: &mut Checker, dice: &mut Dice) -> Checked<()> {
     for (count, highest) in [(1, 65_533), (1, 65_534), (1, 65_535), (255, 65_280), (255, 65_281), (0, 65_535), (0, 65_534), (2, 65_533), (2, 65_534)]
     {
-        let goal = equality(&variable(0), &variable(u16::from(count)));
-        let definitions = program(&[definition(5, 1, count, &goal)]);
-        let under = half(IN_CONJUNCTION, 1, &atom(5, &[symbol(1, &[])]), &equality(&variable(highest), &variable(0)));
-        let calls = [
-            (atom(5, &[variable(highest)]), vec![]),
-            (atom(5, &[symbol(1, &[])]), vec![under]),
-            (atom(5, &[variable(0)]), vec![atom(6, &[variable(highest)])]),
-        ];
-        for (goal, ancestors) in calls {
-            for port in [1, 3] {
-                let event = event(port, &goal, &ancestors, &[unifier(&[(65_535, symbol(1, &[]))])]);
-                checker.back(&definitions, &event, ROOM)?;
-                let next = checker.forward(&definitions, &event, ROOM)?;
-                checker.run(&definitions, &event, 2, 0, ROOM)?;
-                if next.number == 0 {
-                    checker.back(&definitions, &next.bytes, ROOM)?;
-                }
-            }
-            // read back from the body: the goal is no body of the atom, and m is the same
-            let inner = event(1, &TRUE, &[vec![goal.clone()], ancestors.clone()].concat(), &[]);
-            checker.back(&definitions, &inner, ROOM)?;
+        let definitions = numbering::definitions(dice, count);
+        for place in PLACES {
+            let called = called(dice, place, highest);
+            numbering::each_way(checker, &definitions, &called)?;
         }
     }
     Ok(())

@@ -3,10 +3,11 @@
 use crate::compare::{Checked, Checker, Difference};
 use crate::generate::Dice;
 
-const GARAGES: [&[u8]; 5] = [
+const GARAGES: [&[u8]; 6] = [
     include_bytes!("../../../../examples/door-sign.in"),
     include_bytes!("../../../../examples/one-bay.in"),
     include_bytes!("../../../../examples/one-light.in"),
+    include_bytes!("../../../../examples/open-bay.in"),
     include_bytes!("../../../../examples/sensor-line.in"),
     include_bytes!("../../../../examples/three-bays.in"),
 ];

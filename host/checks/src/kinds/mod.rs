@@ -8,6 +8,7 @@ mod deep;
 mod garages;
 mod lookups;
 mod moves;
+mod numbering;
 mod runs;
 mod unifiers;
 mod unreached;
@@ -24,13 +25,13 @@ pub struct Kind {
     pub round: fn(&mut Checker, &mut Dice) -> Checked<()>,
 }
 
-pub const KINDS: [Kind; 13] = [
+pub const KINDS: [Kind; 14] = [
     Kind { name: "boundaries", share: 0, round: boundaries::round },
     Kind { name: "garages", share: 0, round: garages::round },
     Kind { name: "walks", share: 200, round: walks::round },
     Kind { name: "moves", share: 150, round: moves::round },
     Kind { name: "damaged", share: 200, round: damaged::round },
-    Kind { name: "unreached", share: 250, round: unreached::round },
+    Kind { name: "unreached", share: 220, round: unreached::round },
     Kind { name: "runs", share: 30, round: runs::round },
     Kind { name: "values", share: 40, round: values::round },
     Kind { name: "lookups", share: 40, round: lookups::round },
@@ -38,4 +39,5 @@ pub const KINDS: [Kind; 13] = [
     Kind { name: "clauses", share: 30, round: clauses::round },
     Kind { name: "unifiers", share: 20, round: unifiers::round },
     Kind { name: "deep", share: 10, round: deep::round },
+    Kind { name: "numbering", share: 30, round: numbering::round },
 ];

@@ -59,11 +59,6 @@ impl Ancestors {
         self.levels.last().map_or(0, |level| level.1)
     }
 
-    /// The same for the stack without its top.
-    pub fn above_below_top(&self) -> u32 {
-        self.levels.iter().rev().nth(1).map_or(0, |level| level.1)
-    }
-
     pub fn push(&mut self, ancestor: Ancestor) {
         let above = self.above().max(ancestor.goal().above());
         self.length += ancestor.length();

@@ -1,15 +1,16 @@
-//! Bets, and their stack: it keeps its length and who binds what as it moves.
+//! Bets, and their stack: it keeps its length, its greatest variable and who binds what as it moves.
 
 use super::goal::{same_goal, GoalRef, Half};
 use super::term::{same_term, TermRef};
 use std::collections::HashMap;
 use std::hash::{BuildHasherDefault, Hasher};
 
-/// Pairs that rise by variable, and the length of the whole bet.
+/// Pairs that rise by variable, the length of the whole bet, and the number above its greatest variable.
 #[derive(Debug)]
 pub struct Unifier {
     pairs: Vec<(u16, TermRef)>,
     length: u32,
+    above: u32,
 }
 
 #[derive(Debug)]
@@ -22,7 +23,8 @@ pub enum Bet {
 impl Unifier {
     pub fn new(pairs: Vec<(u16, TermRef)>) -> Unifier {
         let length = pairs.iter().fold(3u32, |sum, (_, term)| sum.saturating_add(term.length()).saturating_add(2));
-        Unifier { pairs, length }
+        let above = pairs.iter().map(|(variable, term)| term.above().max(u32::from(*variable) + 1)).max().unwrap_or(0);
+        Unifier { pairs, length, above }
     }
 
     pub fn pairs(&self) -> &[(u16, TermRef)] {
@@ -51,6 +53,15 @@ impl Bet {
             Bet::Unifier(unifier) => unifier.length,
             Bet::Or(_) => 2,
             Bet::By(goal) => goal.length().saturating_add(1),
+        }
+    }
+
+    /// One more than the greatest variable number, bound or in a term or goal, or 0 if there is none.
+    pub fn above(&self) -> u32 {
+        match self {
+            Bet::Unifier(unifier) => unifier.above,
+            Bet::Or(_) => 0,
+            Bet::By(goal) => goal.above(),
         }
     }
 
@@ -88,17 +99,18 @@ impl Hasher for NumberHasher {
 
 pub type ByVariable<T> = HashMap<u16, T, BuildHasherDefault<NumberHasher>>;
 
-/// The bet stack, bottom first; for each bound variable the places, rising, of the unifiers that bind it.
+/// The bet stack, bottom first; each level has the number above the greatest variable in it and below it. For each bound variable there are the
+/// places, rising, of the unifiers that bind it.
 #[derive(Debug, Default)]
 pub struct Bets {
-    bets: Vec<Bet>,
+    levels: Vec<(Bet, u32)>,
     binders: ByVariable<Vec<u32>>,
     length: u32,
 }
 
 impl Bets {
     pub fn top(&self) -> Option<&Bet> {
-        self.bets.last()
+        self.levels.last().map(|level| &level.0)
     }
 
     /// The sum of the parts' lengths.
@@ -107,21 +119,27 @@ impl Bets {
     }
 
     pub fn count(&self) -> usize {
-        self.bets.len()
+        self.levels.len()
+    }
+
+    /// One more than the greatest variable number, or 0 if there is none.
+    pub fn above(&self) -> u32 {
+        self.levels.last().map_or(0, |level| level.1)
     }
 
     pub fn push(&mut self, bet: Bet) {
         if let Bet::Unifier(unifier) = &bet {
             for (variable, _) in &unifier.pairs {
-                self.binders.entry(*variable).or_default().push(self.bets.len() as u32);
+                self.binders.entry(*variable).or_default().push(self.levels.len() as u32);
             }
         }
+        let above = self.above().max(bet.above());
         self.length += bet.length();
-        self.bets.push(bet);
+        self.levels.push((bet, above));
     }
 
     pub fn pop(&mut self) {
-        let Some(bet) = self.bets.pop() else { return };
+        let Some((bet, _)) = self.levels.pop() else { return };
         self.length -= bet.length();
         if let Bet::Unifier(unifier) = &bet {
             for (variable, _) in &unifier.pairs {
@@ -134,13 +152,13 @@ impl Bets {
     pub fn binder(&self, variable: u16, from: usize, to: usize) -> Option<(usize, &TermRef)> {
         let places = self.binders.get(&variable)?;
         let place = *places.get(places.partition_point(|&place| (place as usize) < from))? as usize;
-        match &self.bets[place] {
+        match &self.levels[place].0 {
             Bet::Unifier(unifier) if place < to => unifier.term(variable).map(|term| (place, term)),
             _ => None,
         }
     }
 
     pub fn top_first(&self) -> impl Iterator<Item = &Bet> {
-        self.bets.iter().rev()
+        self.levels.iter().rev().map(|level| &level.0)
     }
 }

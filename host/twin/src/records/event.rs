@@ -94,9 +94,15 @@ impl Event {
         }
     }
 
-    /// m of SPECIFICATION 4: one above the highest variable number that occurs in the goal or in any ancestor, 0 where none occurs.
+    /// m of SPECIFICATION 4: one above the highest variable number that occurs in the goal, in any ancestor or in any bet, 0 where none occurs.
     pub fn above(&self) -> u32 {
-        self.goal.above().max(self.ancestors.above())
+        self.goal.above().max(self.stacks_above())
+    }
+
+    /// m as it was at the call of the atom that is the top ancestor: the goal of that event and its ancestors are the stack as it stands now, and the
+    /// bets were the same.
+    pub fn stacks_above(&self) -> u32 {
+        self.ancestors.above().max(self.bets.above())
     }
 
     /// Equal (SPECIFICATION 9.3): port, goal and both stacks agree, with no variable renamed.

@@ -229,3 +229,16 @@ locals-new program p ts u s g e v h = found (definition-of program p (arity ts))
     found : (o : Option Definition) → body-of o ts m ≡ defined g → Among v (terms-variables ts) ⊎ (Among v (event-variables (atom p ts) u s) → ⊥)
     found none f = never cc
     found (some (definition q n l b)) f = numbers b (locals-beyond m l) f
+
+-- Question 9 at the last number: an event that holds 65,535, be it in a bet, leaves none for a local, whatever is called; without locals none is needed.
+module _ (program : List Definition) (p : ℕ) (ts : Terms) (u : List Ancestor) (s : List Bet) {q n : ℕ} {b : Goal} where
+  pub none-left : {l : ℕ} → Among 65535 (event-variables (atom p ts) u s) → definition-of program p (arity ts) ≡ some (definition q n l b) → 0 < l
+      → body program p ts u s ≡ too-many
+  unfolding body
+  none-left {l} h d k =
+      let z = next-above (atom p ts) u s 65535 h in rw (d, lt-ltb 0 l k, lt-ltb 65536 (next-variable (atom p ts) u s + l) (omega arith)) refl
+
+  pub none-needed : definition-of program p (arity ts) ≡ some (definition q n 0 b)
+      → body program p ts u s ≡ defined (substitute-goal (numbered ts (next-variable (atom p ts) u s)) b)
+  unfolding body
+  none-needed d = rw d refl

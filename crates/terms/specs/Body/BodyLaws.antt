@@ -153,34 +153,67 @@ definition-found Φ (c ∷ ds) p n d e h = go (defines p n c) refl e (λ q. defi
     go true q f ih = let z : c ≡ d = cc in (rw z at (h .0), ap (defines p n) (sym z) ∙ q)
     go false q f ih = ih f
 
--- the body of a well-formed atom under a program that passes questions 3 and 4
-pub body-formed : (program : List Definition) (p : ℕ) (ts : Terms) (u : List Ancestor) (s : List Bet) (g : Goal)
-    → All DefinitionFormed program → program-rules program ≡ true → AtomFormed p ts → body program p ts u s ≡ defined g → GoalFormed g
-unfolding body program-rules
-body-formed program p ts u s g d r a e = found (definition-of program p (arity ts)) refl e
+-- a body is made from the definition of its atom's predicate, for whose locals there are numbers
+pub record MadeFrom (program : List Definition) (p : ℕ) (ts : Terms) (m : ℕ) (g : Goal) : Type 0 where
+  pub predicate : ℕ
+  pub heads : ℕ
+  pub locals : ℕ
+  pub goal : Goal
+  pub found : definition-of program p (arity ts) ≡ some (definition predicate heads locals goal)
+  pub numbers : locals-beyond m locals ≡ false
+  pub is : substitute-goal (numbered ts m) goal ≡ g
+
+pub body-made : (program : List Definition) (p : ℕ) (ts : Terms) (u : List Ancestor) (s : List Bet) (g : Goal) → body program p ts u s ≡ defined g
+    → MadeFrom program p ts (next-variable (atom p ts) u s) g
+unfolding body
+body-made program p ts u s g e = go (definition-of program p (arity ts)) refl e
   where
     m : ℕ
     m = next-variable (atom p ts) u s
 
-    numbers : (q n l : ℕ) (b : Goal) → DefinitionFormed (definition q n l b) → definition-rules (definition q n l b) ≡ true
-        → defines p (arity ts) (definition q n l b) ≡ true
-        → (c : Bool) → locals-beyond m l ≡ c → cond c too-many (defined (substitute-goal (numbered ts m) b)) ≡ defined g → GoalFormed g
-    numbers q n l b h k o true z f = never cc
-    numbers q n l b h k o false z f =
-        let w : substitute-goal (numbered ts m) b ≡ g = cc in
-        let same : arity ts ≡ n = eqb-true (arity ts) n (and-both (eqb p q) (eqb (arity ts) n) o .1) in
-        let small : (v : ℕ) → Among v (goal-variables b) → v < n + l =
-        λ v i. ltb-true v (n + l) (all-among (λ x. ltb x (n + l) ≡ true) (goal-variables b) (every-all (λ x. ltb x (n + l)) (goal-variables b) k) v i) in
-        rw w at (substitute-goal-formed (numbered ts m) b
-        (λ v i. let y = small v i in numbered-formed ts m l v (a .2) (locals-within m l z) (omega arith)) (h .3))
+    given : (q n l : ℕ) (b : Goal) → definition-of program p (arity ts) ≡ some (definition q n l b) → (c : Bool) → locals-beyond m l ≡ c
+        → cond c too-many (defined (substitute-goal (numbered ts m) b)) ≡ defined g → MadeFrom program p ts m g
+    given q n l b i true z f = never cc
+    given q n l b i false z f = record { predicate = q; heads = n; locals = l; goal = b; found = i; numbers = z; is = cc }
 
-    found : (o : Option Definition) → definition-of program p (arity ts) ≡ o → body-of o ts m ≡ defined g → GoalFormed g
-    found none q f = never cc
-    found (some (definition q n l b)) z f =
-        let x = definition-found DefinitionFormed program p (arity ts) (definition q n l b) z d in
-        let y = definition-found (λ c. definition-rules c ≡ true) program p (arity ts) (definition q n l b) z
-        (every-all definition-rules program (and-both (rising (keys program)) (every definition-rules program) r .1)) in
-        numbers q n l b (x .0) (y .0) (x .1) (locals-beyond m l) refl f
+    go : (o : Option Definition) → definition-of program p (arity ts) ≡ o → body-of o ts m ≡ defined g → MadeFrom program p ts m g
+    go none i f = never cc
+    go (some (definition q n l b)) i f = given q n l b i (locals-beyond m l) refl f
+
+-- the body of a well-formed atom under a program that passes questions 3 and 4
+pub body-formed : (program : List Definition) (p : ℕ) (ts : Terms) (u : List Ancestor) (s : List Bet) (g : Goal)
+    → All DefinitionFormed program → program-rules program ≡ true → AtomFormed p ts → body program p ts u s ≡ defined g → GoalFormed g
+unfolding program-rules
+body-formed program p ts u s g d r a e = rw (w .is) at (substitute-goal-formed (numbered ts m) b (λ v i. let y = small v i in
+    numbered-formed ts m l v (a .2) (locals-within m l (w .numbers)) (omega arith)) (definition-found DefinitionFormed program p (arity ts) c (w .found) d .0 .3))
+  where
+    m : ℕ
+    m = next-variable (atom p ts) u s
+
+    w : MadeFrom program p ts m g
+    w = body-made program p ts u s g e
+
+    n : ℕ
+    n = w .heads
+
+    l : ℕ
+    l = w .locals
+
+    b : Goal
+    b = w .goal
+
+    c : Definition
+    c = definition (w .predicate) n l b
+
+    ruled : (definition-rules c ≡ true) × (defines p (arity ts) c ≡ true)
+    ruled = definition-found (λ c. definition-rules c ≡ true) program p (arity ts) c (w .found)
+        (every-all definition-rules program (and-both (rising (keys program)) (every definition-rules program) r .1))
+
+    same : arity ts ≡ n
+    same = eqb-true (arity ts) n (and-both (eqb p (w .predicate)) (eqb (arity ts) n) (ruled .1) .1)
+
+    small : (v : ℕ) → Among v (goal-variables b) → v < arity ts + l
+    small v i = let z = ltb-true v (n + l) (all-among (λ x. ltb x (n + l) ≡ true) (goal-variables b) (every-all (λ x. ltb x (n + l)) (goal-variables b) (ruled .0)) v i) in omega (arith, same)
 
 -- a variable of a goal under a substitution stands in what one of the goal's variables became
 among-substitute : (θ : Substitution) (g : Goal) (v : ℕ) → Among v (goal-variables (substitute-goal θ g)) → (w : ℕ) × Occurs v (θ w)
@@ -209,26 +242,13 @@ numbered-variable (cons t ts) m (suc i) v o = elim (numbered-variable ts m i v o
 -- Locals are new: a variable of an atom's body stands in the atom, or nowhere in the event that calls it: not in its goal, its ancestors or its bets.
 pub locals-new : (program : List Definition) (p : ℕ) (ts : Terms) (u : List Ancestor) (s : List Bet) (g : Goal) → body program p ts u s ≡ defined g
     → (v : ℕ) → Among v (goal-variables g) → Among v (terms-variables ts) ⊎ (Among v (event-variables (atom p ts) u s) → ⊥)
-unfolding body
-locals-new program p ts u s g e v h = found (definition-of program p (arity ts)) e
-  where
-    m : ℕ
-    m = next-variable (atom p ts) u s
-
-    numbers : (b : Goal) (c : Bool) → cond c too-many (defined (substitute-goal (numbered ts m) b)) ≡ defined g
-        → Among v (terms-variables ts) ⊎ (Among v (event-variables (atom p ts) u s) → ⊥)
-    numbers b true f = never cc
-    numbers b false f =
-        let w : g ≡ substitute-goal (numbered ts m) b = cc in
-        let r = among-substitute (numbered ts m) b v (rw w at h) in
-        elim (numbered-variable ts m (r .0) v (r .1)) [
-          | inl o ↦ inl (occurs-in-among v ts o)
-          | inr o ↦ inr (λ k. let z = next-above (atom p ts) u s v k in omega arith)
-        ]
-
-    found : (o : Option Definition) → body-of o ts m ≡ defined g → Among v (terms-variables ts) ⊎ (Among v (event-variables (atom p ts) u s) → ⊥)
-    found none f = never cc
-    found (some (definition q n l b)) f = numbers b (locals-beyond m l) f
+locals-new program p ts u s g e v h =
+    let w = body-made program p ts u s g e in
+    let r = among-substitute (numbered ts (next-variable (atom p ts) u s)) (w .goal) v (rw (sym (w .is)) at h) in
+    elim (numbered-variable ts (next-variable (atom p ts) u s) (r .0) v (r .1)) [
+      | inl o ↦ inl (occurs-in-among v ts o)
+      | inr o ↦ inr (λ k. let z = next-above (atom p ts) u s v k in omega arith)
+    ]
 
 -- Question 9 at the last number: an event that holds 65,535, be it in a bet, leaves none for a local, whatever is called; without locals none is needed.
 module _ (program : List Definition) (p : ℕ) (ts : Terms) (u : List Ancestor) (s : List Bet) {q n : ℕ} {b : Goal} where

@@ -89,6 +89,11 @@ uint32_t fourport_value(const uint8_t *event, size_t event_length, uint16_t v, u
  * Both are 0 where a record is refused, where the goal is not an atom, and where the program does not define its predicate. */
 size_t fourport_lookup(const uint8_t *program, size_t program_length, const uint8_t *event, size_t event_length, size_t *at);
 
+/* The greatest variable of an event, and the first of its parts that holds it.
+ * 0: `part` is 1 for the bets, 2 for the goal, 3 for the ancestors, and `greatest` is the variable; both are 0 where the event has no variable.
+ * 11 to 14: both are 0. */
+uint32_t fourport_greatest(const uint8_t *event, size_t event_length, uint32_t *part, uint32_t *greatest);
+
 /* How many events of each port a walk passed. The caller starts them at 0. */
 typedef struct fourport_counts {
     uint32_t calls;

@@ -80,3 +80,14 @@ def count(event_record, counts):
     counts = list(counts)
     counts[port - CALL] = min(counts[port - CALL] + 1, GREATEST_COUNT)
     return 0, tuple(counts)
+
+
+def greatest(event_record):
+    """the number, the first of bets, goal and ancestors (1, 2, 3) that holds the greatest variable, and that variable; 0 and 0 where there is none"""
+    try:
+        event = gate.event(event_record)
+    except Refused as no:
+        return no.number, 0, 0
+    parts = event.bets.greatest, event.goal.greatest, event.ancestors.greatest
+    most = max(parts)
+    return (0, 0, 0) if most < 0 else (0, 1 + parts.index(most), most)

@@ -43,7 +43,13 @@ def atom_body(program_record, event_record):
     return 'long' if found.length > ROOM else printed(written(found))
 
 
-ANSWERS = {'v': variable_value, 'u': unified, 'b': atom_body}
+def greatest(event_record):
+    """the part and the variable"""
+    number, part, variable = services.greatest(event_record)
+    return str(number) if number else f'0 {part} {variable}'
+
+
+ANSWERS = {'v': variable_value, 'u': unified, 'b': atom_body, 'g': greatest}
 
 
 def answer(kind, fields):

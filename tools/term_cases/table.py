@@ -1,4 +1,4 @@
-"""The table of cases: each has words, a kind (v value, u equality, b body), the answer that was worked out by hand, or None, and its fields."""
+"""The table of cases: each has words, a kind (v value, u equality, b body, g greatest variable), the answer that was worked out by hand, or None, and its fields."""
 from stored.layout import *
 from stored.table import Table
 from term_cases.answers import ROOM, printed
@@ -47,3 +47,8 @@ def equality(words, answer, t, u, bets=(), port=1, size=None):
 def body(words, answer, definitions, goal, ancestors=(), bets=(), port=1, size=None):
     """the answer: 9, 'none', 'long', or the body's bytes"""
     case('b', given(answer, size), words, record(listed(definitions)), record(event(port, goal, ancestors, bets)))
+
+
+def greatest(words, part, variable, goal=TRUE, ancestors=(), bets=(), port=1):
+    """the answer: the part and the variable"""
+    case('g', f'0 {part} {variable}', words, record(event(port, goal, ancestors, bets)))

@@ -1,11 +1,13 @@
-// What an event tells: the value of a variable, and the definition that its goal names.
+// What an event tells: the value of a variable, the definition that its goal names, and its greatest variable.
 use stepper::lookup::lookup_range;
+use terms::part::greatest_part;
 use terms::value::value;
 ghost use mathlib.Core.Path.{_≡_};
 ghost use lib.ListN.{length};
 ghost use Rattle.records.specs.Gate.Gate.{read-event};
 ghost use Rattle.records.specs.Format.Encode.{term-bytes};
 ghost use Rattle.records.specs.Gate.Reply.{Receipted};
+ghost use Rattle.terms.specs.Body.GreatestService.{greatest-record};
 ghost use Rattle.terms.specs.Values.ValueService.{value-answer};
 ghost use Rattle.stepper.specs.Services.Lookup.{lookup};
 
@@ -27,4 +29,16 @@ pub extern "C" fn fourport_lookup(program: &[u8], event: &[u8], at: &mut usize) 
     let range = lookup_range(program, event);
     *at = range.from;
     range.to - range.from
+}
+
+// The part of an event that its greatest variable is in, and that variable: 1 bets, 2 goal, 3 ancestors, the first of them that holds it; 0 where there
+// is none.
+#[no_mangle]
+pub extern "C" fn fourport_greatest(event: &[u8], part: &mut u32, greatest: &mut u32) -> u32
+    ensures { λ r. ⌜ record { number = r; part = now (part .exit); variable = now (greatest .exit) } ≡ greatest-record (now (event .entry)) ⌝ }
+{
+    let answer = greatest_part(event);
+    *part = answer.part as u32;
+    *greatest = answer.variable as u32;
+    answer.number as u32
 }

@@ -1,12 +1,17 @@
 -- The body of an atom: the definition, the search for it, the numbering, and its bytes.
 pub mod Body
 pub mod Tops
+pub mod Greatest
+pub mod GreatestService
 pub mod Definitions
 pub mod Arguments
 pub mod Renaming
 pub mod BodyBytes
 pub mod BodyLaws
 pub mod TopLaws
+pub mod GreatestLaws
+pub mod GreatestServiceLaws
+pub mod GreatestExamples
 pub mod DefinitionLaws
 pub mod ArgumentLaws
 pub mod BodyLengthLaws

@@ -1,4 +1,4 @@
-// The first new variable: one more than the greatest of an event's goal, ancestors and bets, or 0 if there is none.
+// One more than the greatest variable of a stack, or 0 if there is none.
 // The members of a stack are passed one after another, and behind a unifier its pairs: both are counted as they are to come, so that one loop
 // goes over a stack of either kind.
 use records::heads::AncestorHead;
@@ -7,6 +7,7 @@ use records::heads::Word;
 use records::heads::ancestor_head;
 use records::heads::bet_head;
 use records::heads::word_at;
+use records::places::Places;
 use records::traverse::Cursor;
 use records::traverse::Top;
 use records::traverse::variables_top;
@@ -14,8 +15,9 @@ ghost use mathlib.Core.Path.{_≡_};
 ghost use Prim.Native.Nat.{max};
 ghost use Rattle.records.specs.Gate.RecordRules.{ancestor-variables};
 ghost use Rattle.records.specs.Ends.Above.{above};
-ghost use Rattle.terms.specs.Body.Body.{pair-variables, bet-variables, next-variable};
-ghost use Rattle.terms.specs.Standing.Frames.{AncestorAt, BetAt, PairAt, FrameAt};
+ghost use Rattle.terms.specs.Body.Body.{pair-variables, bet-variables};
+ghost use Rattle.terms.specs.Standing.Accepted.{frame-placed};
+ghost use Rattle.terms.specs.Standing.Frames.{AncestorAt, BetAt, PairAt};
 ghost use Rattle.terms.specs.Body.Tops.{TopOf, PieceOf, MemberAt, StackAt, member-variables, members-variables};
 
 // Where an event's goal and its stacks stand, and how many parts a stack has.
@@ -25,6 +27,22 @@ pub struct Frame {
     pub depth: usize,
     pub bets: usize,
     pub height: usize,
+}
+
+// The frame of an event's own goal.
+pub fn event_frame(places: Places) -> Frame
+    ensures { λ r. ⌜ r ≡ frame-placed places ⌝ }
+{
+    let goal = places.goal;
+    let ancestors = places.ancestors;
+    let bets = places.bets;
+    Frame {
+        goal: goal.from,
+        ancestors: ancestors.from,
+        depth: ancestors.count,
+        bets: bets.from,
+        height: bets.count,
+    }
 }
 
 // One of an event's two stacks.
@@ -40,7 +58,7 @@ pub struct MemberTop {
     pub pairs: usize,
 }
 
-fn greater(a: usize, b: usize) -> usize
+pub fn greater(a: usize, b: usize) -> usize
     ensures { λ r. ⌜ r ≡ max a b ⌝ }
 {
     if a < b { b } else { a }
@@ -161,7 +179,7 @@ fn member_top(event: &[u8], at: usize, stack: StackKind) -> MemberTop
 }
 
 // The greater of m and one more than the greatest variable of a stack of n members.
-fn stack_top(event: &[u8], at: usize, stack: StackKind, n: usize, m: usize) -> usize
+pub fn stack_top(event: &[u8], at: usize, stack: StackKind, n: usize, m: usize) -> usize
     requires { ⌜ StackAt stack (now event) at n ⌝ }
     ensures { λ r. ⌜ ((u : StackAt stack (now (event .entry)) at n) → r ≡ max m (above (members-variables stack (u .items)))) ⌝ }
 {
@@ -186,26 +204,4 @@ fn stack_top(event: &[u8], at: usize, stack: StackKind, n: usize, m: usize) -> u
             left = left - 1;
         }
     }
-}
-
-pub fn next_variable(event: &[u8], frame: Frame) -> usize
-    requires { ⌜ FrameAt (now event) frame ⌝ }
-    ensures { λ r. ⌜ ((f : FrameAt (now (event .entry)) frame) → r ≡ next-variable (f .goal .item) (f .ancestors .items) (f .bets .items)) ⌝ }
-{
-    let t = variables_top(
-        event,
-        Cursor {
-            pos: frame.goal,
-            terms: 0,
-            goals: 1,
-        },
-    );
-    let m = stack_top(
-        event,
-        frame.ancestors,
-        StackKind::Ancestors,
-        frame.depth,
-        t.top,
-    );
-    stack_top(event, frame.bets, StackKind::Bets, frame.height, m)
 }

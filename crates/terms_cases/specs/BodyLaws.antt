@@ -13,7 +13,7 @@ use Rattle.records.specs.Gate.Gate.Reading.{tree}
 use Rattle.records.specs.Ends.Places.{event-places}
 use Rattle.records.specs.Ends.Stands.{head-of-goal}
 use Rattle.records.specs.declared.places.Places.{Places}
-use Rattle.terms.specs.Standing.Accepted.{frame-of, atom-moved}
+use Rattle.terms.specs.Standing.Accepted.{frame-of, frame-placed, atom-moved}
 use Rattle.terms.specs.Standing.AcceptedLaws.{goal-told, accepted-atom}
 use Rattle.records.specs.Gate.Reply.{answer-number}
 use Rattle.records.specs.Gate.Door.{program-door, event-door}
@@ -75,24 +75,12 @@ pub atom-accepted : {s : List ℕ} → AtomGoal s → Accepted (read-event s)
 atom-accepted q = rw (q .read) tt
 
 -- the frame by the event's places
-module _ {s : List ℕ} (known : Known s) (q : AtomGoal s) {places : Places} (i : places ≡ event-places (atom-event q)) where
-  pub frame-is : _≡_ {A = Frame} (record {
-    goal = 4;
-    ancestors = places .ancestors .from;
-    depth = places .ancestors .count;
-    bets = places .bets .from;
-    height = places .bets .count;
-  }) (frame-of (atom-event q))
+module _ {s : List ℕ} (known : Known s) (q : AtomGoal s) {places : Places} (i : places ≡ event-places (atom-event q)) {f : Frame} (j : f ≡ frame-placed places) where
+  pub frame-is : f ≡ frame-of (atom-event q)
   unfolding event-places
-  frame-is = rw i refl
+  frame-is = rw (j, i) refl
 
-  abbrev pub atom-there : AtomAt s (record {
-    goal = 4;
-    ancestors = places .ancestors .from;
-    depth = places .ancestors .count;
-    bets = places .bets .from;
-    height = places .bets .count;
-  })
+  abbrev pub atom-there : AtomAt s f
   atom-there = atom-moved frame-is (accepted-atom s known (q .predicate) (q .terms) (q .read))
 
 -- the body of the atom is the answer for the two records

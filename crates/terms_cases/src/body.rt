@@ -7,7 +7,7 @@ use records::kinds::ATOM;
 use records::places::event_places;
 use terms::body::BodyAnswer;
 use terms::body::atom_body;
-use terms::variables::Frame;
+use terms::variables::event_frame;
 ghost use Rattle.records.specs.Gate.Gate.{read-program, read-event};
 ghost use Rattle.terms.specs.Body.Definitions.{ProgramAt};
 ghost use Rattle.terms.specs.Body.Body.{body};
@@ -27,21 +27,8 @@ fn atom_goal(program: &[u8], event: &[u8], out: &mut [u8]) -> BodyAnswer
     requires { ⌜ AtomGoal (now event) ⌝ }
     ensures { λ r. ⌜ ((d : ProgramAt (now (program .entry))) (a : AtomGoal (now (event .entry))) → BodyAnswered (now (out .entry)) (now (out .exit)) (body (d .definitions) (a .predicate) (a .terms) (a .ancestors) (a .bets)) r) ⌝ }
 {
-    let places = event_places(event);
-    let ancestors = places.ancestors;
-    let bets = places.bets;
-    atom_body(
-        program,
-        event,
-        Frame {
-            goal: 4,
-            ancestors: ancestors.from,
-            depth: ancestors.count,
-            bets: bets.from,
-            height: bets.count,
-        },
-        out,
-    )
+    let frame = event_frame(event_places(event));
+    atom_body(program, event, frame, out)
 }
 
 // What the event's atom comes to, for every two slices: the program is questioned first.

@@ -3,6 +3,7 @@
 // v: an event, and a variable's number with the length of the output, two bytes each. The number of the value service and, where it is 0, S(v).
 // u: an event, whose goal is an equality. 11 to 14, other, 8, none, long, or 0 and the unifier's count and pairs.
 // b: a program and an event, whose goal is an atom. 1 to 4, 11 to 14, other, 9, none, long, or 0 and the body.
+// g: an event. 11 to 14, or 0, the part that its greatest variable is in, and that variable.
 mod body;
 mod kind;
 mod print;
@@ -10,6 +11,7 @@ mod unify;
 
 use crate::body::body_case;
 use crate::print::print_body;
+use crate::print::print_part;
 use crate::print::print_unifier;
 use crate::print::print_value;
 use crate::unify::unify_case;
@@ -19,6 +21,7 @@ use case_io::input::read_kind;
 use case_io::input::read_number_field;
 use case_io::line::print_end;
 use case_io::line::print_start;
+use terms::part::greatest_part;
 use terms::value::value;
 
 fn value_line(ordinal: u64, event: &[u8], v: u16, out: &mut [u8]) {
@@ -55,6 +58,15 @@ fn next_unifier(ordinal: u64, event: &[u8]) -> bool {
     true
 }
 
+// A case of an event.
+fn next_greatest(ordinal: u64, event: &[u8]) -> bool {
+    let answer = greatest_part(event);
+    print_start(ordinal, b'g');
+    print_part(answer);
+    print_end();
+    true
+}
+
 fn body_line(ordinal: u64, program: &[u8], event: &[u8]) {
     let mut out = [0u8; 32768];
     let answer = body_case(program, event, &mut out);
@@ -85,6 +97,7 @@ fn first_field(ordinal: u64, kind: u8) -> bool {
         b'v' => next_value(ordinal, &buf[..n]),
         b'u' => next_unifier(ordinal, &buf[..n]),
         b'b' => next_body(ordinal, &buf[..n]),
+        b'g' => next_greatest(ordinal, &buf[..n]),
         _ => false,
     }
 }

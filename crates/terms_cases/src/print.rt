@@ -9,6 +9,7 @@ use case_io::line::print_word;
 use records::put::Receipt;
 use terms::body::BodyAnswer;
 use terms::equality::UnifierAnswer;
+use terms::part::PartAnswer;
 
 // At most so many bytes are printed whole.
 const WHOLE: usize = 256;
@@ -60,5 +61,13 @@ pub fn print_body(answer: BodyCase, out: &[u8]) {
         BodyCase::Refused(number) => print_number(wide(number) as u64),
         BodyCase::NoAtom => print_word(b"other"),
         BodyCase::Body(body) => print_body_answer(body, out),
+    }
+}
+
+pub fn print_part(answer: PartAnswer) {
+    print_number(wide(answer.number) as u64);
+    if answer.number == 0 {
+        print_number(wide(answer.part) as u64);
+        print_number(answer.variable as u64);
     }
 }

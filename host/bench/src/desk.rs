@@ -14,6 +14,7 @@ pub trait Desk {
     fn value(&self, event: &[u8], v: u16, out: &mut [u8]) -> u32;
     /// The length of the definition.
     fn lookup(&self, program: &[u8], event: &[u8]) -> usize;
+    fn greatest(&self, event: &[u8]) -> u32;
     fn count(&self, event: &[u8]) -> u32;
 }
 
@@ -48,6 +49,10 @@ impl Desk for Fourport {
 
     fn lookup(&self, program: &[u8], event: &[u8]) -> usize {
         raw::lookup(program, event, &mut 0)
+    }
+
+    fn greatest(&self, event: &[u8]) -> u32 {
+        raw::greatest(event, &mut 0, &mut 0)
     }
 
     fn count(&self, event: &[u8]) -> u32 {
@@ -96,6 +101,10 @@ impl Desk for Twin {
 
     fn lookup(&self, program: &[u8], event: &[u8]) -> usize {
         services::lookup(program, event).len()
+    }
+
+    fn greatest(&self, event: &[u8]) -> u32 {
+        u32::from(services::greatest(event).0)
     }
 
     fn count(&self, event: &[u8]) -> u32 {

@@ -9,7 +9,7 @@ use std::{env, thread};
 /// A call with an output of 32,768 bytes.
 type Call = fn(&mut [u8]) -> u32;
 
-const CASES: [(&str, Call); 13] = [
+const CASES: [(&str, Call); 14] = [
     ("nothing", |_| 0),
     ("canonical", |out| raw::canonical(&clauses(&[clause(5, 1, &[nested(8_186, &variable(0))], &TRUE)]), out)),
     ("first", |out| raw::first(&record(&equality(&variable(0), &nested(8_188, &symbol(2, &[])))), out)),
@@ -22,6 +22,7 @@ const CASES: [(&str, Call); 13] = [
     ("value, wrapped", |out| raw::value(&event(1, &TRUE, &[], &wrapped()), 0, out, &mut 0)),
     ("run, wrapped", |out| raw::run(&program(&[]), &event(1, &equality(&variable(0), &variable(0)), &[], &wrapped()), 1, 0, out, &mut 0)),
     ("lookup", |_| raw::lookup(&program(&[]), &event(1, &equality(&variable(0), &nested(8_187, &symbol(2, &[]))), &[], &[]), &mut 0) as u32),
+    ("greatest", |_| raw::greatest(&event(1, &equality(&variable(0), &nested(8_187, &symbol(2, &[]))), &[], &[]), &mut 0, &mut 0)),
     ("count", |_| raw::count(&mut Default::default(), &event(1, &equality(&variable(0), &nested(8_187, &symbol(2, &[]))), &[], &[]))),
 ];
 

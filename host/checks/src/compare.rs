@@ -1,6 +1,7 @@
 //! One case put to the desk and to the twin; number, record and every other byte of the output are compared.
 
 use crate::generate::Dice;
+use crate::holders::holders;
 use crate::numbering::numbered;
 use crate::rules::rule;
 use crate::table::{Met, Table};
@@ -24,12 +25,22 @@ pub enum Service {
     Run,
     Value,
     Lookup,
+    Greatest,
     Count,
 }
 
 impl Service {
-    pub const ALL: [Service; 8] =
-        [Service::Canonical, Service::First, Service::Forward, Service::Back, Service::Run, Service::Value, Service::Lookup, Service::Count];
+    pub const ALL: [Service; 9] = [
+        Service::Canonical,
+        Service::First,
+        Service::Forward,
+        Service::Back,
+        Service::Run,
+        Service::Value,
+        Service::Lookup,
+        Service::Greatest,
+        Service::Count,
+    ];
 
     /// The numbers that the service can give. A query has no question 4, so the first event never gives 14.
     pub fn numbers(self) -> &'static [usize] {
@@ -39,12 +50,12 @@ impl Service {
             Service::Forward | Service::Back | Service::Run => &[0, 1, 2, 3, 4, 5, 6, 7, 8, 9, 10, 11, 12, 13, 14],
             Service::Value => &[0, 5, 8, 11, 12, 13, 14],
             Service::Lookup => &[0],
-            Service::Count => &[0, 11, 12, 13, 14],
+            Service::Greatest | Service::Count => &[0, 11, 12, 13, 14],
         }
     }
 }
 
-/// An answer: the number, the numbers beside it (steps taken, bytes written, a place, counts), and what is written.
+/// An answer: the number, the numbers beside it (steps taken, bytes written, a place, a part, counts), and what is written.
 #[derive(Clone, Debug, PartialEq, Eq)]
 pub struct Answer {
     pub number: u32,
@@ -210,6 +221,25 @@ impl Checker {
         };
         let sides = self.sides(0, desk, twin);
         self.settle(Service::Lookup, sides, Inputs { records: &[program, event], numbers: String::new() })
+    }
+
+    /// The part that holds the greatest variable, and that variable.
+    pub fn greatest(&mut self, event: &[u8]) -> Checked<Answer> {
+        let desk = |_: &mut [u8]| {
+            let (mut part, mut greatest) = (0xDEAD_BEEF, 0xDEAD_BEEF);
+            let number = raw::greatest(event, &mut part, &mut greatest);
+            (number, vec![u64::from(part), u64::from(greatest)])
+        };
+        let twin = || {
+            let (number, part, greatest) = services::greatest(event);
+            Answer { number: number.into(), beside: vec![part.into(), greatest.into()], bytes: Vec::new() }
+        };
+        let sides = self.sides(0, desk, twin);
+        let answer = self.settle(Service::Greatest, sides, Inputs { records: &[event], numbers: String::new() })?;
+        if let Some(held) = holders(event) {
+            self.table.add_holders(held);
+        }
+        Ok(answer)
     }
 
     pub fn count(&mut self, event: &[u8], before: [u32; 4]) -> Checked<Answer> {

@@ -3,6 +3,7 @@
 
 pub mod compare;
 pub mod generate;
+pub mod holders;
 pub mod kinds;
 pub mod numbering;
 pub mod rules;

@@ -1,6 +1,8 @@
-//! What was met: cases by kind, by service and number, steps by rule, bodies by the part that numbers them.
+//! What was met: cases by kind, by service and number, steps by rule, bodies by the part that numbers them, events by the parts that hold the
+//! greatest variable.
 
 use crate::compare::Service;
+use crate::holders::HOLDERS;
 use crate::numbering::{Numbered, ENDS, PLACES, WAYS};
 use crate::rules::RULES;
 use std::fmt;
@@ -34,6 +36,8 @@ pub struct Table {
     services: [Row; Service::ALL.len()],
     rules: [[u64; 2]; RULES.len()],
     numbered: [[[u64; ENDS.len()]; WAYS.len()]; PLACES.len()],
+    /// events put to the service of the greatest variable
+    holders: [u64; HOLDERS.len()],
     /// pairs of lists of steps whose ends are different, and equal
     pub ends: [u64; 2],
 }
@@ -45,6 +49,7 @@ impl Table {
             services: Default::default(),
             rules: [[0; 2]; RULES.len()],
             numbered: Default::default(),
+            holders: Default::default(),
             ends: [0; 2],
         }
     }
@@ -67,6 +72,10 @@ impl Table {
 
     pub fn add_numbered(&mut self, met: Numbered) {
         self.numbered[met.place][met.way][met.end] += 1;
+    }
+
+    pub fn add_holders(&mut self, held: usize) {
+        self.holders[held] += 1;
     }
 
     fn times(&self, met: Numbered) -> u64 {
@@ -101,6 +110,8 @@ impl Table {
         }
         let unmet = Numbered::due().filter(|&met| self.times(met) == 0);
         missed.extend(unmet.map(|met| format!("never numbered, {}, greatest in {}: {}", WAYS[met.way], PLACES[met.place], ENDS[met.end])));
+        let unheld = HOLDERS.iter().zip(self.holders).filter(|(_, count)| *count == 0);
+        missed.extend(unheld.map(|(parts, _)| format!("the greatest variable never asked for where it is in {parts}")));
         if self.ends.contains(&0) {
             missed.push("two lists of steps always ended alike, or never".into());
         }
@@ -158,6 +169,8 @@ impl fmt::Display for Table {
             writeln!(f, "{rule:<62}{forward:>9}{back:>9}")?;
         }
         self.numbered_lines(f)?;
+        writeln!(f, "\ngreatest variable asked for, held by")?;
+        HOLDERS.iter().zip(self.holders).try_for_each(|(parts, count)| writeln!(f, "{parts:<34}{:>7}", shown(count)))?;
         let [different, equal] = self.ends;
         writeln!(f, "\ntwo lists of steps: {equal} pairs ended at equal events, {different} at different ones")
     }

@@ -17,6 +17,17 @@ pub enum Port {
     Redo,
 }
 
+/// The parts of an event that hold variables, in the order in which they are searched for the greatest, with the desk's numbers for them.
+#[derive(Clone, Copy, Debug, PartialEq, Eq, Hash)]
+pub enum Part {
+    /// the bet stack
+    Bets = 1,
+    /// the goal
+    Goal = 2,
+    /// the ancestor stack
+    Ancestors = 3,
+}
+
 record_type! {
     /// An event record that passed questions 11 to 14. Whether a walk reaches it is not asked. Equal events have equal bytes, so `==` is equality as
     /// SPECIFICATION 9.3 has it: the same port, goal, ancestors and bets.
@@ -87,6 +98,25 @@ impl Event {
         out.truncate(length as usize);
         out.shrink_to_fit();
         Ok(Term(out))
+    }
+
+    /// The greatest variable of the event, and the first of bets, goal and ancestors that holds it; nothing where the event has no variable. An
+    /// [`Event`] has passed the gate, so this is not refused.
+    ///
+    /// ```
+    /// use fourport::{Event, Part};
+    /// // call p(V4), with the unifier V9/a; and without it
+    /// let call = Event::from_bytes([0, 22, 1, 1, 0x15, 0, 6, 1, 1, 0, 4, 0, 0, 0, 1, 0x20, 0, 1, 0, 9, 2, 0, 1, 0])?;
+    /// assert_eq!(call.greatest(), Some((Part::Bets, 9)));
+    /// let call = Event::from_bytes([0, 13, 1, 1, 0x15, 0, 6, 1, 1, 0, 4, 0, 0, 0, 0])?;
+    /// assert_eq!(call.greatest(), Some((Part::Goal, 4)));
+    /// # Ok::<(), fourport::Refusal>(())
+    /// ```
+    pub fn greatest(&self) -> Option<(Part, u16)> {
+        let (mut part, mut greatest) = (0, 0);
+        raw::greatest(&self.0, &mut part, &mut greatest);
+        let part = [Part::Bets, Part::Goal, Part::Ancestors].into_iter().find(|&known| known as u32 == part)?;
+        Some((part, greatest as u16))
     }
 
     /// An event that the desk wrote.

@@ -53,7 +53,7 @@ mod walk;
 
 pub use clauses::Clauses;
 pub use counts::Counts;
-pub use event::{Event, Port, Term};
+pub use event::{Event, Part, Port, Term};
 pub use program::{Definition, Direction, Program, Run};
 pub use query::Query;
 pub use refusal::{Refusal, Which};

@@ -91,6 +91,20 @@ pub fn lookup(program: &[u8], event: &[u8], at: &mut usize) -> usize {
     sys::lookup(program, event, at)
 }
 
+/// The greatest variable of an event, and the first of bets (1), goal (2) and ancestors (3) that holds it: 0, or 11 to 14. Both numbers are 0 after a
+/// refusal, and where the event has no variable.
+///
+/// ```
+/// // call V4 = V9, under no ancestors, with the unifier V9/a
+/// let call = [0, 22, 1, 1, 0x12, 1, 0, 4, 1, 0, 9, 0, 0, 0, 1, 0x20, 0, 1, 0, 9, 2, 0, 1, 0];
+/// let (mut part, mut greatest) = (99, 99);
+/// assert_eq!(fourport::raw::greatest(&call, &mut part, &mut greatest), 0);
+/// assert_eq!((part, greatest), (1, 9));
+/// ```
+pub fn greatest(event: &[u8], part: &mut u32, greatest: &mut u32) -> u32 {
+    sys::greatest(event, part, greatest)
+}
+
 /// Adds the event's port to the counts: 0, or 11 to 14 and the counts stay.
 ///
 /// ```

@@ -28,6 +28,7 @@ mod archive {
         ) -> u32;
         pub fn fourport_value(event: *const u8, event_len: usize, v: u16, out: *mut u8, out_len: usize, written: *mut u32) -> u32;
         pub fn fourport_lookup(program: *const u8, program_len: usize, event: *const u8, event_len: usize, at: *mut usize) -> usize;
+        pub fn fourport_greatest(event: *const u8, event_len: usize, part: *mut u32, greatest: *mut u32) -> u32;
         pub fn fourport_count(counts: *mut Counts, event: *const u8, event_len: usize) -> u32;
     }
 }
@@ -68,6 +69,11 @@ pub fn value(event: &[u8], v: u16, out: &mut [u8], written: &mut u32) -> u32 {
 pub fn lookup(program: &[u8], event: &[u8], at: &mut usize) -> usize {
     // SAFETY: both slices are live and borrowed shared; `at` is an aligned, initialised number that is borrowed alone.
     unsafe { archive::fourport_lookup(program.as_ptr(), program.len(), event.as_ptr(), event.len(), at) }
+}
+
+pub fn greatest(event: &[u8], part: &mut u32, greatest: &mut u32) -> u32 {
+    // SAFETY: the slice is live and borrowed shared; `part` and `greatest` are aligned, initialised numbers, each borrowed alone.
+    unsafe { archive::fourport_greatest(event.as_ptr(), event.len(), part, greatest) }
 }
 
 pub fn count(counts: &mut Counts, event: &[u8]) -> u32 {

@@ -1,7 +1,9 @@
 //! The typed layer: it says what the raw layer says, it holds only records that passed, and it never panics.
 
-use fourport::{raw, Clauses, Counts, Direction, Event, Port, Program, Query, Refusal, Walk, Which, RECORD_LIMIT, STACK};
-use layout::{clause, clauses, equality, nested, record, split_record, symbol, variable, CALL_TRUE, CONJUNCTION, NO_DEFINITIONS, TRUE, TRUTH};
+use fourport::{raw, Clauses, Counts, Direction, Event, Part, Port, Program, Query, Refusal, Walk, Which, RECORD_LIMIT, STACK};
+use layout::{
+    atom, by, clause, clauses, equality, event, nested, record, split_record, symbol, variable, CALL_TRUE, CONJUNCTION, NO_DEFINITIONS, TRUE, TRUTH,
+};
 use std::thread;
 
 const THREE_BAYS: &[u8] = include_bytes!("../../../examples/three-bays.in");
@@ -103,6 +105,22 @@ fn numbers_and_words() {
     assert_eq!(Refusal::from_number(15).map(Refusal::number), Some(15));
     let error: Box<dyn std::error::Error> = Box::new(Refusal::Fit);
     assert_eq!(error.to_string(), "no to question 10: has the result at most 32,768 bytes?");
+}
+
+/// The part of the greatest variable, where each holds it alone, where all do, and where there is none.
+#[test]
+fn the_part_of_the_greatest_variable() {
+    let (held, none) = (atom(6, &[variable(65_535)]), atom(6, &[]));
+    let parts = |goal: &[u8], ancestor: &[u8], bet: &[u8]| {
+        let record = event(4, goal, &[ancestor.to_vec()], &[by(&TRUE), by(bet)]);
+        Event::from_bytes(record).expect("an event").greatest()
+    };
+    assert_eq!(parts(&none, &none, &none), None);
+    assert_eq!(parts(&none, &none, &held), Some((Part::Bets, 65_535)));
+    assert_eq!(parts(&held, &none, &none), Some((Part::Goal, 65_535)));
+    assert_eq!(parts(&none, &held, &none), Some((Part::Ancestors, 65_535)));
+    assert_eq!(parts(&held, &held, &none), Some((Part::Goal, 65_535)));
+    assert_eq!(parts(&held, &held, &held), Some((Part::Bets, 65_535)));
 }
 
 /// The deepest terms that records and values hold, on a thread of `STACK` bytes.

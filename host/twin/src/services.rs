@@ -123,6 +123,22 @@ pub fn place(program: &[u8], event: &[u8]) -> Option<Range<usize>> {
     program.definition(*predicate, arguments.len()).map(|definition| definition.place.clone())
 }
 
+/// The number; the first of bets (1), goal (2) and ancestors (3) that holds the event's greatest variable; and that variable. Both are 0 where the
+/// event is refused and where it has no variable.
+pub fn greatest(event: &[u8]) -> (u8, u32, u32) {
+    match second(reader::event(event)) {
+        Err(Refusal(number)) => (number, 0, 0),
+        Ok(event) => {
+            let m = event.above();
+            let parts = [event.bets.above(), event.goal.above(), event.ancestors.above()];
+            match parts.iter().position(|&above| above == m) {
+                Some(part) if m > 0 => (0, 1 + part as u32, m - 1),
+                _ => (0, 0, 0),
+            }
+        }
+    }
+}
+
 /// Adds the event's port to the counts: the number, and the counts after it.
 pub fn count(event: &[u8], mut counts: Counts) -> (u8, Counts) {
     match second(reader::event(event)) {

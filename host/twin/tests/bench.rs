@@ -3,7 +3,7 @@
 use layout::*;
 use twin::gate::RECORD_LIMIT as ROOM;
 use twin::rules::Direction::Forward;
-use twin::services::{back, canonical, first, forward, run, Reply};
+use twin::services::{back, canonical, first, forward, greatest, run, Reply};
 use twin::walk::walk;
 
 fn hexa(digits: &str) -> Vec<u8> {
@@ -126,6 +126,16 @@ fn locals_above_the_bets() {
     assert_eq!(forward(&one_local, &event(1, &goal, &[], &last), ROOM), refused(9));
     assert_eq!(back(&one_local, &event(1, &TRUE, std::slice::from_ref(&goal), &last), ROOM), refused(9));
     assert_eq!(back(&one_local, &event(3, &goal, &[], &last), ROOM), refused(9));
+}
+
+/// SPECIFICATION 11.20: the part of the greatest variable.
+#[test]
+fn the_first_part_that_holds_the_greatest() {
+    assert_eq!(greatest(&hexa("00 16 01 01 15 00 07 01 01 00 04 00 00 00 01 20 00 01 00 09 02 00 01 00")), (0, 1, 9));
+    let p = |v| atom(7, &[variable(v)]);
+    assert_eq!(greatest(&event(1, &p(9), &[], &[unifier(&[(3, variable(9))])])), (0, 1, 9));
+    assert_eq!(greatest(&event(1, &p(9), &[p(9)], &[by(&p(8))])), (0, 2, 9));
+    assert_eq!(greatest(&event(1, &TRUE, &[atom(7, &[])], &[or(1)])), (0, 0, 0));
 }
 
 #[test]

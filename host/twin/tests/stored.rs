@@ -145,6 +145,10 @@ fn terms() {
             }
             'u' => equality(&cases.field()).unwrap_or_else(|Refusal(number)| number.to_string()),
             'b' => atom_body(&cases.field(), &cases.field()).unwrap_or_else(|Refusal(number)| number.to_string()),
+            'g' => match services::greatest(&cases.field()) {
+                (0, part, greatest) => format!("0 {part} {greatest}"),
+                (number, ..) => number.to_string(),
+            },
             _ => panic!("kind {kind}"),
         };
         lines.push(format!("{} {kind} {given}", lines.len() + 1));

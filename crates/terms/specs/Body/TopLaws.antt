@@ -32,7 +32,7 @@ use Rattle.records.specs.declared.heads.Word.{Word}
 use Rattle.records.specs.declared.heads.Word.the-variants.{Number, Short}
 use Rattle.records.specs.declared.traverse.Top.{Top}
 use Rattle.records.specs.Ends.Above.{above}
-use Rattle.terms.specs.Body.Body.{ancestors-variables, pair-variables, bet-variables, bets-variables, next-variable}
+use Rattle.terms.specs.Body.Body.{pair-variables, bet-variables}
 use Rattle.terms.specs.Body.Tops.{Member, member-variables, members-variables, MemberAt, StackAt, TopOf, PieceOf}
 use Rattle.terms.specs.Standing.Frames.{GoalAt, AncestorAt, PairAt, PairsAt, BetAt}
 use Rattle.terms.specs.Standing.Rows.{FirstOf, standing-empty, standing-moved}
@@ -250,12 +250,3 @@ module _ {k : StackKind} {s : List ℕ} {at n low pos pairs left m : ℕ} (g : G
               let v : above (members-variables k (g .rest u .items)) ≡ max (max (r .top) p) q = x ∙ ap (λ (i : ℕ). max i q) (t (f .first) .top) in
               let w : max (above (each pair-variables (g .own u .items))) (above (members-variables k (g .rest u .items))) ≡ above (members-variables k (g .rest u .items)) = omega (arith, none-left u) in
               ap (max m) (w ∙ v) ∙ regrouped m (r .top) p q ∙ ap (λ (i : ℕ). max i (max p q)) (sym e)
-
--- all three together are the first new variable
-pub next-is : (g : Goal) (u : List Ancestor) (s : List Bet) {a b c : ℕ} → a ≡ above (goal-variables g) → b ≡ max a (above (ancestors-variables u))
-    → c ≡ max b (above (bets-variables s)) → c ≡ next-variable g u s
-unfolding next-variable
-next-is g u s p q r =
-    let x = above-append (goal-variables g) (ancestors-variables u ++ bets-variables s) in
-    let y = above-append (ancestors-variables u) (bets-variables s) in
-    omega (arith, p, q, r, x, y)

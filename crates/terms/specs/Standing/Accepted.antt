@@ -12,6 +12,7 @@ use Rattle.records.specs.Ends.Places.{goal-end}
 use Rattle.terms.specs.Standing.BetRow.{RuledBets}
 use Rattle.terms.specs.Values.Applied.{TermAt}
 use Rattle.terms.specs.Body.BodyBytes.{AtomAt}
+use Rattle.records.specs.declared.places.Places.{Places}
 use Rattle.terms.specs.declared.variables.Frame.{Frame}
 
 -- where the count of an event's ancestors stands, and that of its bets
@@ -33,6 +34,16 @@ frame-of (event p g u b) = record {
   depth = length u;
   bets = bets-at g u + 2;
   height = length b;
+}
+
+-- the same, by the event's places
+abbrev pub frame-placed : Places → Frame
+frame-placed places = record {
+  goal = places .goal .from;
+  ancestors = places .ancestors .from;
+  depth = places .ancestors .count;
+  bets = places .bets .from;
+  height = places .bets .count;
 }
 
 -- the frame of the atom that a goal stands under: the stacks without it

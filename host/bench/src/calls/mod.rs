@@ -20,6 +20,7 @@ pub enum Call {
     Back(Bytes, Bytes),
     Value(Bytes, u16),
     Lookup(Bytes, Bytes),
+    Greatest(Bytes),
     Count(Bytes),
 }
 
@@ -32,13 +33,14 @@ impl Call {
             Call::Back(..) => "back",
             Call::Value(..) => "value",
             Call::Lookup(..) => "lookup",
+            Call::Greatest(_) => "greatest variable",
             Call::Count(_) => "count",
         }
     }
 
     fn records(&self) -> Vec<&Bytes> {
         match self {
-            Call::Canonical(record) | Call::First(record) | Call::Value(record, _) | Call::Count(record) => vec![record],
+            Call::Canonical(record) | Call::First(record) | Call::Value(record, _) | Call::Greatest(record) | Call::Count(record) => vec![record],
             Call::Forward(program, event) | Call::Back(program, event) | Call::Lookup(program, event) => vec![program, event],
         }
     }
@@ -52,6 +54,7 @@ impl Call {
             Call::Back(program, event) => desk.back(program, event, out),
             Call::Value(event, v) => desk.value(event, *v, out),
             Call::Lookup(program, event) => return desk.lookup(program, event),
+            Call::Greatest(event) => desk.greatest(event),
             Call::Count(event) => desk.count(event),
         };
         number as usize

@@ -13,12 +13,15 @@ fn joins(n: usize) -> Bytes {
     (0..n).fold(TRUE.to_vec(), |goal, i| if i % 2 == 0 { conjunction(&goal, &TRUE) } else { disjunction(&goal, &TRUE) })
 }
 
-/// Each port, forward and back, and the counter.
+/// Each port, forward and back, the greatest variable, and the counter.
 fn ways(goal: &Bytes, ancestors: &[Bytes], bets: &[Bytes]) -> Vec<Call> {
     let none = program(&[]);
     (1..=4)
         .map(|port| event(port, goal, ancestors, bets))
-        .flat_map(|event| [Call::Forward(none.clone(), event.clone()), Call::Back(none.clone(), event.clone()), Call::Count(event)])
+        .flat_map(|event| {
+            let steps = [Call::Forward(none.clone(), event.clone()), Call::Back(none.clone(), event.clone())];
+            steps.into_iter().chain([Call::Greatest(event.clone()), Call::Count(event)])
+        })
         .collect()
 }
 

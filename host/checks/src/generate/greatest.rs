@@ -21,7 +21,9 @@ pub enum Part {
 }
 
 /// A part, and whether it belongs to a bet below others.
-pub const PLACES: [(Part, bool); 8] = [
+pub type Place = (Part, bool);
+
+pub const PLACES: [Place; 8] = [
     (Part::Goal, false),
     (Part::Ancestor, false),
     (Part::PairVariable, false),
@@ -108,24 +110,26 @@ fn bet_with(dice: &mut Dice, part: Part, number: u16) -> Vec<u8> {
     }
 }
 
-/// A call whose greatest variable has that number, `LEAST` or more, and stands there alone; `lower`: in a bet below others.
-pub fn called(dice: &mut Dice, (part, lower): (Part, bool), number: u16) -> Called {
+/// A call whose greatest variable has that number, `LEAST` or more, and stands in these places alone.
+pub fn called(dice: &mut Dice, places: &[Place], number: u16) -> Called {
     let mut arguments = {
         let count = dice.between(1, 2);
         all_bytes(&terms(dice, names(), 1, count))
     };
     let mut ancestors: Vec<Vec<u8>> = (0..dice.below(4)).map(|_| ancestor(dice, names())).collect();
     let mut bets: Vec<Vec<u8>> = (0..dice.below(6)).map(|_| bet(dice, names())).collect();
-    match part {
-        Part::Goal => arguments[0] = if dice.one_in(2) { variable(number) } else { symbol(2, &[variable(0), variable(number)]) },
-        Part::Ancestor => ancestors.insert(dice.below(ancestors.len() + 1), ancestor_with(dice, number)),
-        Part::PairVariable | Part::PairTerm | Part::By => {
-            let held = bet_with(dice, part, number);
-            if lower {
-                bets.push(unifier(dice, names()));
-                bets.insert(dice.between(1, bets.len()), held);
-            } else {
-                bets.insert(0, held);
+    for &(part, lower) in places {
+        match part {
+            Part::Goal => arguments[0] = if dice.one_in(2) { variable(number) } else { symbol(2, &[variable(0), variable(number)]) },
+            Part::Ancestor => ancestors.insert(dice.below(ancestors.len() + 1), ancestor_with(dice, number)),
+            Part::PairVariable | Part::PairTerm | Part::By => {
+                let held = bet_with(dice, part, number);
+                if lower {
+                    bets.push(unifier(dice, names()));
+                    bets.insert(dice.between(1, bets.len()), held);
+                } else {
+                    bets.insert(0, held);
+                }
             }
         }
     }

@@ -73,6 +73,7 @@ fn record_lengths(checker: &mut Checker) -> Checked<()> {
                 checker.lookup(program, event)?;
             }
             checker.value(event, 1, ROOM)?;
+            checker.greatest(event)?;
             checker.count(event, [0; 4])?;
         }
     }
@@ -134,7 +135,7 @@ fn locals(checker: &mut Checker, dice: &mut Dice) -> Checked<()> {
     {
         let definitions = numbering::definitions(dice, count);
         for place in PLACES {
-            let called = called(dice, place, highest);
+            let called = called(dice, &[place], highest);
             numbering::each_way(checker, &definitions, &called)?;
         }
     }
@@ -199,6 +200,7 @@ fn arities(checker: &mut Checker) -> Checked<()> {
             checker.lookup(&definitions, event)?;
             checker.lookup(&none(), event)?;
             checker.value(event, 1, ROOM)?;
+            checker.greatest(event)?;
             checker.count(event, [7; 4])?;
         }
     }
@@ -221,6 +223,7 @@ fn short_slices(checker: &mut Checker) -> Checked<()> {
             checker.lookup(program, event)?;
         }
         checker.value(slice, 0, ROOM)?;
+        checker.greatest(slice)?;
         checker.count(slice, [u32::MAX; 4])?;
     }
     Ok(())

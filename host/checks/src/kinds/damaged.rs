@@ -37,6 +37,7 @@ pub fn round(checker: &mut Checker, dice: &mut Dice) -> Checked<()> {
     checker.run(&program, &event, dice.below(4) as u32, dice.below(2) as u8, room(dice))?;
     checker.value(&event, dice.below(8) as u16, room(dice))?;
     checker.lookup(&program, &event)?;
+    checker.greatest(&event)?;
     checker.count(&event, [dice.long(), dice.long(), dice.long(), dice.long()])?;
     // one record in the place of another
     let mut all = [program, event, query, set];

@@ -9,6 +9,7 @@ mod garages;
 mod lookups;
 mod moves;
 mod numbering;
+mod parts;
 mod runs;
 mod unifiers;
 mod unreached;
@@ -25,7 +26,7 @@ pub struct Kind {
     pub round: fn(&mut Checker, &mut Dice) -> Checked<()>,
 }
 
-pub const KINDS: [Kind; 14] = [
+pub const KINDS: [Kind; 15] = [
     Kind { name: "boundaries", share: 0, round: boundaries::round },
     Kind { name: "garages", share: 0, round: garages::round },
     Kind { name: "walks", share: 200, round: walks::round },
@@ -40,4 +41,5 @@ pub const KINDS: [Kind; 14] = [
     Kind { name: "unifiers", share: 20, round: unifiers::round },
     Kind { name: "deep", share: 10, round: deep::round },
     Kind { name: "numbering", share: 30, round: numbering::round },
+    Kind { name: "parts", share: 20, round: parts::round },
 ];

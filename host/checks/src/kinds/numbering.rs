@@ -36,7 +36,7 @@ pub fn round(checker: &mut Checker, dice: &mut Dice) -> Checked<()> {
     let locals = *dice.pick(&[0, 1, 1, 2, 3, 255]);
     let (place, number) = (*dice.pick(&PLACES), greatest(dice, locals));
     let program = definitions(dice, locals);
-    let called = called(dice, place, number);
+    let called = called(dice, &[place], number);
     each_way(checker, &program, &called)
 }
 

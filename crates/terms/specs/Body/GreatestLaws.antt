@@ -1,0 +1,96 @@
+-- Laws of the greatest variable: where it is, by what is above the variables of each part; one more than it is the first new variable; and the part that is
+-- named holds it, while no part before that does.
+use mathlib.Core.Path.{_≡_, refl, sym, _∙_, ap}
+use mathlib.Core.Bool.{Bool, true, false, cond}
+use mathlib.Core.List.{List, [], _∷_, _++_}
+use native.Mathlib.Decide.{ℕ-discrete}
+use native.Mathlib.Omega.{arith}
+use Prim.Native.Nat.{ℕ, zero, suc, _≤_, max}
+use borrow.Author.Tests.{eq-eqb, ne-eqb}
+use Rattle.records.specs.Format.Syntax.{Goal, Ancestor, Bet}
+use Rattle.records.specs.Format.Never.{never}
+use Rattle.records.specs.Gate.RecordRules.{goal-variables, member}
+use Rattle.records.specs.Ends.Above.{above}
+use Rattle.terms.specs.Body.Body.{bets-variables, next-variable}
+use Rattle.terms.specs.Body.TopLaws.{above-append}
+use Rattle.terms.specs.Body.Greatest.{first-holding, greatest-of, greatest-variable, next-after}
+use Rattle.terms.specs.declared.greatest.Greatest.{Greatest}
+use Rattle.terms.specs.declared.greatest.Greatest.the-variants.{Nowhere, InBets, InGoal, InAncestors}
+
+-- a number that is above the list is not in it, and the greatest is
+not-held : (v : ℕ) (l : List ℕ) → above l ≤ v → member v l ≡ false
+not-held v [] h = refl
+not-held v (w ∷ l) h = rw (ne-eqb v w (λ e. absurd (omega arith))) (not-held v l (omega arith))
+
+held : (v : ℕ) (l : List ℕ) → above l ≡ suc v → member v l ≡ true
+held v [] h = absurd (omega arith)
+held v (w ∷ l) h = go (ℕ-discrete v w) (held v l)
+  where
+    go : Dec (v ≡ w) → (above l ≡ suc v → member v l ≡ true) → member v (w ∷ l) ≡ true
+    go (yes e) k = rw (eq-eqb v w e)
+    go (no n) k = rw (ne-eqb v w n) (k (omega arith))
+
+module _ (b g u : List ℕ) where
+  -- what is above all three
+  whole : above (g ++ (u ++ b)) ≡ max (above g) (max (above u) (above b))
+  whole = above-append g (u ++ b) ∙ ap (max (above g)) (above-append u b)
+
+  -- the greatest of what is above each of them
+  pub overall : {x y z m n : ℕ} → x ≡ above b → y ≡ above g → z ≡ above u → m ≡ max x y → n ≡ max m z → n ≡ above (g ++ (u ++ b))
+  overall h i j k l = omega (arith, whole)
+
+  -- whose it is: of bets, goal and ancestors the first with as much above it as above all three; or it is nowhere
+  pub in-bets : (v : ℕ) → above (g ++ (u ++ b)) ≡ suc v → above b ≡ suc v → InBets v ≡ greatest-of b g u
+  unfolding greatest-of
+  in-bets v t h = rw (t, held v b h) refl
+
+  pub in-goal : (v : ℕ) → above (g ++ (u ++ b)) ≡ suc v → (above b ≡ suc v → ⊥) → above g ≡ suc v → InGoal v ≡ greatest-of b g u
+  unfolding greatest-of
+  in-goal v t h i = rw (t, not-held v b (omega (arith, whole, h)), held v g i) refl
+
+  pub in-ancestors : (v : ℕ) → above (g ++ (u ++ b)) ≡ suc v → (above b ≡ suc v → ⊥) → (above g ≡ suc v → ⊥) → InAncestors v ≡ greatest-of b g u
+  unfolding greatest-of
+  in-ancestors v t h i = rw (t, not-held v b (omega (arith, whole, h)), not-held v g (omega (arith, whole, i))) refl
+
+  pub nowhere : above (g ++ (u ++ b)) ≡ 0 → Nowhere ≡ greatest-of b g u
+  unfolding greatest-of
+  nowhere t = rw t refl
+
+  -- what the answer says: which variable is the greatest of all, that the part which is named holds it, and that none before that does
+  abbrev pub HeldFirst : Greatest → Type 0
+  HeldFirst Nowhere = above (g ++ (u ++ b)) ≡ 0
+  HeldFirst (InBets v) = (above (g ++ (u ++ b)) ≡ suc v) × (member v b ≡ true)
+  HeldFirst (InGoal v) = (above (g ++ (u ++ b)) ≡ suc v) × (member v b ≡ false) × (member v g ≡ true)
+  HeldFirst (InAncestors v) = (above (g ++ (u ++ b)) ≡ suc v) × (member v b ≡ false) × (member v g ≡ false) × (member v u ≡ true)
+
+  pub held-first : HeldFirst (greatest-of b g u)
+  unfolding greatest-of
+  held-first = go (above (g ++ (u ++ b))) refl
+    where
+      not-there : (v : ℕ) (l : List ℕ) → member v l ≡ false → above l ≡ suc v → ⊥
+      not-there v l n h = never (sym (held v l h) ∙ n)
+
+      by-parts : (v : ℕ) → above (g ++ (u ++ b)) ≡ suc v → (c d : Bool) → member v b ≡ c → member v g ≡ d
+          → HeldFirst (cond c (InBets v) (cond d (InGoal v) (InAncestors v)))
+      by-parts v h true d i j = (h, i)
+      by-parts v h false true i j = (h, i, j)
+      by-parts v h false false i j = (h, i, j, held v u (omega (arith, h, whole, not-there v b i, not-there v g j)))
+
+      go : (n : ℕ) → above (g ++ (u ++ b)) ≡ n → HeldFirst (first-holding n b g)
+      go zero h = h
+      go (suc v) h = by-parts v h (member v b) (member v g) refl refl
+
+-- the number after it is the one above all that is searched
+after-first : (n : ℕ) (b g : List ℕ) → next-after (first-holding n b g) ≡ n
+after-first zero b g = refl
+after-first (suc v) b g = go (member v b) (member v g)
+  where
+    go : (c d : Bool) → next-after (cond c (InBets v) (cond d (InGoal v) (InAncestors v))) ≡ suc v
+    go true d = refl
+    go false true = refl
+    go false false = refl
+
+-- so the first new variable is read off it
+pub next-read : (g : Goal) (u : List Ancestor) (s : List Bet) → next-after (greatest-variable g u s) ≡ next-variable g u s
+unfolding greatest-of next-variable
+next-read g u s = after-first (next-variable g u s) (bets-variables s) (goal-variables g)

@@ -22,6 +22,7 @@ pub fn round(checker: &mut Checker, dice: &mut Dice) -> Checked<()> {
             let event = &events[events.len() - 1];
             checker.value(event, dice.below(8) as u16, 32_768)?;
             checker.lookup(program, event)?;
+            checker.greatest(event)?;
             checker.count(event, [dice.long(); 4])?;
             let next = checker.forward(program, event, 32_768)?;
             if next.number != 0 {

@@ -36,6 +36,7 @@ pub fn round(checker: &mut Checker, dice: &mut Dice) -> Checked<()> {
 fn aside(checker: &mut Checker, dice: &mut Dice, program: &[u8], event: &[u8]) -> Checked<()> {
     checker.value(event, known_variable(dice, event), room(dice))?;
     checker.lookup(program, event)?;
+    checker.greatest(event)?;
     checker.count(event, [dice.long(); 4])?;
     Ok(())
 }

@@ -28,7 +28,7 @@
  * Duties of a caller, which nothing here can test:
  *  - A pointer is not null and points to as many readable bytes as the length beside it says, `out` to as many writable and initialised ones; where
  *    the length is 0 too it is not null. The other pointers point to one writable, initialised and aligned value of their type.
- *  - What is written (`out`, `taken`, `written`, `at`, `counts`) overlaps nothing else that the call is given. What is only read may overlap.
+ *  - What is written (`out`, `taken`, `written`, `at`, `part`, `greatest`, `counts`) overlaps nothing else that the call is given. What is only read may overlap.
  *  - Nobody else writes any of it during the call, or reads what the call writes.
  *  - The thread has the stack, of which nothing is proved: the deepest calls we know of need 1,588 KiB, so give
  *    4 MiB. Linux gives a main thread 8.

@@ -31,8 +31,8 @@ pub extern "C" fn fourport_lookup(program: &[u8], event: &[u8], at: &mut usize) 
     range.to - range.from
 }
 
-// The part of an event that its greatest variable is in, and that variable: 1 bets, 2 goal, 3 ancestors, the first of them that holds it; 0 where there
-// is none.
+// An event's greatest variable, and the first part that holds it: 1 bets, 2 goal, 3 ancestors. Both are 0 where there is none, and where the event is
+// refused.
 #[no_mangle]
 pub extern "C" fn fourport_greatest(event: &[u8], part: &mut u32, greatest: &mut u32) -> u32
     ensures { λ r. ⌜ record { number = r; part = now (part .exit); variable = now (greatest .exit) } ≡ greatest-record (now (event .entry)) ⌝ }

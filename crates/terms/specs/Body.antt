@@ -1,4 +1,4 @@
--- The body of an atom: the definition, the search for it, the numbering, and its bytes.
+-- The body of an atom: the definition, the search for it, the numbering by the greatest variable of the event, and its bytes.
 pub mod Body
 pub mod Tops
 pub mod Greatest

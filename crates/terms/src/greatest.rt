@@ -42,7 +42,7 @@ pub fn greatest_variable(event: &[u8], frame: Frame) -> Greatest
     requires { ⌜ FrameAt (now event) frame ⌝ }
     ensures { λ r. ⌜ ((f : FrameAt (now (event .entry)) frame) → r ≡ greatest-variable (f .goal .item) (f .ancestors .items) (f .bets .items)) ⌝ }
 {
-    let bets = stack_top(event, frame.bets, StackKind::Bets, frame.height, 0);
+    let bets = stack_top(event, frame.bets, StackKind::Bets, frame.height);
     let goal = variables_top(
         event,
         Cursor {
@@ -51,7 +51,7 @@ pub fn greatest_variable(event: &[u8], frame: Frame) -> Greatest
             goals: 1,
         },
     );
-    let ancestors = stack_top(event, frame.ancestors, StackKind::Ancestors, frame.depth, 0);
+    let ancestors = stack_top(event, frame.ancestors, StackKind::Ancestors, frame.depth);
     first_greatest(bets, goal.top, ancestors)
 }
 

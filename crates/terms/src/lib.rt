@@ -1,4 +1,4 @@
-// Terms: substitution, the value service, the most general unifier and the body of an atom.
+// Terms: substitution, the value service, the most general unifier, the body of an atom, and the greatest variable of an event.
 pub mod apply; // apply.rt: a bet stack applied to a term
 pub mod arguments; // arguments.rt: where the arguments of an atom stand
 pub mod body; // body.rt: the numbered body of an atom
@@ -17,5 +17,5 @@ pub mod substitute; // substitute.rt: a term or a goal under a substitution
 pub mod tables; // tables.rt: how large tables on the stack are
 pub mod unifier; // unifier.rt: the unifier of two values, from bytes to bytes
 pub mod value; // value.rt: the value of a variable
-pub mod variables; // variables.rt: the greatest variable of a stack
+pub mod variables; // variables.rt: frames, and one more than the greatest variable of a stack
 pub mod write; // write.rt: the terms of the classes as bytes

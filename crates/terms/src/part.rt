@@ -25,7 +25,7 @@ const GOAL_PART: u8 = 2;
 const ANCESTORS_PART: u8 = 3;
 
 // What is told of an answer.
-fn told(greatest: Greatest) -> PartAnswer
+fn greatest_told(greatest: Greatest) -> PartAnswer
     ensures { λ r. ⌜ part-reply r ≡ greatest-told greatest ⌝ }
 {
     match greatest {
@@ -65,5 +65,5 @@ pub fn greatest_part(event: &[u8]) -> PartAnswer
         };
     }
     let places = event_places(event);
-    told(greatest_variable(event, event_frame(places)))
+    greatest_told(greatest_variable(event, event_frame(places)))
 }

@@ -16,7 +16,7 @@ ghost use Prim.Native.Nat.{max};
 ghost use Rattle.records.specs.Gate.RecordRules.{ancestor-variables};
 ghost use Rattle.records.specs.Ends.Above.{above};
 ghost use Rattle.terms.specs.Body.Body.{pair-variables, bet-variables};
-ghost use Rattle.terms.specs.Standing.Accepted.{frame-placed};
+ghost use Rattle.terms.specs.Standing.Accepted.{event-frame};
 ghost use Rattle.terms.specs.Standing.Frames.{AncestorAt, BetAt, PairAt};
 ghost use Rattle.terms.specs.Body.Tops.{TopOf, PieceOf, MemberAt, StackAt, member-variables, members-variables};
 
@@ -31,7 +31,7 @@ pub struct Frame {
 
 // The frame of an event's own goal.
 pub fn event_frame(places: Places) -> Frame
-    ensures { λ r. ⌜ r ≡ frame-placed places ⌝ }
+    ensures { λ r. ⌜ r ≡ event-frame places ⌝ }
 {
     let goal = places.goal;
     let ancestors = places.ancestors;
@@ -178,15 +178,15 @@ fn member_top(event: &[u8], at: usize, stack: StackKind) -> MemberTop
     }
 }
 
-// The greater of m and one more than the greatest variable of a stack of n members.
-pub fn stack_top(event: &[u8], at: usize, stack: StackKind, n: usize, m: usize) -> usize
+// One more than the greatest variable of a stack of n members, or 0 if there is none.
+pub fn stack_top(event: &[u8], at: usize, stack: StackKind, n: usize) -> usize
     requires { ⌜ StackAt stack (now event) at n ⌝ }
-    ensures { λ r. ⌜ ((u : StackAt stack (now (event .entry)) at n) → r ≡ max m (above (members-variables stack (u .items)))) ⌝ }
+    ensures { λ r. ⌜ ((u : StackAt stack (now (event .entry)) at n) → r ≡ above (members-variables stack (u .items))) ⌝ }
 {
     let mut pos = at;
     let mut pairs = 0;
     let mut left = n;
-    let mut top = m;
+    let mut top = 0;
     loop {
         if 0 < pairs {
             let t = pair_top(event, pos);

@@ -13,8 +13,8 @@ use Rattle.records.specs.Gate.Gate.Reading.{tree}
 use Rattle.records.specs.Ends.Places.{event-places}
 use Rattle.records.specs.Ends.Stands.{head-of-goal}
 use Rattle.records.specs.declared.places.Places.{Places}
-use Rattle.terms.specs.Standing.Accepted.{frame-of, frame-placed, atom-moved}
-use Rattle.terms.specs.Standing.AcceptedLaws.{goal-told, accepted-atom}
+use Rattle.terms.specs.Standing.Accepted.{event-frame, atom-moved}
+use Rattle.terms.specs.Standing.AcceptedLaws.{frame-told, goal-told, accepted-atom}
 use Rattle.records.specs.Gate.Reply.{answer-number}
 use Rattle.records.specs.Gate.Door.{program-door, event-door}
 use Rattle.terms.specs.Body.Body.{body}
@@ -74,14 +74,10 @@ module _ (s : List ℕ) (known : Known s) (e : Event) (read : read-event s ≡ t
 pub atom-accepted : {s : List ℕ} → AtomGoal s → Accepted (read-event s)
 atom-accepted q = rw (q .read) tt
 
--- the frame by the event's places
-module _ {s : List ℕ} (known : Known s) (q : AtomGoal s) {places : Places} (i : places ≡ event-places (atom-event q)) {f : Frame} (j : f ≡ frame-placed places) where
-  pub frame-is : f ≡ frame-of (atom-event q)
-  unfolding event-places
-  frame-is = rw (j, i) refl
-
-  abbrev pub atom-there : AtomAt s f
-  atom-there = atom-moved frame-is (accepted-atom s known (q .predicate) (q .terms) (q .read))
+-- and the atom stands in the frame that its places tell
+abbrev pub atom-there : {s : List ℕ} → Known s → (q : AtomGoal s) → {places : Places} → places ≡ event-places (atom-event q) → {f : Frame} → f ≡ event-frame places
+    → AtomAt s f
+atom-there {s} known q i j = atom-moved (frame-told (atom-event q) i j) (accepted-atom s known (q .predicate) (q .terms) (q .read))
 
 -- the body of the atom is the answer for the two records
 pub body-replied : {s : List ℕ} (q : AtomGoal s) (ds : List Definition) {r : Reading (List Definition)} → r ≡ tree ds → {before after : List ℕ} {a : BodyAnswer}

@@ -18,6 +18,7 @@ fn calls() {
     timed("count of no bytes (refused at once)", 20_000_000, || _ = black_box(raw::count(&mut counts, black_box(&[]))));
     timed("count", 5_000_000, || _ = black_box(raw::count(&mut counts, black_box(&call))));
     timed("lookup", 5_000_000, || _ = black_box(raw::lookup(black_box(&program), &call, &mut 0)));
+    timed("greatest variable", 5_000_000, || _ = black_box(raw::greatest(black_box(&call), &mut 0, &mut 0)));
     timed("canonical, no clauses", 500_000, || _ = black_box(raw::canonical(black_box(&program), &mut out)));
     timed("first", 5_000_000, || _ = black_box(raw::first(black_box(&query), &mut out)));
     timed("forward", 2_000_000, || _ = black_box(raw::forward(black_box(&program), &call, &mut out)));

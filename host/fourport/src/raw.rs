@@ -91,8 +91,8 @@ pub fn lookup(program: &[u8], event: &[u8], at: &mut usize) -> usize {
     sys::lookup(program, event, at)
 }
 
-/// The greatest variable of an event, and the first of bets (1), goal (2) and ancestors (3) that holds it: 0, or 11 to 14. Both numbers are 0 after a
-/// refusal, and where the event has no variable.
+/// The greatest variable of an event, and the first of bets (1), goal (2) and ancestors (3) that holds it. Answers 0, or 11 to 14; `part` and
+/// `greatest` are both 0 after a refusal, and where the event has no variable.
 ///
 /// ```
 /// // call V4 = V9, under no ancestors, with the unifier V9/a

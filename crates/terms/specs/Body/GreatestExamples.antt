@@ -14,6 +14,7 @@ use Rattle.records.specs.Format.Reader.{read}
 use Rattle.records.specs.Format.Items.{many, read-counted, read-goal, read-ancestor, read-binding, read-bet, read-stacks, read-frame, read-event-bytes}
 use Rattle.records.specs.Gate.RecordRules.{unifier-rules, event-rules}
 use Rattle.records.specs.Gate.Gate.{framed, of-version, read-record}
+use Rattle.records.specs.Gate.Question.{question-number}
 use Rattle.records.specs.Gate.Reply.{through}
 use Rattle.records.specs.Gate.Door.{event-door}
 use Rattle.terms.specs.Body.Greatest.{greatest-of, greatest-variable}
@@ -46,6 +47,10 @@ goal-above-bets : greatest-variable (p 9) (called 7 (cons (var 4) nil) ∷ []) (
 unfolding greatest-of
 goal-above-bets = refl
 
+ancestors-above-both : greatest-variable (p 4) (called 7 (cons (var 9) nil) ∷ []) (by (p 8) ∷ []) ≡ InAncestors 9
+unfolding greatest-of
+ancestors-above-both = refl
+
 -- equal ones: the first part is named
 bets-and-goal : greatest-variable (p 9) [] (unifier (bind 3 (var 9) ∷ []) ∷ []) ≡ InBets 9
 unfolding greatest-of
@@ -66,6 +71,11 @@ call-record =
     0x00 ∷ 0x16 ∷ 0x01 ∷ 0x01 ∷ 0x15 ∷ 0x00 ∷ 0x07 ∷ 0x01 ∷ 0x01 ∷ 0x00 ∷ 0x04 ∷ 0x00 ∷ 0x00
     ∷ 0x00 ∷ 0x01 ∷ 0x20 ∷ 0x00 ∷ 0x01 ∷ 0x00 ∷ 0x09 ∷ 0x02 ∷ 0x00 ∷ 0x01 ∷ 0x00 ∷ []
 
-pub record-told : greatest-record call-record ≡ record { number = 0; part = 1; variable = 9 }
+record-told : greatest-record call-record ≡ record { number = 0; part = 1; variable = 9 }
 unfolding greatest-record greatest-of through event-door read-record framed of-version read many read-goal read-ancestor read-binding read-bet read-counted read-stacks read-frame read-event-bytes event-rules unifier-rules
 record-told = refl
+
+-- no bytes at all
+nothing-read : greatest-record [] ≡ record { number = 11; part = 0; variable = 0 }
+unfolding greatest-record through event-door read-record framed question-number
+nothing-read = refl

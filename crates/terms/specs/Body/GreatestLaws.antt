@@ -1,5 +1,5 @@
--- Laws of the greatest variable: where it is, by what is above the variables of each part; one more than it is the first new variable; and the part that is
--- named holds it, while no part before that does.
+-- Laws of the greatest variable: where it is, by what is above the variables of each part; that the part which is named holds it, while none before does;
+-- and that one more than it is the first new variable.
 use mathlib.Core.Path.{_≡_, refl, sym, _∙_, ap}
 use mathlib.Core.Bool.{Bool, true, false, cond}
 use mathlib.Core.List.{List, [], _∷_, _++_}
@@ -8,10 +8,12 @@ use native.Mathlib.Omega.{arith}
 use Prim.Native.Nat.{ℕ, zero, suc, _≤_, max}
 use borrow.Author.Tests.{eq-eqb, ne-eqb}
 use Rattle.records.specs.Format.Syntax.{Goal, Ancestor, Bet}
+use Rattle.records.specs.Format.Formed.{GoalFormed, All, AncestorFormed, BetFormed}
 use Rattle.records.specs.Format.Never.{never}
 use Rattle.records.specs.Gate.RecordRules.{goal-variables, member}
 use Rattle.records.specs.Ends.Above.{above}
-use Rattle.terms.specs.Body.Body.{bets-variables, next-variable}
+use Rattle.terms.specs.Body.Body.{ancestors-variables, bets-variables, next-variable}
+use Rattle.terms.specs.Body.BodyLaws.{next-variable-formed}
 use Rattle.terms.specs.Body.TopLaws.{above-append}
 use Rattle.terms.specs.Body.Greatest.{first-holding, greatest-of, greatest-variable, next-after}
 use Rattle.terms.specs.declared.greatest.Greatest.{Greatest}
@@ -80,17 +82,21 @@ module _ (b g u : List ℕ) where
       go zero h = h
       go (suc v) h = by-parts v h (member v b) (member v g) refl refl
 
--- the number after it is the one above all that is searched
-after-first : (n : ℕ) (b g : List ℕ) → next-after (first-holding n b g) ≡ n
-after-first zero b g = refl
-after-first (suc v) b g = go (member v b) (member v g)
-  where
-    go : (c d : Bool) → next-after (cond c (InBets v) (cond d (InGoal v) (InAncestors v))) ≡ suc v
-    go true d = refl
-    go false true = refl
-    go false false = refl
+  -- so the number after it is the one above all three
+  after-held : (m : Greatest) → HeldFirst m → next-after m ≡ above (g ++ (u ++ b))
+  after-held Nowhere h = sym h
+  after-held (InBets v) h = sym (h .0)
+  after-held (InGoal v) h = sym (h .0)
+  after-held (InAncestors v) h = sym (h .0)
 
--- so the first new variable is read off it
-pub next-read : (g : Goal) (u : List Ancestor) (s : List Bet) → next-after (greatest-variable g u s) ≡ next-variable g u s
-unfolding greatest-of next-variable
-next-read g u s = after-first (next-variable g u s) (bets-variables s) (goal-variables g)
+  after-greatest : next-after (greatest-of b g u) ≡ above (g ++ (u ++ b))
+  after-greatest = after-held (greatest-of b g u) held-first
+
+-- and the first new variable is read off it
+module _ (g : Goal) (u : List Ancestor) (s : List Bet) where
+  pub next-read : next-after (greatest-variable g u s) ≡ next-variable g u s
+  unfolding next-variable
+  next-read = after-greatest (bets-variables s) (goal-variables g) (ancestors-variables u)
+
+  pub next-after-formed : GoalFormed g → All AncestorFormed u → All BetFormed s → next-after (greatest-variable g u s) ≤ 65536
+  next-after-formed h i j = rw next-read (next-variable-formed g u s h i j)

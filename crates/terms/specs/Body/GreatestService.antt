@@ -29,9 +29,11 @@ greatest-told (InAncestors v) = record { number = 0; part = 3; variable = v }
 abbrev pub part-reply : PartAnswer → GreatestReply
 part-reply r = record { number = r .number; part = r .part; variable = r .variable }
 
+-- an event's
 abbrev pub greatest-in : Event → Greatest
 greatest-in (event p g ancestors bets) = greatest-variable g ancestors bets
 
+-- the reply for the bytes of an event's record, or for any others
 unfoldable pub greatest-record : List ℕ → GreatestReply
 unfolding through event-door question-number
 greatest-record s =

@@ -15,11 +15,10 @@ use Rattle.records.specs.Ends.Places.{event-places}
 use Rattle.records.specs.Ends.PlacesLaws.{event-parts}
 use Rattle.records.specs.declared.places.Places.{Places}
 use Rattle.terms.specs.Standing.Frames.{FrameAt}
-use Rattle.terms.specs.Standing.Accepted.{frame-placed}
-use Rattle.terms.specs.Standing.AcceptedLaws.{parts-frame}
-use Rattle.terms.specs.Body.BodyLaws.{next-variable-formed}
+use Rattle.terms.specs.Standing.Accepted.{event-frame}
+use Rattle.terms.specs.Standing.AcceptedLaws.{frame-told, parts-frame}
 use Rattle.terms.specs.Body.Greatest.{greatest-variable, next-after}
-use Rattle.terms.specs.Body.GreatestLaws.{next-read}
+use Rattle.terms.specs.Body.GreatestLaws.{next-after-formed}
 use Rattle.terms.specs.Body.GreatestService.{greatest-told, greatest-in, greatest-record}
 use Rattle.terms.specs.declared.variables.Frame.{Frame}
 use Rattle.terms.specs.declared.greatest.Greatest.{Greatest}
@@ -31,15 +30,14 @@ unfolding greatest-record through
 part-refused s i z = let w = number-refuses (event-door (read-event s)) i z in
     rw (w .refuses) (ap (λ (n : ℕ). record { number = n; part = 0; variable = 0 }) (w .number-is))
 
--- the frame by an event's places is the event's
+-- the frame that an event's places tell, and what stands in it
 pub record FrameOf (s : List ℕ) (e : Event) (f : Frame) : Type 0 where
   pub frame : FrameAt s f
   pub holds : greatest-variable (frame .goal .item) (frame .ancestors .items) (frame .bets .items) ≡ greatest-in e
 
-pub event-frame : (s : List ℕ) → Known s → (e : Event) → read-event s ≡ tree e → {places : Places} → places ≡ event-places e
-    → {f : Frame} → f ≡ frame-placed places → FrameOf s e f
-unfolding event-places
-event-frame s known (event p g u b) q i j = rw (j, i) (record { frame = parts-frame (event-parts s known p g u b q); holds = refl })
+pub frame-found : (s : List ℕ) → Known s → (e : Event) → read-event s ≡ tree e → {places : Places} → places ≡ event-places e
+    → {f : Frame} → f ≡ event-frame places → FrameOf s e f
+frame-found s known (event p g u b) q i j = rw (frame-told (event p g u b) i j) (record { frame = parts-frame (event-parts s known p g u b q); holds = refl })
 
 pub part-told : (s : List ℕ) (e : Event) → read-event s ≡ tree e → {m : Greatest} → m ≡ greatest-in e → greatest-told m ≡ greatest-record s
 unfolding greatest-record through event-door
@@ -60,4 +58,4 @@ greatest-small s known = go (read-event s) refl
     go (refused q) i = rw i (omega arith)
     go (tree (event p g u b)) i =
         let w = event-parts s known p g u b i in
-        rw i (below-next (greatest-variable g u b) (rw (next-read g u b) (next-variable-formed g u b (w .formed .0) (w .formed .1 .1) (w .formed .2 .1))))
+        rw i (below-next (greatest-variable g u b) (next-after-formed g u b (w .formed .0) (w .formed .1 .1) (w .formed .2 .1)))

@@ -183,23 +183,23 @@ regrouped : (m a b c : ℕ) → max m (max (max a b) c) ≡ max (max m a) (max b
 regrouped m a b c = omega arith
 
 -- a stack on the way: m is gathered, so many pairs stand from pos on and then `left` members
-pub record Gathered (k : StackKind) (s : List ℕ) (at n low pos pairs left m : ℕ) : Type 0 where
+pub record Gathered (k : StackKind) (s : List ℕ) (at n pos pairs left m : ℕ) : Type 0 where
   pub own : StackAt k s at n → PairsAt s pos pairs
   pub rest : (u : StackAt k s at n) → StackAt k s (own u .end) left
   pub same : (u : StackAt k s at n)
-      → max low (above (members-variables k (u .items))) ≡ max m (max (above (each pair-variables (own u .items))) (above (members-variables k (rest u .items))))
+      → above (members-variables k (u .items)) ≡ max m (max (above (each pair-variables (own u .items))) (above (members-variables k (rest u .items))))
 
-pub gathered-start : (k : StackKind) (s : List ℕ) (at n low : ℕ) → Gathered k s at n low at 0 n low
-gathered-start k s at n low = record { own = λ u. standing-empty s at; rest = λ u. u; same = λ u. omega arith }
+pub gathered-start : (k : StackKind) (s : List ℕ) (at n : ℕ) → Gathered k s at n at 0 n 0
+gathered-start k s at n = record { own = λ u. standing-empty s at; rest = λ u. u; same = λ u. omega arith }
 
-module _ {k : StackKind} {s : List ℕ} {at n low pos pairs left m : ℕ} (g : Gathered k s at n low pos pairs left m) where
+module _ {k : StackKind} {s : List ℕ} {at n pos pairs left m : ℕ} (g : Gathered k s at n pos pairs left m) where
   -- the next pair
   module _ (h : 0 < pairs) where
     pub gathered-pair : StackAt k s at n → PairAt s pos
     gathered-pair u = standing-first (g .own u) h .first
 
     pub gathered-past-pair : {r : Top} {b : ℕ} → ((p : PairAt s pos) → TopOf (pair-variables (p .item)) (p .end) r) → b ≡ max m (r .top)
-        → Gathered k s at n low (r .end) (pairs - 1) left b
+        → Gathered k s at n (r .end) (pairs - 1) left b
     gathered-past-pair {r} {b} t e = record {
       own = λ u. standing-moved (t (standing-first (g .own u) h .first) .end) (standing-first (g .own u) h .rest);
       rest = λ u. standing-moved (standing-first (g .own u) h .same-end) (g .rest u);
@@ -222,7 +222,7 @@ module _ {k : StackKind} {s : List ℕ} {at n low pos pairs left m : ℕ} (g : G
     none-left : (u : StackAt k s at n) → above (each pair-variables (g .own u .items)) ≡ 0
     none-left u = ap (λ (l : List Binding). above (each pair-variables l)) (standing-none (g .own u) z)
 
-    pub gathered-end : left ≡ 0 → (u : StackAt k s at n) → m ≡ max low (above (members-variables k (u .items)))
+    pub gathered-end : left ≡ 0 → (u : StackAt k s at n) → m ≡ above (members-variables k (u .items))
     gathered-end e u =
         let x : above (members-variables k (g .rest u .items)) ≡ 0 = ap (λ (l : List (Member k)). above (members-variables k l)) (standing-none (g .rest u) e) in
         omega (arith, x, none-left u, g .same u)
@@ -232,7 +232,7 @@ module _ {k : StackKind} {s : List ℕ} {at n low pos pairs left m : ℕ} (g : G
       gathered-member u = standing-first (rest-here u) h .first
 
       pub gathered-past-member : {r : MemberTop} {b : ℕ} → ((a : MemberAt k s pos) → PieceOf s (member-variables k (a .item)) (a .end) r) → b ≡ max m (r .top)
-          → Gathered k s at n low (r .end) (r .pairs) (left - 1) b
+          → Gathered k s at n (r .end) (r .pairs) (left - 1) b
       gathered-past-member {r} {b} t e = record {
         own = λ u. t (standing-first (rest-here u) h .first) .pairs;
         rest = λ u. standing-moved (t (standing-first (rest-here u) h .first) .end) (standing-first (rest-here u) h .rest);

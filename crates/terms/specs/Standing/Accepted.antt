@@ -37,8 +37,8 @@ frame-of (event p g u b) = record {
 }
 
 -- the same, by the event's places
-abbrev pub frame-placed : Places → Frame
-frame-placed places = record {
+abbrev pub event-frame : Places → Frame
+event-frame places = record {
   goal = places .goal .from;
   ancestors = places .ancestors .from;
   depth = places .ancestors .count;

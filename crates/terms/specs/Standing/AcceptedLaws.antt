@@ -1,13 +1,13 @@
 -- What an accepted record gives the functions of this crate: the bets of an event, the sides of an equality, the frame of an atom, the definitions
 -- of a program. Each is an abbreviation, so that its tree is seen to be the one that was read. And what its bytes tell: the head of its goal, and
 -- where the left side of an equality ends.
-use mathlib.Core.Path.{_≡_, refl}
+use mathlib.Core.Path.{_≡_, refl, _∙_, ap}
 use mathlib.Core.Bool.{true}
 use mathlib.Core.List.{List, _∷_}
 use Prim.Native.Nat.{ℕ, _+_}
 use lib.ListN.{length}
 use Rattle.records.specs.Gate.RecordRulesLaws.{and-both}
-use Rattle.records.specs.Format.Syntax.{Term, Terms, Goal, Ancestor, Bet, Port, Definition}
+use Rattle.records.specs.Format.Syntax.{Term, Terms, Goal, Ancestor, Bet, Port, Event, Definition}
 use Rattle.records.specs.Format.Syntax.Goal.{equal, atom}
 use Rattle.records.specs.Format.Syntax.Ancestor.{called}
 use Rattle.records.specs.Format.Syntax.Event.{event}
@@ -17,19 +17,26 @@ use Rattle.records.specs.Format.HeadLaws.{Known, bytes-all}
 use Rattle.records.specs.Gate.Gate.{read-event, read-program}
 use Rattle.records.specs.Gate.Gate.Reading.{tree}
 use Rattle.records.specs.Gate.GateLaws.{event-tree, program-tree}
-use Rattle.records.specs.Ends.Places.{goal-end, EventParts}
+use Rattle.records.specs.Ends.Places.{goal-end, event-places, EventParts}
 use Rattle.records.specs.Ends.PlacesLaws.{event-parts}
 use Rattle.records.specs.Ends.StandsLaws.{equal-parts, stack-parts, body-stands, stands-second, goal-stands, term-ends}
 use Rattle.records.specs.Ends.Stands.{Stands, head-of-goal}
 use Rattle.records.specs.Format.Heads.{goal-head-at}
 use Rattle.records.specs.Ends.Traversal.{end-at}
 use Rattle.records.specs.declared.ends.Found.the-variants.{At}
+use Rattle.records.specs.declared.places.Places.{Places}
 use Rattle.terms.specs.Standing.BetRow.{RuledBets}
 use Rattle.terms.specs.Values.Applied.{TermAt}
 use Rattle.terms.specs.Standing.Frames.{FrameAt}
 use Rattle.terms.specs.Body.Definitions.{ProgramAt}
 use Rattle.terms.specs.Body.BodyBytes.{AtomAt}
-use Rattle.terms.specs.Standing.Accepted.{ancestors-at, bets-at, top-end, frame-of, frame-under}
+use Rattle.terms.specs.Standing.Accepted.{ancestors-at, bets-at, top-end, frame-of, event-frame, frame-under}
+use Rattle.terms.specs.declared.variables.Frame.{Frame}
+
+-- the frame by an event's places is the event's
+pub frame-told : (e : Event) {places : Places} {f : Frame} → places ≡ event-places e → f ≡ event-frame places → f ≡ frame-of e
+unfolding event-places
+frame-told (event p g u b) i j = j ∙ ap event-frame i
 
 -- an event's goal and stacks, as its places tell
 module _ {s : List ℕ} {p : Port} {g : Goal} {u : List Ancestor} {b : List Bet} (w : EventParts s p g u b) where

@@ -1,4 +1,4 @@
-//! Calls of an atom whose greatest variable stands in a given part of the event (SPECIFICATION 4).
+//! Calls of an atom whose greatest variable stands in given parts of the event (SPECIFICATION 4, 8.11).
 
 use super::events::{ancestor, bet, unifier};
 use super::goals::goal_bytes;
@@ -11,8 +11,9 @@ pub const PREDICATE: u16 = 5;
 /// All other variables are below this one.
 pub const LEAST: u16 = 6;
 
+/// What holds the greatest variable.
 #[derive(Clone, Copy)]
-pub enum Part {
+pub enum Holder {
     Goal,
     Ancestor,
     PairVariable,
@@ -20,19 +21,21 @@ pub enum Part {
     By,
 }
 
-/// A part, and whether it belongs to a bet below others.
-pub type Place = (Part, bool);
+/// A holder, and whether it belongs to a bet below others.
+pub type Place = (Holder, bool);
 
-pub const PLACES: [Place; 8] = [
-    (Part::Goal, false),
-    (Part::Ancestor, false),
-    (Part::PairVariable, false),
-    (Part::PairTerm, false),
-    (Part::By, false),
-    (Part::PairVariable, true),
-    (Part::PairTerm, true),
-    (Part::By, true),
+pub const GOAL: Place = (Holder::Goal, false);
+pub const ANCESTOR: Place = (Holder::Ancestor, false);
+pub const BETS: [Place; 6] = [
+    (Holder::PairVariable, false),
+    (Holder::PairTerm, false),
+    (Holder::By, false),
+    (Holder::PairVariable, true),
+    (Holder::PairTerm, true),
+    (Holder::By, true),
 ];
+/// All of them.
+pub const PLACES: [Place; 8] = [GOAL, ANCESTOR, BETS[0], BETS[1], BETS[2], BETS[3], BETS[4], BETS[5]];
 
 /// A call event without its port.
 pub struct Called {
@@ -97,20 +100,21 @@ fn ancestor_with(dice: &mut Dice, number: u16) -> Vec<u8> {
     }
 }
 
-/// A bet that has the variable in that part; the pair rules are kept.
-fn bet_with(dice: &mut Dice, part: Part, number: u16) -> Vec<u8> {
+/// A bet that has the variable there; the pair rules are kept.
+fn bet_with(dice: &mut Dice, holder: Holder, number: u16) -> Vec<u8> {
     let free = Names { base: 2, variables: LEAST - 2, symbols: 2 };
     let pairs = |first: Vec<u8>, more: Vec<(u16, Vec<u8>)>| layout::unifier(&[vec![(0, first)], more].concat());
-    match part {
-        Part::PairVariable if dice.one_in(2) => layout::unifier(&[(number, term_bytes(dice, names(), 2))]),
-        Part::PairVariable => pairs(term_bytes(dice, free, 2), vec![(number, term_bytes(dice, free, 1))]),
-        Part::PairTerm if dice.one_in(2) => pairs(symbol(1, &[term_bytes(dice, free, 1), variable(number)]), vec![(1, term_bytes(dice, free, 1))]),
-        Part::PairTerm => pairs(term_bytes(dice, free, 1), vec![(1, variable(number))]),
+    match holder {
+        Holder::PairVariable if dice.one_in(2) => layout::unifier(&[(number, term_bytes(dice, names(), 2))]),
+        Holder::PairVariable => pairs(term_bytes(dice, free, 2), vec![(number, term_bytes(dice, free, 1))]),
+        Holder::PairTerm if dice.one_in(2) => pairs(symbol(1, &[term_bytes(dice, free, 1), variable(number)]), vec![(1, term_bytes(dice, free, 1))]),
+        Holder::PairTerm => pairs(term_bytes(dice, free, 1), vec![(1, variable(number))]),
         _ => by(&goal_with(dice, number)),
     }
 }
 
-/// A call whose greatest variable has that number, `LEAST` or more, and stands in these places alone.
+/// A call whose greatest variable has that number, `LEAST` or more, and stands in these places alone; with no place all its variables are below
+/// `LEAST`.
 pub fn called(dice: &mut Dice, places: &[Place], number: u16) -> Called {
     let mut arguments = {
         let count = dice.between(1, 2);
@@ -118,12 +122,12 @@ pub fn called(dice: &mut Dice, places: &[Place], number: u16) -> Called {
     };
     let mut ancestors: Vec<Vec<u8>> = (0..dice.below(4)).map(|_| ancestor(dice, names())).collect();
     let mut bets: Vec<Vec<u8>> = (0..dice.below(6)).map(|_| bet(dice, names())).collect();
-    for &(part, lower) in places {
-        match part {
-            Part::Goal => arguments[0] = if dice.one_in(2) { variable(number) } else { symbol(2, &[variable(0), variable(number)]) },
-            Part::Ancestor => ancestors.insert(dice.below(ancestors.len() + 1), ancestor_with(dice, number)),
-            Part::PairVariable | Part::PairTerm | Part::By => {
-                let held = bet_with(dice, part, number);
+    for &(holder, lower) in places {
+        match holder {
+            Holder::Goal => arguments[0] = if dice.one_in(2) { variable(number) } else { symbol(2, &[variable(0), variable(number)]) },
+            Holder::Ancestor => ancestors.insert(dice.below(ancestors.len() + 1), ancestor_with(dice, number)),
+            Holder::PairVariable | Holder::PairTerm | Holder::By => {
+                let held = bet_with(dice, holder, number);
                 if lower {
                     bets.push(unifier(dice, names()));
                     bets.insert(dice.between(1, bets.len()), held);

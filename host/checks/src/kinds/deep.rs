@@ -27,6 +27,7 @@ pub fn round(checker: &mut Checker, dice: &mut Dice) -> Checked<()> {
 fn everywhere(checker: &mut Checker, dice: &mut Dice, program: &[u8], event: &[u8]) -> Checked<()> {
     checker.value(event, dice.below(3) as u16, 32_768)?;
     checker.lookup(program, event)?;
+    checker.greatest(event)?;
     checker.count(event, [0; 4])?;
     checker.back(program, event, 32_768)?;
     let next = checker.forward(program, event, 32_768)?;

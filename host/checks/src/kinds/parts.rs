@@ -1,13 +1,13 @@
-//! The part that holds the greatest variable: alone, and with the same variable in other parts too (SPECIFICATION 4).
+//! The part that holds the greatest variable: alone, and with the same variable in other parts too (SPECIFICATION 4, 8.11).
 
 use crate::compare::{Checked, Checker};
-use crate::generate::greatest::{called, Place, LEAST, PLACES};
+use crate::generate::greatest::{called, Place, ANCESTOR, BETS, GOAL, LEAST};
 use crate::generate::{damage, events, Dice};
 use crate::holders::HOLDERS;
 
-/// A place in each of the parts that the bits name.
+/// A place in each of the parts that the bits name, as `HOLDERS` has them.
 fn places(dice: &mut Dice, held: usize) -> Vec<Place> {
-    let each = [*dice.pick(&PLACES[2..]), PLACES[0], PLACES[1]];
+    let each = [*dice.pick(&BETS), GOAL, ANCESTOR];
     (0..each.len()).filter(|i| held >> i & 1 == 1).map(|i| each[i]).collect()
 }
 

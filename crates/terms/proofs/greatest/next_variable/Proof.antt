@@ -1,8 +1,7 @@
 -- `next_variable` is read off the greatest variable.
 use mathlib.Core.Path.{_∙_, ap}
-use Rattle.terms.specs.Body.BodyLaws.{next-variable-formed}
 use Rattle.terms.specs.Body.Greatest.{next-after}
-use Rattle.terms.specs.Body.GreatestLaws.{next-read}
+use Rattle.terms.specs.Body.GreatestLaws.{next-read, next-after-formed}
 use borrow.Author.Needs.{needs}
 use Rattle.terms.proofs.greatest.next_variable.Statement.{statement}
 use Rattle.terms.proofs.greatest.next_variable.Tie as tie
@@ -10,8 +9,7 @@ use Rattle.terms.proofs.greatest.next_variable.Tie as tie
 next-after-requires : tie.Need-next-after-requires
 next-after-requires c κs =
     let f = c .before .before .pre in
-    rw (c .greatest-variable .ensures f, next-read (f .goal .item) (f .ancestors .items) (f .bets .items))
-    (next-variable-formed _ _ _ (f .goal .formed) (f .ancestors .formed) (f .bets .formed))
+    rw (c .greatest-variable .ensures f) (next-after-formed (f .goal .item) (f .ancestors .items) (f .bets .items) (f .goal .formed) (f .ancestors .formed) (f .bets .formed))
 
 returns : tie.Need-returns
 returns c = λ f. c .next-after .ensures ∙ ap next-after (c .before .greatest-variable .ensures f) ∙ next-read _ _ _

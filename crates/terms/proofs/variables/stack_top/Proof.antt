@@ -7,13 +7,13 @@ use Rattle.terms.proofs.variables.stack_top.Statement.{statement}
 use Rattle.terms.proofs.variables.stack_top.Tie as tie
 
 abbrev Inv-loop : tie.InvT-loop
-Inv-loop event at stack n m pos₀ pairs₀ left₀ top₀ pos pairs left top = Gathered stack event at n m pos pairs left top
+Inv-loop event at stack n pos₀ pairs₀ left₀ top₀ pos pairs left top = Gathered stack event at n pos pairs left top
 
 abbrev μ-loop : tie.MeasureT-loop
-μ-loop event at stack n m pos₀ pairs₀ left₀ top₀ pos pairs left top = left * 65536 + pairs
+μ-loop event at stack n pos₀ pairs₀ left₀ top₀ pos pairs left top = left * 65536 + pairs
 
 loop-holds : tie.Need-loop-holds Inv-loop μ-loop
-loop-holds c = gathered-start _ _ _ _ _
+loop-holds c = gathered-start _ _ _ _
 
 pair-top-requires : tie.Need-pair-top-requires Inv-loop μ-loop
 pair-top-requires c κs = gathered-pair (c .before .loop .inv) (c .if1 .taken) (c .before .before .before .pre)

@@ -1,6 +1,6 @@
 """The lines of the bench sheet (SPECIFICATION 11), the walk program's example and the stored record cases, put to the model."""
 from desk_model import canonical, gate, walk, writer
-from desk_model.services import BACK, FORWARD, first_event, run, step, variable_value
+from desk_model.services import BACK, FORWARD, first_event, greatest, run, step, variable_value
 # each of these modules adds its cases to the table
 from record_cases import table, questions, queries, events, programs, clause_sets, limits
 from stored.layout import *
@@ -105,6 +105,35 @@ def limits_of_the_bench_sheet():
     same(after(event(CALL, TRUE), room=32768)[0], 0)
 
 
+def locals_above_a_bet():
+    program = record(listed([definition(5, 1, 2, eq(V1, sym(6, V0, V2)))]))
+    p, V4, V9 = atom(5, var(4)), var(4), var(9)
+    for bet in unifier((9, A)), unifier((3, sym(6, V9))), by(eq(V9, A)):
+        bets = [chosen(1), bet]
+        goes(event(CALL, p, bets=bets), event(CALL, eq(var(10), sym(6, V4, var(11))), [p], bets), program)
+
+
+def p_q_and_r():
+    """p(A) :- A=g(L). q :- L=1. r(A) :- A=g(2). Query p(W),(q,r(W))."""
+    g = lambda t: sym(6, t)
+    one, two = sym(1), sym(2)
+    rules = [clause(7, 2, [V0], eq(V0, g(V1))), clause(8, 1, [], eq(V0, one)), clause(9, 1, [V0], eq(V0, g(two)))]
+    number, program = canonical.canonical_program(record(listed(rules)), ROOM)
+    same(number, 0)
+    query = conj(atom(7, V0), conj(atom(8), atom(9, V0)))
+    number, steps, last = run(FORWARD, program, first_event(record(query), ROOM)[1], 4294967295, ROOM)
+    same((number, steps, last[3]), (6, 23, EXIT))
+    same(variable_value(last, 0, ROOM), (0, g(two)))
+
+
+def part_of_the_greatest_variable():
+    same(greatest(hexa('00 16 01 01 15 00 07 01 01 00 04 00 00 00 01 20 00 01 00 09 02 00 01 00')), (0, 1, 9))
+    p8, p9 = atom(7, var(8)), atom(7, var(9))
+    same(greatest(record(event(CALL, p9, bets=[unifier((3, var(9)))]))), (0, 1, 9))
+    same(greatest(record(event(CALL, p9, [p9], [by(p8)]))), (0, 2, 9))
+    same(greatest(record(event(CALL, TRUE, [P], [chosen(1)]))), (0, 0, 0))
+
+
 def stored_records():
     """the numbers of questions 1 to 4 that were worked out by hand for the program records_cases"""
     readers = dict(q=gate.query, e=gate.event, p=gate.program, c=gate.clauses)
@@ -121,4 +150,7 @@ def stored_records():
             assert writer.listed_record(tree) == data, words
 
 
-GROUPS = first_events, nineteen_steps, unifiers, atoms_and_true, canonical_form, limits_of_the_bench_sheet, stored_records
+GROUPS = (
+    first_events, nineteen_steps, unifiers, atoms_and_true, canonical_form, limits_of_the_bench_sheet,
+    locals_above_a_bet, p_q_and_r, part_of_the_greatest_variable, stored_records,
+)

@@ -10,6 +10,7 @@ use std::fmt;
 use std::time::{Duration, Instant};
 use twin::rules::Direction;
 use twin::services;
+use twin::training::examined;
 
 /// Bytes before and after the lent output that nobody may touch.
 const MARGIN: usize = 16;
@@ -114,6 +115,12 @@ impl Checker {
         let start = Instant::now();
         let answer = desk(&mut self.out[MARGIN..MARGIN + room]);
         (answer, start.elapsed())
+    }
+
+    /// The records of a walk from its first event on, which desk and twin both gave: what training material says of each (SPECIFICATION 9.9).
+    pub fn walked(&mut self, events: &[Vec<u8>]) -> Checked<()> {
+        self.table.examined += examined(events).map_err(|(number, how)| Difference(format!("event {number} of a walk {how}")))?;
+        Ok(())
     }
 
     /// Desk and twin on one case with an output. What the twin writes must stand at the start of the desk's output, and all else be the pattern.

@@ -1,5 +1,5 @@
 //! What was met: cases by kind, by service and number, steps by rule, bodies by the part that numbers them, events by the parts that hold the
-//! greatest variable.
+//! greatest variable, events of walks by what training material says of them.
 
 use crate::compare::Service;
 use crate::holders::HOLDERS;
@@ -7,6 +7,7 @@ use crate::numbering::{Numbered, ENDS, PLACES, WAYS};
 use crate::rules::RULES;
 use std::fmt;
 use std::time::Duration;
+use twin::training::Examined;
 
 #[derive(Clone, Copy, Default)]
 struct Row {
@@ -38,6 +39,8 @@ pub struct Table {
     numbered: [[[u64; ENDS.len()]; WAYS.len()]; PLACES.len()],
     /// events put to the service of the greatest variable
     holders: [u64; HOLDERS.len()],
+    /// events of walks from a query
+    pub examined: Examined,
     /// pairs of lists of steps whose ends are different, and equal
     pub ends: [u64; 2],
 }
@@ -50,6 +53,7 @@ impl Table {
             rules: [[0; 2]; RULES.len()],
             numbered: Default::default(),
             holders: Default::default(),
+            examined: Examined::default(),
             ends: [0; 2],
         }
     }
@@ -112,6 +116,8 @@ impl Table {
         missed.extend(unmet.map(|met| format!("never numbered, {}, greatest in {}: {}", WAYS[met.way], PLACES[met.place], ENDS[met.end])));
         let unheld = HOLDERS.iter().zip(self.holders).filter(|(_, count)| *count == 0);
         missed.extend(unheld.map(|(parts, _)| format!("the greatest variable never asked for where it is in {parts}")));
+        let unmet = self.examined.each().into_iter().filter(|(_, count)| *count == 0);
+        missed.extend(unmet.map(|(what, _)| format!("no walk has a {what}")));
         if self.ends.contains(&0) {
             missed.push("two lists of steps always ended alike, or never".into());
         }
@@ -171,6 +177,8 @@ impl fmt::Display for Table {
         self.numbered_lines(f)?;
         writeln!(f, "\ngreatest variable asked for, held by")?;
         HOLDERS.iter().zip(self.holders).try_for_each(|(parts, count)| writeln!(f, "{parts:<34}{:>7}", shown(count)))?;
+        writeln!(f, "\nevents of walks")?;
+        self.examined.each().into_iter().try_for_each(|(what, count)| writeln!(f, "{what:<34}{:>7}", shown(count)))?;
         let [different, equal] = self.ends;
         writeln!(f, "\ntwo lists of steps: {equal} pairs ended at equal events, {different} at different ones")
     }

@@ -11,4 +11,5 @@ pub mod records;
 pub mod rules;
 pub mod services;
 pub mod terms;
+pub mod training;
 pub mod walk;

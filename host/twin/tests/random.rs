@@ -1,12 +1,14 @@
-//! Random equalities against the textbook's unifier, and random walks: a run equals single steps, and steps back find the events again.
+//! Random equalities against the textbook's unifier, and random walks: a run equals single steps, steps back find the events again, and every fail has
+//! its call, every redo its exit.
 
 use layout::*;
 use std::collections::BTreeMap;
 use twin::gate::RECORD_LIMIT as ROOM;
 use twin::records::{reader, writer, Shape, Term, TermRef};
 use twin::rules::Direction::{Back, Forward};
-use twin::services::{back, first, forward, run};
+use twin::services::{back, first, forward, run, Reply};
 use twin::terms::unifier::unifier as unify;
+use twin::training::{examined, Examined};
 
 /// Numbers by a fixed rule, the same in each test run.
 struct Dice(u64);
@@ -92,7 +94,7 @@ fn unifiers() {
 
 #[test]
 fn walks() {
-    let (mut dice, mut total) = (Dice(2), 0);
+    let (mut dice, mut total, mut met) = (Dice(2), 0, Examined::default());
     for _ in 0..1_000 {
         let program = program(&[0, 1, 2].map(|predicate| definition(predicate, 1, 2, &dice.goal(3, 3))));
         let start = first(&record(&dice.goal(3, 3)), ROOM).bytes;
@@ -110,9 +112,38 @@ fn walks() {
         for pair in events.windows(2).rev() {
             assert_eq!(back(&program, &pair[1], ROOM).bytes, pair[0]);
         }
+        met += examined(&events).expect("what training material says");
         let again = run(&program, last, u32::MAX, Back, ROOM);
         assert_eq!((again.number, again.steps, &again.bytes), (6, steps, &events[0]));
         total += steps;
     }
     println!("{total} steps forward and back");
+    met.each().into_iter().for_each(|(what, count)| assert!(count > 0, "{what}"));
+}
+
+/// The walk of true,fail, and lists of events that are no walk: one that lacks the call or the exit of a later event, or has an event of another query,
+/// or one that no walk comes to; `examined` says which.
+#[test]
+fn walks_that_are_none() {
+    let none = program(&[]);
+    let walked = |query: &[u8]| {
+        let mut events = vec![first(&record(query), ROOM).bytes];
+        while let Reply { number: 0, bytes } = forward(&none, &events[events.len() - 1], ROOM) {
+            events.push(bytes);
+        }
+        events
+    };
+    let (walk, one, two) = (walked(&conjunction(&TRUE, &FAIL)), walked(&TRUE), walked(&conjunction(&TRUE, &TRUE)));
+    assert_eq!(examined(&walk), Ok(Examined { fails: 3, redos: 1, finals: 1, under: 6 }));
+    let without = |number: usize| [&walk[..number], &walk[number + 1..]].concat();
+    assert_eq!(examined(&without(1)), Err((5, "has no call or exit before it")));
+    assert_eq!(examined(&without(2)), Err((4, "has no call or exit before it")));
+    let then = |event: &[u8]| examined(&[&walk[..3], &[event.to_vec()]].concat());
+    let strange = Err((3, "is not about the query"));
+    assert_eq!(then(&one[1]), strange, "the end of another query");
+    assert_eq!(then(&two[1]), strange, "under another query");
+    assert_eq!(then(&walk[0]), strange, "the first event once more");
+    assert_eq!(then(&event(port::REDO, &conjunction(&TRUE, &FAIL), &[], &[])), strange, "a redo without ancestors");
+    assert_eq!(examined(&walk[1..]), Err((0, "is not about the query")), "no first event");
+    assert_eq!(examined(&one[1..]), Err((0, "is not about the query")), "an end first");
 }

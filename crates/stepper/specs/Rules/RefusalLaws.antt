@@ -131,7 +131,7 @@ module _ (M : Machine) where
   no-rule-refused (event fail g (x ∷ u) s) w n = unmatched (event fail g (x ∷ u) s) (from-fail g (x ∷ u) s) refl (fail-only g x u s) (n M)
   no-rule-refused (event redo g u s) w n = unmatched (event redo g u s) (from-redo g u s) refl (redo-only g u s) (n M)
 
-  ends-refused : (e : Event) → AtEnd e → rule M e ≡ refused possible
+  pub ends-refused : (e : Event) → AtEnd e → rule M e ≡ refused possible
   unfolding rule
   ends-refused (event exit g [] s) w = refl
   ends-refused (event fail g [] s) w = refl

@@ -1,5 +1,5 @@
 -- Laws of a run: it is so many single steps, its log has the marks of the events passed, none but the last of them meets the aim, it tells why it
--- stopped, and a longer one goes on where a shorter one stopped.
+-- stopped, a longer one goes on where a shorter one stopped, and from a query's first event it comes to the events that are reached.
 use mathlib.Core.Path.{_≡_, refl, sym, _∙_, ap, subst}
 use mathlib.Core.Bool.{Bool, true, false, cond}
 use mathlib.Core.List.{_++_}
@@ -10,12 +10,13 @@ use native.Mathlib.Omega.{arith}
 use lib.ListN.{length, getD, replicate}
 use borrow.Author.Tests.{eqb-true, eqb-false}
 use Rattle.records.specs.Format.Never.{never}
-use Rattle.records.specs.Format.Syntax.{Event}
+use Rattle.records.specs.Format.Syntax.{Goal, Event}
 use Rattle.records.specs.Gate.Question.{Question}
 use Rattle.stepper.specs.Rules.Machine.{Machine, StepOutcome, refused, gives}
-use Rattle.stepper.specs.Rules.Rules.{step, accepted}
-use Rattle.stepper.specs.Walks.Reached.{accepted-step}
-use Rattle.stepper.specs.Walks.Walk.{Direction, forward, back, Tally, at-start, after, moves, walk}
+use Rattle.stepper.specs.Rules.Rules.{first-event, step, accepted}
+use Rattle.stepper.specs.Rules.AnswerLaws.{accepted-gives}
+use Rattle.stepper.specs.Walks.Reached.{accepted-step, Reached}
+use Rattle.stepper.specs.Walks.Walk.{Direction, forward, back, Tally, at-start, after, moves, walk, Reach}
 use Rattle.stepper.specs.Run.Run.{Mark, mark, meets, Order, plain, is-full, less-room, with-marks, Stop, spent, met, full, by, RunEnd, ended, past, on-answer, run}
 
 -- a run with another one behind it
@@ -214,6 +215,31 @@ module _ (M : Machine) where
 
     pub run-over : (m : ℕ) → (run M o n e .why ≡ spent → ⊥) → run M o (n + m) e ≡ run M o n e
     run-over m z = course-run (course-over m (course o n e) z)
+
+-- a run of n steps forward from a query's first event
+abbrev ahead : Machine → Goal → ℕ → RunEnd
+ahead M q n = run M (plain forward) n (first-event q)
+
+-- The event n steps from the first is where it ends, and it takes them all.
+pub reached-run : (M : Machine) (q : Goal) (n : ℕ) (e : Event) → Reached M q n e → (ahead M q n .event ≡ e) × (ahead M q n .taken ≡ n) × (ahead M q n .why ≡ spent)
+unfolding Reach run is-full on-answer less-room meets past then
+reached-run M q zero e h = (h, refl, refl)
+reached-run M q (suc n) e h = go (reached-run M q n d (h .1))
+  where
+    d : Event
+    d = h .0
+
+    one : run M (plain forward) 1 d ≡ past (mark e) (ended e spent)
+    one = rw (accepted-gives (step M forward d) e (h .2))
+
+    go : (ahead M q n .event ≡ d) × (ahead M q n .taken ≡ n) × (ahead M q n .why ≡ spent)
+        → (ahead M q (suc n) .event ≡ e) × (ahead M q (suc n) .taken ≡ suc n) × (ahead M q (suc n) .why ≡ spent)
+    go (y, t, w) =
+        let more : suc n ≡ n + 1 = omega arith in
+        let all : ahead M q (suc n) ≡ then (ahead M q n) (past (mark e) (ended e spent))
+        = ap (ahead M q) more ∙ run-on M (plain forward) n (first-event q) 1 w
+        ∙ ap (λ b. then (ahead M q n) (run M (plain forward) 1 b)) y ∙ ap (then (ahead M q n)) one in
+        (ap (λ r. r .event) all, ap (λ r. r .taken) all ∙ ap (λ k. k + 1) t ∙ sym more, ap (λ r. r .why) all)
 
 -- a walk with a run after it
 unfoldable pub and-run : Direction → Tally Event → RunEnd → Tally Event

@@ -22,7 +22,7 @@ use Rattle.stepper.specs.Services.Services.{record-limit, first-record, 
 use Rattle.stepper.specs.Services.Desk.{layers}
 
 -- the program of no definitions, 00 03 01 00 00
-pub program-example : Program layers
+unfoldable pub program-example : Program layers
 unfolding read-record framed of-version many read-definition read-counted program-rules
 program-example = record { program = 0x00 ∷ 0x03 ∷ 0x01 ∷ 0x00 ∷ 0x00 ∷ []; bytes = omega arith; definitions = []; reads = refl }
 

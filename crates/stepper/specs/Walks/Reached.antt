@@ -1,7 +1,7 @@
 -- Lists of steps on events, and the events that they reach (SPECIFICATION 9.1, 9.2).
 use mathlib.Core.List.{List}
 use mathlib.Core.Option.{Option}
-use Prim.Native.Nat.{ℕ}
+use Prim.Native.Nat.{ℕ, _<_}
 use Rattle.records.specs.Format.Syntax.{Goal, Event}
 use Rattle.stepper.specs.Rules.Machine.{Machine, Admits}
 use Rattle.stepper.specs.Rules.Rules.{step, first-event, accepted, Lent, attempt}
@@ -28,3 +28,7 @@ module _ (M : Machine) where
   -- the event after n accepted steps forward from the query's first event
   abbrev pub Reached : Goal → ℕ → Event → Type 0
   Reached = Reach first-event accepted-step
+
+  -- the walk comes to the event in fewer than n steps forward
+  abbrev pub Before : Goal → ℕ → Event → Type 0
+  Before q n e = (i : ℕ) × (i < n) × Reached q i e

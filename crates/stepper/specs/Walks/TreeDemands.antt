@@ -32,7 +32,7 @@ module _ (M : Machine) where
     -- Demand 2, on events. A step back undoes an accepted step forward from a reached event.
     pub reached-back : (q : Goal) (n : ℕ) (d e : Event) → Fit M q → Reached M q n d → step-forward M d ≡ gives e → step-back M e ≡ gives d
     reached-back q n d e f r h =
-        forward-back M q Anything limits d e (reached-legal M q n d r) tt (reached-admitted M limits q n d f r) h .1
+        forward-back M q Anything limits d e (reached-legal M q Anything n d (λ c h. tt) r) tt (reached-admitted M limits q n d f r) h .1
 
     -- Every list of steps ends at a reached event, as many steps from the first one as it counts.
     pub steps-reach : {Move : Type 0} (lent : Move → Lent) (q : Goal) (ms : List Move) → Fit M q

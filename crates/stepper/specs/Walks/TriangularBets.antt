@@ -1,6 +1,6 @@
 -- The bet stack of every reached event is triangular (`Triangular` of terms): no variable bound by a bet is bound again above it or occurs in a term
 -- that a later bet binds. It holds for every machine whose unifiers are most general, whatever its bodies are.
-use mathlib.Core.Path.{_≡_, sym, _∙_, ap, subst}
+use mathlib.Core.Path.{_≡_, sym, subst}
 use mathlib.Core.List.{List, [], _∷_}
 use Prim.Native.Nat.{ℕ}
 use Rattle.records.specs.Format.Syntax.{Term, Goal, conj, disj, atom, first, second, Ancestor, called, in-conj, in-disj, Bet, call, exit, fail, redo, Event, event}
@@ -11,13 +11,11 @@ use Rattle.terms.specs.Theory.Triangular.{Triangular}
 use Rattle.terms.specs.Theory.TriangularLaws.{unifier-triangular}
 use Rattle.terms.specs.Values.ValueService.{bets-of}
 use Rattle.stepper.specs.Rules.Machine.{Machine}
-use Rattle.stepper.specs.Walks.Walk.{encoded}
 use Rattle.stepper.specs.Walks.Legal.{Solved, by-truth, by-equal, by-conj, by-disj, by-atom, CalledUnder, Legal}
-use Rattle.stepper.specs.Walks.Reached.{steps, Reached}
+use Rattle.stepper.specs.Walks.Reached.{Reached}
 use Rattle.stepper.specs.Walks.ReachedLaws.{Anything, reached-legal}
-use Rattle.stepper.specs.Walks.TreeDemands.{steps-reach}
+use Rattle.stepper.specs.Walks.ByteDemands.{end-of, served-read, served-reached}
 use Rattle.stepper.specs.Services.Services.{Program, rules-of, Start, Move, served}
-use Rattle.stepper.specs.Services.ServiceLaws.{lent, limit-fits, rules-lawful, start-record, served-steps}
 use Rattle.stepper.specs.Services.Desk.{layers}
 use Rattle.stepper.specs.Services.DeskLaws.{lawful}
 
@@ -46,16 +44,11 @@ module _ (M : Machine) (meant : (s : List Bet) (l r : Term) → Meant s l r (M .
 -- on events
 pub reached-triangular : (M : Machine) → ((s : List Bet) (l r : Term) → Meant s l r (M .unify s l r)) → (q : Goal) (n : ℕ) (e : Event) → Reached M q n e
     → Triangular (bets-of e)
-reached-triangular M meant q n e h = legal-triangular M meant q Anything e (reached-legal M q n e h)
+reached-triangular M meant q n e h = legal-triangular M meant q Anything e (reached-legal M q Anything n e (λ d k. tt) h)
 
 -- on bytes: of the record at which a list of the desk's steps ends
 pub served-triangular : (c : Program layers) (q : Start layers) (ms : List Move)
     → (e : Event) × (read-event (served c q ms .event) ≡ tree e) × Triangular (bets-of e)
-unfolding encoded
 served-triangular c q ms =
-    let s = served-steps layers lawful c q ms in
-    let r = steps-reach (rules-of c) (rules-lawful layers lawful c .limits) lent (q .goal) ms (start-record layers lawful q .1 .1) in (
-      steps (rules-of c) lent (q .goal) ms .event,
-      ap (λ w. read-event (w .event)) (s .0) ∙ lawful .event-back _ (s .1 .0) (limit-fits _ (s .1 .1)),
-      reached-triangular (rules-of c) unified-meant (q .goal) (r .0) _ (r .1),
-    )
+    let (n, r, _) = served-reached layers lawful c q ms in
+    (end-of layers lawful c q ms, served-read layers lawful c q ms, reached-triangular (rules-of c) unified-meant (q .goal) n _ r)

@@ -32,21 +32,30 @@ fn started(checker: &mut Checker, query: &[u8]) -> Checked<Option<Vec<u8>>> {
     Ok((start.number == 0).then_some(start.bytes))
 }
 
-/// A list of moves that tends to the net number aimed at: where it ends, and the net number it came to.
-fn moved(checker: &mut Checker, dice: &mut Dice, program: &[u8], mut event: Vec<u8>, aim: i64) -> Checked<(Vec<u8>, i64)> {
-    let mut net = 0;
+/// A list of moves that tends to the net number aimed at: where it ends, and the net number it came to. The events up to there, as the last move to each
+/// gave them, are what training material says (SPECIFICATION 9.9).
+fn moved(checker: &mut Checker, dice: &mut Dice, program: &[u8], first: Vec<u8>, aim: i64) -> Checked<(Vec<u8>, i64)> {
+    let mut events = vec![first];
     for turn in 0..dice.between(1, MOST_MOVES) + aim as usize {
+        let net = events.len() as i64 - 1;
         let towards = if net < aim || (net == aim && turn % 2 == 0) { Forward } else { Back };
         let direction = match (dice.one_in(4), towards) {
             (true, Forward) => Back,
             (true, Back) => Forward,
             (false, towards) => towards,
         };
-        let answer = checker.step(direction, program, &event, room(dice))?;
-        if answer.number == 0 {
-            event = answer.bytes;
-            net += if direction == Forward { 1 } else { -1 };
+        let answer = checker.step(direction, program, &events[events.len() - 1], room(dice))?;
+        match (answer.number, direction) {
+            (0, Forward) => events.push(answer.bytes),
+            (0, Back) => {
+                events.pop();
+                let Some(source) = events.last_mut() else { return Err(Difference("a first event has a step back".into())) };
+                *source = answer.bytes;
+            }
+            _ => {}
         }
     }
-    Ok((event, net))
+    checker.walked(&events)?;
+    let net = events.len() as i64 - 1;
+    Ok((events.swap_remove(net as usize), net))
 }

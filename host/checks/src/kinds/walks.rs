@@ -1,4 +1,4 @@
-//! Walks from a query forward and all the way back: each step back gives the event it came from.
+//! Walks from a query forward and all the way back: every fail has its call and every redo its exit, and each step back gives the event it came from.
 
 use super::values::known_variable;
 use crate::compare::{Checked, Checker, Difference};
@@ -23,6 +23,7 @@ pub fn round(checker: &mut Checker, dice: &mut Dice) -> Checked<()> {
             _ => break,
         }
     }
+    checker.walked(&events)?;
     for pair in events.windows(2).rev() {
         let source = checker.back(&program, &pair[1], 32_768)?;
         if source.bytes != pair[0] {

@@ -45,6 +45,10 @@ impl Ancestors {
         self.levels.last().map(|level| &level.0)
     }
 
+    pub fn bottom(&self) -> Option<&Ancestor> {
+        self.levels.first().map(|level| &level.0)
+    }
+
     /// The sum of the parts' lengths.
     pub fn length(&self) -> u32 {
         self.length

@@ -1,8 +1,8 @@
 -- What training material says of walks (SPECIFICATION 9.9), of the desk's services on bytes: every fail has its call, every redo its exit, and all events
 -- are about the query. `Program`, `Start`, `Move` and `served` are those of `Demands`: ms is any list of steps, forward and back, accepted or refused,
--- under the program c from q's first event, and `served` has the record at which it ends and how many steps either way were accepted. `AtEnd e` says
--- that e is final: exit or fail without ancestors, so that question 6 refuses a step forward. `ancestor-goal a` is the ancestor a without its tag.
--- `TrainingExample` has a walk.
+-- under the program c from q's first event, and `served` has the record at which it ends and how many steps either way were accepted. The record of an
+-- event reads as that event, and each list ends at one (`demand-3`). `AtEnd e` says that e is final: exit or fail without ancestors, so that question 6
+-- refuses a step forward. `ancestor-goal a` is the ancestor a without its tag. `TrainingExample` has a walk.
 use mathlib.Core.Path.{_≡_}
 use mathlib.Core.List.{List, [], _∷_, _++_}
 use Prim.Native.Nat.{ℕ, _+_, _<_, _≤_}
@@ -27,7 +27,7 @@ module _ (c : Program layers) (q : Start layers) (ms : List Move) where
   EndsAt e = read-event (served c q ms .event) ≡ tree e
 
   -- The event e is earlier in the walk: k steps forward from q's first event, k less than the net number of ms, are all accepted and end at the record
-  -- of e, whichever buffer of 32,768 bytes or more they are lent.
+  -- of e, where each is lent the same buffer, whichever it is of 32,768 bytes or more.
   abbrev pub Earlier : Event → Type 0
   Earlier e = (k : ℕ) × (k + served c q ms .backs < served c q ms .forwards)
       × ((out : List ℕ) → 32768 ≤ length out
@@ -37,11 +37,11 @@ module _ (c : Program layers) (q : Start layers) (ms : List Move) where
   earlier e n z (k, l, r) = (k, omega arith, reached-served layers lawful c q k e r)
 
   module _ (g : Goal) (u : List Ancestor) (s : List Bet) where
-    -- Where the list ends at fail G, a call of the same G with the same ancestors and bets is earlier in the walk;
+    -- Where the list ends at fail G, a call of the same G with the same ancestors and bets is earlier in the walk.
     pub every-fail-has-its-call : EndsAt (event fail g u s) → Earlier (event call g u s)
     every-fail-has-its-call h = let (n, r, z) = read-reached layers lawful c q ms _ h in earlier _ n z (fail-has-call (rules-of c) (q .goal) n g u s r)
 
-    -- where it ends at redo G, an exit is.
+    -- Where it ends at redo G, an exit of the same G with the same ancestors and bets is earlier in the walk.
     pub every-redo-has-its-exit : EndsAt (event redo g u s) → Earlier (event exit g u s)
     every-redo-has-its-exit h = let (n, r, z) = read-reached layers lawful c q ms _ h in earlier _ n z (redo-has-exit (rules-of c) (q .goal) n g u s r)
 

@@ -10,7 +10,7 @@ use std::fmt;
 use std::time::{Duration, Instant};
 use twin::rules::Direction;
 use twin::services;
-use twin::training::examined;
+use twin::training::{examined, Broken, Examined};
 
 /// Bytes before and after the lent output that nobody may touch.
 const MARGIN: usize = 16;
@@ -69,6 +69,12 @@ pub struct Difference(pub String);
 
 pub type Checked<T> = Result<T, Difference>;
 
+impl From<Broken> for Difference {
+    fn from((number, how): Broken) -> Difference {
+        Difference(format!("event {number} of a walk {how}"))
+    }
+}
+
 impl fmt::Display for Difference {
     fn fmt(&self, f: &mut fmt::Formatter<'_>) -> fmt::Result {
         f.write_str(&self.0)
@@ -117,9 +123,21 @@ impl Checker {
         (answer, start.elapsed())
     }
 
-    /// The records of a walk from its first event on, which desk and twin both gave: what training material says of each (SPECIFICATION 9.9).
-    pub fn walked(&mut self, events: &[Vec<u8>]) -> Checked<()> {
-        self.table.examined += examined(events).map_err(|(number, how)| Difference(format!("event {number} of a walk {how}")))?;
+    /// What was met of an examined walk (SPECIFICATION 9.9).
+    pub fn examined(&mut self, met: Examined) {
+        self.table.examined[self.kind] += met;
+    }
+
+    /// A walk from the first event of a query on, whose records desk and twin both gave: what training material says of its events, and that each step
+    /// back gives the event before.
+    pub fn walked(&mut self, program: &[u8], query: &[u8], events: &[Vec<u8>]) -> Checked<()> {
+        let met = examined(query, events)?;
+        self.examined(met);
+        for pair in events.windows(2).rev() {
+            if self.back(program, &pair[1], twin::gate::RECORD_LIMIT)?.bytes != pair[0] {
+                return Err(Difference("a step back from a reached event gave another event than it came from".into()));
+            }
+        }
         Ok(())
     }
 

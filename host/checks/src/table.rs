@@ -9,6 +9,9 @@ use std::fmt;
 use std::time::Duration;
 use twin::training::Examined;
 
+/// The kinds of case that walk from a query's first event.
+const WALKING: [&str; 3] = ["garages", "walks", "moves"];
+
 #[derive(Clone, Copy, Default)]
 struct Row {
     numbers: [u64; 15],
@@ -39,8 +42,8 @@ pub struct Table {
     numbered: [[[u64; ENDS.len()]; WAYS.len()]; PLACES.len()],
     /// events put to the service of the greatest variable
     holders: [u64; HOLDERS.len()],
-    /// events of walks from a query
-    pub examined: Examined,
+    /// by kind, events of walks from a query
+    pub examined: Vec<Examined>,
     /// pairs of lists of steps whose ends are different, and equal
     pub ends: [u64; 2],
 }
@@ -53,7 +56,7 @@ impl Table {
             rules: [[0; 2]; RULES.len()],
             numbered: Default::default(),
             holders: Default::default(),
-            examined: Examined::default(),
+            examined: vec![Examined::default(); kinds.len()],
             ends: [0; 2],
         }
     }
@@ -94,6 +97,12 @@ impl Table {
         self.kinds[kind].1.cases()
     }
 
+    /// The kinds that walk, with what was met of their events.
+    fn walking(&self) -> impl Iterator<Item = (&'static str, &Examined)> {
+        let all = self.kinds.iter().map(|kind| kind.0).zip(&self.examined);
+        all.filter(|(kind, _)| WALKING.contains(kind))
+    }
+
     /// What a run should have met and did not: a case that is never made cannot fail.
     pub fn missed(&self) -> Vec<String> {
         let mut missed = Vec::new();
@@ -116,8 +125,10 @@ impl Table {
         missed.extend(unmet.map(|met| format!("never numbered, {}, greatest in {}: {}", WAYS[met.way], PLACES[met.place], ENDS[met.end])));
         let unheld = HOLDERS.iter().zip(self.holders).filter(|(_, count)| *count == 0);
         missed.extend(unheld.map(|(parts, _)| format!("the greatest variable never asked for where it is in {parts}")));
-        let unmet = self.examined.each().into_iter().filter(|(_, count)| *count == 0);
-        missed.extend(unmet.map(|(what, _)| format!("no walk has a {what}")));
+        for (kind, met) in self.walking() {
+            let unmet = met.each().into_iter().filter(|(_, count)| *count == 0);
+            missed.extend(unmet.map(|(what, _)| format!("no walk of the kind {kind} has a {what}")));
+        }
         if self.ends.contains(&0) {
             missed.push("two lists of steps always ended alike, or never".into());
         }
@@ -177,8 +188,10 @@ impl fmt::Display for Table {
         self.numbered_lines(f)?;
         writeln!(f, "\ngreatest variable asked for, held by")?;
         HOLDERS.iter().zip(self.holders).try_for_each(|(parts, count)| writeln!(f, "{parts:<34}{:>7}", shown(count)))?;
-        writeln!(f, "\nevents of walks")?;
-        self.examined.each().into_iter().try_for_each(|(what, count)| writeln!(f, "{what:<34}{:>7}", shown(count)))?;
+        for (kind, met) in self.walking() {
+            writeln!(f, "\nevents of {kind}")?;
+            met.each().into_iter().try_for_each(|(what, count)| writeln!(f, "{what:<34}{:>7}", shown(count)))?;
+        }
         let [different, equal] = self.ends;
         writeln!(f, "\ntwo lists of steps: {equal} pairs ended at equal events, {different} at different ones")
     }

@@ -1,4 +1,4 @@
-//! What training material says of every event of a walk (SPECIFICATION 9.9), asked of a walk's records from its first event on.
+//! What training material says of every event of a walk (SPECIFICATION 9.9), asked of the records of the events that a walk comes to.
 
 use crate::records::event::{Event, Port};
 use crate::records::goal::{same_goal, GoalRef};
@@ -54,33 +54,62 @@ fn port_before(port: Port) -> Option<Port> {
 /// then it is final, of the query itself.
 fn is_about(query: &GoalRef, number: usize, event: &Event) -> bool {
     match (event.ancestors.bottom(), event.port) {
-        (bottom, port) if number == 0 => bottom.is_none() && port == Port::Call && event.bets.count() == 0,
+        (bottom, port) if number == 0 => bottom.is_none() && port == Port::Call && event.bets.count() == 0 && same_goal(&event.goal, query),
         (Some(ancestor), _) => same_goal(ancestor.goal(), query),
         (None, Port::Exit | Port::Fail) => same_goal(&event.goal, query),
         (None, Port::Call | Port::Redo) => false,
     }
 }
 
-/// What the events of a walk are, or the first that breaks a sentence.
-pub fn examined(walk: &[Vec<u8>]) -> Result<Examined, Broken> {
-    let (mut met, mut passed, mut query) = (Examined::default(), HashSet::new(), None);
-    for (number, record) in walk.iter().enumerate() {
+/// A walk from the first event of a query: each event is examined when the walk comes to it, and a step back leaves it again.
+pub struct Examiner {
+    query: GoalRef,
+    walk: Vec<Vec<u8>>,
+    passed: HashSet<Vec<u8>>,
+    pub met: Examined,
+}
+
+impl Examiner {
+    /// Of the walk of a query's record, before its first event.
+    pub fn new(query: &[u8]) -> Result<Examiner, Broken> {
+        let query = reader::query(query).map_err(|_| (0, "is of no query"))?;
+        Ok(Examiner { query, walk: Vec::new(), passed: HashSet::new(), met: Examined::default() })
+    }
+
+    /// The walk comes to an event.
+    pub fn reach(&mut self, record: &[u8]) -> Result<(), Broken> {
+        let number = self.walk.len();
         let event = reader::event(record).map_err(|_| (number, "is no event"))?;
-        if !is_about(query.get_or_insert_with(|| event.goal.clone()), number, &event) {
+        if !is_about(&self.query, number, &event) {
             return Err((number, "is not about the query"));
         }
         if let Some(port) = port_before(event.port) {
-            let mut before = record.clone();
+            let mut before = record.to_vec();
             before[PORT_AT] = port as u8;
-            if !passed.contains(&before) {
+            if !self.passed.contains(&before) {
                 return Err((number, "has no call or exit before it"));
             }
         }
-        met.fails += u64::from(event.port == Port::Fail);
-        met.redos += u64::from(event.port == Port::Redo);
-        met.under += u64::from(event.ancestors.count() > 0);
-        met.finals += u64::from(event.ancestors.count() == 0 && event.port != Port::Call);
-        passed.insert(record.clone());
+        self.met.fails += u64::from(event.port == Port::Fail);
+        self.met.redos += u64::from(event.port == Port::Redo);
+        self.met.under += u64::from(event.ancestors.count() > 0);
+        self.met.finals += u64::from(event.ancestors.count() == 0 && event.port != Port::Call);
+        self.walk.push(record.to_vec());
+        self.passed.insert(record.to_vec());
+        Ok(())
     }
-    Ok(met)
+
+    /// A step back leaves the event that the walk came to last.
+    pub fn leave(&mut self) {
+        if let Some(record) = self.walk.pop() {
+            self.passed.remove(&record);
+        }
+    }
+}
+
+/// What the events of a walk are, straight on from the first event of a query, or the first that breaks a sentence.
+pub fn examined(query: &[u8], walk: &[Vec<u8>]) -> Result<Examined, Broken> {
+    let mut examiner = Examiner::new(query)?;
+    walk.iter().try_for_each(|record| examiner.reach(record))?;
+    Ok(examiner.met)
 }

@@ -8,7 +8,7 @@ use twin::records::{reader, writer, Shape, Term, TermRef};
 use twin::rules::Direction::{Back, Forward};
 use twin::services::{back, first, forward, run, Reply};
 use twin::terms::unifier::unifier as unify;
-use twin::training::{examined, Examined};
+use twin::training::{examined, Examined, Examiner};
 
 /// Numbers by a fixed rule, the same in each test run.
 struct Dice(u64);
@@ -97,7 +97,8 @@ fn walks() {
     let (mut dice, mut total, mut met) = (Dice(2), 0, Examined::default());
     for _ in 0..1_000 {
         let program = program(&[0, 1, 2].map(|predicate| definition(predicate, 1, 2, &dice.goal(3, 3))));
-        let start = first(&record(&dice.goal(3, 3)), ROOM).bytes;
+        let query = record(&dice.goal(3, 3));
+        let start = first(&query, ROOM).bytes;
         let mut events = vec![start];
         let stopped = loop {
             let next = forward(&program, &events[events.len() - 1], ROOM);
@@ -112,7 +113,7 @@ fn walks() {
         for pair in events.windows(2).rev() {
             assert_eq!(back(&program, &pair[1], ROOM).bytes, pair[0]);
         }
-        met += examined(&events).expect("what training material says");
+        met += examined(&query, &events).expect("what training material says");
         let again = run(&program, last, u32::MAX, Back, ROOM);
         assert_eq!((again.number, again.steps, &again.bytes), (6, steps, &events[0]));
         total += steps;
@@ -121,8 +122,8 @@ fn walks() {
     met.each().into_iter().for_each(|(what, count)| assert!(count > 0, "{what}"));
 }
 
-/// The walk of true,fail, and lists of events that are no walk: one that lacks the call or the exit of a later event, or has an event of another query,
-/// or one that no walk comes to; `examined` says which.
+/// The walk of true,fail, and lists of events that are no walk: one that lacks the call or the exit of a later event, or has it with other ancestors or
+/// bets, or has an event of another query, or one that no walk comes to; `examined` says which.
 #[test]
 fn walks_that_are_none() {
     let none = program(&[]);
@@ -133,17 +134,45 @@ fn walks_that_are_none() {
         }
         events
     };
-    let (walk, one, two) = (walked(&conjunction(&TRUE, &FAIL)), walked(&TRUE), walked(&conjunction(&TRUE, &TRUE)));
-    assert_eq!(examined(&walk), Ok(Examined { fails: 3, redos: 1, finals: 1, under: 6 }));
-    let without = |number: usize| [&walk[..number], &walk[number + 1..]].concat();
-    assert_eq!(examined(&without(1)), Err((5, "has no call or exit before it")));
-    assert_eq!(examined(&without(2)), Err((4, "has no call or exit before it")));
-    let then = |event: &[u8]| examined(&[&walk[..3], &[event.to_vec()]].concat());
+    let goal = conjunction(&TRUE, &FAIL);
+    let (query, walk, one, two) = (record(&goal), walked(&goal), walked(&TRUE), walked(&conjunction(&TRUE, &TRUE)));
+    assert_eq!(examined(&query, &walk), Ok(Examined { fails: 3, redos: 1, finals: 1, under: 6 }));
+    let without = |number: usize| examined(&query, &[&walk[..number], &walk[number + 1..]].concat());
+    let alone = |number| Err((number, "has no call or exit before it"));
+    assert_eq!(without(1), alone(5));
+    assert_eq!(without(2), alone(4));
+    let then = |number: usize, event: Vec<u8>| examined(&query, &[&walk[..number], &[event]].concat());
+    let halves = [1, 2].map(|tag| half(IN_CONJUNCTION, tag, &TRUE, &FAIL));
+    assert_eq!(then(4, event(port::FAIL, &FAIL, &halves[1..], &[or(1)])), alone(4), "called with other bets");
+    assert_eq!(then(3, event(port::FAIL, &TRUE, &halves[1..], &[])), alone(3), "called under another ancestor");
+    assert_eq!(then(5, event(port::REDO, &TRUE, &halves[..1], &[or(1)])), alone(5), "exited with other bets");
+    assert_eq!(then(5, event(port::REDO, &TRUE, &halves[1..], &[])), alone(5), "exited under another ancestor");
     let strange = Err((3, "is not about the query"));
-    assert_eq!(then(&one[1]), strange, "the end of another query");
-    assert_eq!(then(&two[1]), strange, "under another query");
-    assert_eq!(then(&walk[0]), strange, "the first event once more");
-    assert_eq!(then(&event(port::REDO, &conjunction(&TRUE, &FAIL), &[], &[])), strange, "a redo without ancestors");
-    assert_eq!(examined(&walk[1..]), Err((0, "is not about the query")), "no first event");
-    assert_eq!(examined(&one[1..]), Err((0, "is not about the query")), "an end first");
+    assert_eq!(then(3, one[1].clone()), strange, "the end of another query");
+    assert_eq!(then(3, two[1].clone()), strange, "under another query");
+    assert_eq!(then(3, walk[0].clone()), strange, "the first event once more");
+    assert_eq!(then(3, event(port::REDO, &goal, &[], &[])), strange, "a redo without ancestors");
+    let first_strange = Err((0, "is not about the query"));
+    assert_eq!(examined(&query, &walk[1..]), first_strange, "no first event");
+    assert_eq!(examined(&query, &[event(port::EXIT, &goal, &[], &[])]), first_strange, "an end first");
+    assert_eq!(examined(&record(&TRUE), &walk), first_strange, "the walk of another query");
+}
+
+/// A step back leaves an event: what was passed by it alone is not before the next one.
+#[test]
+fn left_by_a_step_back() {
+    let goal = disjunction(&TRUE, &TRUE);
+    let (query, none) = (record(&goal), program(&[]));
+    let mut events = vec![first(&query, ROOM).bytes];
+    while let Reply { number: 0, bytes } = forward(&none, &events[events.len() - 1], ROOM) {
+        events.push(bytes);
+    }
+    let mut examiner = Examiner::new(&query).expect("a query");
+    events.iter().try_for_each(|record| examiner.reach(record)).expect("a walk");
+    // back to the first event, and the exit of a half without its call
+    (1..events.len()).for_each(|_| examiner.leave());
+    let mut redo = events[2].clone();
+    redo[3] = port::REDO;
+    assert_eq!(examiner.reach(&redo), Err((1, "has no call or exit before it")));
+    assert_eq!(examiner.reach(&events[1]), Ok(()));
 }

@@ -217,11 +217,11 @@ module _ (M : Machine) where
     run-over m z = course-run (course-over m (course o n e) z)
 
 -- a run of n steps forward from a query's first event
-abbrev ahead : Machine → Goal → ℕ → RunEnd
-ahead M q n = run M (plain forward) n (first-event q)
+abbrev first-run : Machine → Goal → ℕ → RunEnd
+first-run M q n = run M (plain forward) n (first-event q)
 
 -- The event n steps from the first is where it ends, and it takes them all.
-pub reached-run : (M : Machine) (q : Goal) (n : ℕ) (e : Event) → Reached M q n e → (ahead M q n .event ≡ e) × (ahead M q n .taken ≡ n) × (ahead M q n .why ≡ spent)
+pub reached-run : (M : Machine) (q : Goal) (n : ℕ) (e : Event) → Reached M q n e → (first-run M q n .event ≡ e) × (first-run M q n .taken ≡ n) × (first-run M q n .why ≡ spent)
 unfolding Reach run is-full on-answer less-room meets past then
 reached-run M q zero e h = (h, refl, refl)
 reached-run M q (suc n) e h = go (reached-run M q n d (h .1))
@@ -232,13 +232,13 @@ reached-run M q (suc n) e h = go (reached-run M q n d (h .1))
     one : run M (plain forward) 1 d ≡ past (mark e) (ended e spent)
     one = rw (accepted-gives (step M forward d) e (h .2))
 
-    go : (ahead M q n .event ≡ d) × (ahead M q n .taken ≡ n) × (ahead M q n .why ≡ spent)
-        → (ahead M q (suc n) .event ≡ e) × (ahead M q (suc n) .taken ≡ suc n) × (ahead M q (suc n) .why ≡ spent)
+    go : (first-run M q n .event ≡ d) × (first-run M q n .taken ≡ n) × (first-run M q n .why ≡ spent)
+        → (first-run M q (suc n) .event ≡ e) × (first-run M q (suc n) .taken ≡ suc n) × (first-run M q (suc n) .why ≡ spent)
     go (y, t, w) =
         let more : suc n ≡ n + 1 = omega arith in
-        let all : ahead M q (suc n) ≡ then (ahead M q n) (past (mark e) (ended e spent))
-        = ap (ahead M q) more ∙ run-on M (plain forward) n (first-event q) 1 w
-        ∙ ap (λ b. then (ahead M q n) (run M (plain forward) 1 b)) y ∙ ap (then (ahead M q n)) one in
+        let all : first-run M q (suc n) ≡ then (first-run M q n) (past (mark e) (ended e spent))
+        = ap (first-run M q) more ∙ run-on M (plain forward) n (first-event q) 1 w
+        ∙ ap (λ b. then (first-run M q n) (run M (plain forward) 1 b)) y ∙ ap (then (first-run M q n)) one in
         (ap (λ r. r .event) all, ap (λ r. r .taken) all ∙ ap (λ k. k + 1) t ∙ sym more, ap (λ r. r .why) all)
 
 -- a walk with a run after it

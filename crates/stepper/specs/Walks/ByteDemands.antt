@@ -42,8 +42,12 @@ module _ (L : Layers) (laws : Lawful L) (c : Program L) where
     pub served-read : L .read-event (served c q ms .event) ≡ tree (end-of q ms)
     served-read = ap (L .read-event) ends-recorded ∙ laws .event-back _ (end-recordable .0) (limit-fits _ (end-recordable .1))
 
-    -- and it is reached, in as many steps as the list's net number
-    pub served-reached : (n : ℕ) × Reached (rules-of c) (q .goal) n (end-of q ms) × (n + served c q ms .backs ≡ served c q ms .forwards)
+    -- an event is reached, in as many steps as the list's net number
+    abbrev pub NetReached : Event → Type 0
+    NetReached e = (n : ℕ) × Reached (rules-of c) (q .goal) n e × (n + served c q ms .backs ≡ served c q ms .forwards)
+
+    -- and so is that event.
+    pub served-reached : NetReached (end-of q ms)
     unfolding encoded
     served-reached =
         let (n, r, z) = steps-reach (rules-of c) (rules-lawful L laws c .limits) lent (q .goal) ms (start-record L laws q .1 .1) in
@@ -51,10 +55,8 @@ module _ (L : Layers) (laws : Lawful L) (c : Program L) where
         (n, r, ap (λ w. n + w .backs) s ∙ z ∙ ap (λ w. w .forwards) (sym s))
 
     -- The same of the event that its record reads as;
-    pub read-reached : (e : Event) → L .read-event (served c q ms .event) ≡ tree e
-        → (n : ℕ) × Reached (rules-of c) (q .goal) n e × (n + served c q ms .backs ≡ served c q ms .forwards)
-    read-reached e h = subst (λ e. (n : ℕ) × Reached (rules-of c) (q .goal) n e × (n + served c q ms .backs ≡ served c q ms .forwards))
-        (tree-injective (sym served-read ∙ h)) served-reached
+    pub read-reached : (e : Event) → L .read-event (served c q ms .event) ≡ tree e → NetReached e
+    read-reached e h = subst NetReached (tree-injective (sym served-read ∙ h)) served-reached
 
     -- and the event reached in that many steps is the one that its record reads as.
     pub reached-read : (n : ℕ) (e : Event) → n + served c q ms .backs ≡ served c q ms .forwards → Reached (rules-of c) (q .goal) n e

@@ -43,7 +43,7 @@ crosses-back (goes-through x y) = goes-through y x
 crosses-back (goes-across k x y) = goes-across (sym k) y x
 crosses-back (goes-out k x y) = goes-in k y x
 
--- An event is an entry or an end of one goal, under its own ancestors, and not both. The same with the two exchanged.
+-- What two sides of a goal have: an event on either is under its own ancestors, an event on In is of one goal, and none is on both.
 pub record Sides (In Out : Goal → List Ancestor → Event → Type 0) : Type 0 where
   pub in-under : {g : Goal} {u : List Ancestor} {e : Event} → In g u e → ancestors-of e ≡ u
   pub out-under : {g : Goal} {u : List Ancestor} {e : Event} → Out g u e → ancestors-of e ≡ u

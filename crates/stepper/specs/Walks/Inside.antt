@@ -2,6 +2,7 @@
 -- ancestor that g put on u (SPECIFICATION 9.9).
 use mathlib.Core.Path.{_≡_}
 use mathlib.Core.List.{List, _∷_, _++_}
+use mathlib.Core.Logic.{_⊎_}
 use Prim.Native.Nat.{ℕ, _<_, _≤_}
 use Rattle.records.specs.Format.Syntax.{Goal, Ancestor, Event}
 use Rattle.stepper.specs.Rules.Machine.{Machine}
@@ -21,7 +22,7 @@ module _ (M : Machine) (q g : Goal) (u : List Ancestor) where
   abbrev pub InsideBetween : ℕ → ℕ → Type 0
   InsideBetween i n = (k : ℕ) (e : Event) → i < k → k < n → Reached M q k e → InsideGoal g u e
 
-  -- Event i of the walk from q is an entry of g under u, and those between it and event n are inside.
+  -- Event i of the walk from q is an entry of g under u, and those between it and event n are inside; whether the walk comes to event n is not said.
   pub record WalkInside (i n : ℕ) : Type 0 where
     pub start : Event
     pub reached : Reached M q i start
@@ -37,3 +38,7 @@ module _ (M : Machine) (q g : Goal) (u : List Ancestor) where
     pub last : Event
     pub reached : Reached M q number last
     pub end : End g u last
+
+  -- At event n, which is e, the walk inside g from event i on goes on, or it has ended by then.
+  abbrev pub StillOrEnded : ℕ → ℕ → Event → Type 0
+  StillOrEnded i n e = (WalkInside i n × InsideGoal g u e) ⊎ EndsBy i n

@@ -17,7 +17,7 @@ use Rattle.stepper.specs.Walks.Reached.{Reached}
 use Rattle.stepper.specs.Walks.ReachedLaws.{one-event, reached-by-rule}
 use Rattle.stepper.specs.Walks.Crossing.{ancestor-goal, Entry, call-entry, End, Crossing, goes-in, goes-through, goes-across, goes-out}
 use Rattle.stepper.specs.Walks.CrossingLaws.{rule-crosses, crosses-back, Sides, end-under, end-same, entry-not-end, entry-to-end, end-to-entry, end-is-final, final-is-end, end-is-last}
-use Rattle.stepper.specs.Walks.Inside.{AboveGoal, InsideGoal, WalkInside, EndsBy}
+use Rattle.stepper.specs.Walks.Inside.{AboveGoal, InsideGoal, WalkInside, EndsBy, StillOrEnded}
 
 -- a stack with one ancestor more
 above-more : {g : Goal} {u v : List Ancestor} (b : Ancestor) → AboveGoal g u v → AboveGoal g u (b ∷ v)
@@ -32,16 +32,16 @@ above-less g u v b (w, a, h, k) = go w h
     go (x ∷ w) h = inr (w, a, tail-eq-of-cons-eq h, k)
 
 -- it is higher than what it stands on
-above-higher : (g : Goal) (u : List Ancestor) → AboveGoal g u u → ⊥
-above-higher g u (w, a, h, k) = let l = ap length h ∙ length-append w (a ∷ u) in omega arith
+above-higher : (g : Goal) (u v : List Ancestor) → AboveGoal g u v → length u < length v
+above-higher g u v (w, a, h, k) = let l = ap length h ∙ length-append w (a ∷ u) in omega arith
 
 -- so an event inside is no end of a goal under u
 pub inside-not-end : {g h : Goal} {u : List Ancestor} {e : Event} → InsideGoal g u e → End h u e → ⊥
-inside-not-end {g} {u = u} x y = above-higher g u (subst (AboveGoal g u) (end-under y) x)
+inside-not-end {g} {u = u} x y = omega (arith, above-higher g u u (subst (AboveGoal g u) (end-under y) x))
 
 -- and a query's first event is inside no goal, and no end
 first-outside : (g : Goal) (u : List Ancestor) (q : Goal) → InsideGoal g u (event call q [] []) ⊎ End g u (event call q [] []) → ⊥
-first-outside g u q (inl (w, a, h, k)) = let l = ap length h ∙ length-append w (a ∷ u) in omega arith
+first-outside g u q (inl x) = omega (arith, above-higher g u [] x)
 first-outside g u q (inr x) = entry-not-end call-entry x
 
 -- a crossing from inside, or from an entry, leads inside or to an end, and the other way round
@@ -96,32 +96,28 @@ module _ (M : Machine) (g : Goal) (u : List Ancestor) where
         still k d l m r (yes z) = subst (InsideGoal g u) (one-event M q n e d h (subst (λ k. Reached M q k d) z r)) x
         still k d l m r (no z) = w .inside k d l (omega (arith, z)) r
 
-    -- it is inside still, or has ended
-    abbrev StillOrEnded : ℕ → ℕ → Event → Type 0
-    StillOrEnded i n e = (WalkInside M q g u i n × InsideGoal g u e) ⊎ EndsBy M q g u i n
-
     one-more : {i n : ℕ} (b e : Event) → Rule M b e → Reached M q (suc n) e → WalkInside M q g u i (suc n) → InsideGoal g u b ⊎ Entry g u b
-        → StillOrEnded i (suc n) e
+        → StillOrEnded M q g u i (suc n) e
     one-more {i} {n} b e rule h w x = go (stays-inside rule x)
       where
-        go : InsideGoal g u e ⊎ End g u e → StillOrEnded i (suc n) e
+        go : InsideGoal g u e ⊎ End g u e → StillOrEnded M q g u i (suc n) e
         go (inl y) = inl (w, y)
         go (inr y) = inr (record { number = suc n; by-then = omega arith; walked = w; last = e; reached = h; end = y })
 
     -- From an entry on, a walk stays inside up to the next end.
-    pub inside-until-end : (i : ℕ) (d : Event) → Reached M q i d → Entry g u d → (n : ℕ) (e : Event) → i < n → Reached M q n e → StillOrEnded i n e
+    pub inside-until-end : (i : ℕ) (d : Event) → Reached M q i d → Entry g u d → (n : ℕ) (e : Event) → i < n → Reached M q n e → StillOrEnded M q g u i n e
     inside-until-end i d r y zero e l h = absurd (omega arith)
     inside-until-end i d r y (suc n) e l h =
         let (b, k, rule) = reached-by-rule M q n e h in
         go b k rule (ℕ-discrete i n) (λ m. inside-until-end i d r y n b m k)
       where
-        go : (b : Event) → Reached M q n b → Rule M b e → Dec (i ≡ n) → (i < n → StillOrEnded i n b) → StillOrEnded i (suc n) e
+        go : (b : Event) → Reached M q n b → Rule M b e → Dec (i ≡ n) → (i < n → StillOrEnded M q g u i n b) → StillOrEnded M q g u i (suc n) e
         go b k rule (yes z) f =
             one-more b e rule h (subst (λ n. WalkInside M q g u i (suc n)) z (begins d r y))
             (inr (subst (Entry g u) (one-event M q n d b (subst (λ k. Reached M q k d) z r) k) y))
         go b k rule (no z) f = on (f (omega (arith, z)))
           where
-            on : StillOrEnded i n b → StillOrEnded i (suc n) e
+            on : StillOrEnded M q g u i n b → StillOrEnded M q g u i (suc n) e
             on (inl (w, x)) = one-more b e rule h (goes-on b k x w) (inl x)
             on (inr x) = inr (record {
               number = x .number;

@@ -1,4 +1,5 @@
--- A goal that is called in the middle of a walk, on the ancestors u and the bets s of its call, and its own walk, as if it were the query.
+-- A goal that is called in the middle of a walk, on the ancestors u and the bets s of its call, and its own walk: that of the goal as a query, its unifiers,
+-- bodies and limits as they are on u and s.
 use mathlib.Core.Path.{_≡_}
 use mathlib.Core.List.{List, _++_}
 use Prim.Native.Nat.{ℕ}

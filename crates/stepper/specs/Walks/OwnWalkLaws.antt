@@ -1,4 +1,4 @@
--- From a call of a goal to the next end of it, a walk is the walk of that goal as a query, on the ancestors and bets of the call.
+-- From a call of a goal up to the next end of it, as far as it goes, a walk is the goal's own walk on the ancestors and bets of the call.
 use mathlib.Core.Path.{_≡_, refl, sym, _∙_, ap, subst}
 use mathlib.Core.Logic.{_⊎_, inl, inr}
 use mathlib.Core.List.{List, [], _∷_, _++_}
@@ -19,7 +19,7 @@ use Rattle.stepper.specs.Walks.Reached.{Reached}
 use Rattle.stepper.specs.Walks.ReachedLaws.{Anything, one-event, reached-legal}
 use Rattle.stepper.specs.Walks.Crossing.{call-entry, redo-entry, End, exit-end, fail-end}
 use Rattle.stepper.specs.Walks.CrossingLaws.{end-under, entry-not-end}
-use Rattle.stepper.specs.Walks.Inside.{InsideBetween}
+use Rattle.stepper.specs.Walks.Inside.{InsideBetween, WalkInside}
 use Rattle.stepper.specs.Walks.InsideLaws.{inside-not-end}
 use Rattle.stepper.specs.Walks.OwnWalk.{event-on, machine-on, InOwnWalk}
 
@@ -32,7 +32,7 @@ module _ (M : Machine) (g : Goal) (u : List Ancestor) (s : List Bet) where
   abbrev GivenOn : StepOutcome → Event → Type 0
   GivenOn a d = (c : Event) × (a ≡ gives c) × (event-on u s c ≡ d)
 
-  -- a rule of M leads from e on u and s to the event d: so does a rule of own from e
+  -- the event d is, on u and s, the one that the rules of own lead to from e
   abbrev RuleOn : Event → Event → Type 0
   RuleOn e = GivenOn (rule own e)
 
@@ -114,13 +114,13 @@ module _ (M : Machine) (g : Goal) (u : List Ancestor) (s : List Bet) where
   end-on fail-end = fail-end
 
   module _ (q : Goal) (i : ℕ) (start : Reached M q i (event call g u s)) where
-    -- From a call of g up to the next end of it, a walk is g's own walk on the ancestors and bets of the call.
-    pub own-walk : (k : ℕ) (e : Event) → Reached M q (i + k) e → InsideBetween M q g u i (i + k) → InOwnWalk u s M g k e
+    -- the event k steps behind the call, with those in between inside g, is the k-th of g's own walk
+    own-event : (k : ℕ) (e : Event) → Reached M q (i + k) e → InsideBetween M q g u i (i + k) → InOwnWalk u s M g k e
     unfolding Reach first-event step
-    own-walk zero e h inside = (event call g [] [], refl, one-event M q i (event call g u s) e start (subst (λ n. Reached M q n e) (add-zero i) h))
-    own-walk (suc k) e h inside =
+    own-event zero e h inside = (event call g [] [], refl, one-event M q i (event call g u s) e start (subst (λ n. Reached M q n e) (add-zero i) h))
+    own-event (suc k) e h inside =
         let x : Reached M q (suc (i + k)) e = subst (λ n. Reached M q n e) (add-suc i k) h in
-        go (x .0) (x .1) (accepted-gives _ e (x .2)) (own-walk k (x .0) (x .1) (λ j c l m. inside j c l (omega arith)))
+        go (x .0) (x .1) (accepted-gives _ e (x .2)) (own-event k (x .0) (x .1) (λ j c l m. inside j c l (omega arith)))
       where
         go : (b : Event) → Reached M q (i + k) b → step-forward M b ≡ gives e → InOwnWalk u s M g k b → InOwnWalk u s M g (suc k) e
         go b r f (d, w, y) =
@@ -131,30 +131,37 @@ module _ (M : Machine) (g : Goal) (u : List Ancestor) (s : List Bet) where
             not-end (yes p) z = entry-not-end call-entry (subst (End g []) (sym (subst (λ n. Reached own g n d) p w)) z)
             not-end (no p) z = inside-not-end (inside (i + k) b (omega (arith, p)) (omega arith) r) (subst (End g u) y (end-on z))
 
-    -- So the bets of the call stay at the bottom;
-    pub bets-below : (k : ℕ) (e : Event) → Reached M q (i + k) e → InsideBetween M q g u i (i + k) → (t : List Bet) × (bets-of e ≡ t ++ s)
-    bets-below k e h inside = go (own-walk k e h inside)
-      where
-        go : InOwnWalk u s M g k e → (t : List Bet) × (bets-of e ≡ t ++ s)
-        go (event p h v t, w, y) = (t, ap bets-of (sym y))
+    module _ (k : ℕ) (e : Event) (h : Reached M q (i + k) e) (w : WalkInside M q g u i (i + k)) where
+      -- The walk inside g from a call of it is g's own walk on the ancestors and bets of the call.
+      pub own-walk : InOwnWalk u s M g k e
+      own-walk = own-event k e h (w .inside)
 
-    -- a fail that ends the walk has them alone, and an exit has those by which g is solved on top of them.
-    pub end-bets : (k : ℕ) (e : Event) → Reached M q (i + k) e → InsideBetween M q g u i (i + k) → End g u e
-        → (e ≡ event fail g u s) ⊎ ((t : List Bet) × (e ≡ event exit g u (t ++ s)) × Solved own g Anything g [] [] t)
-    end-bets k e h inside z = let (d, w, y) = own-walk k e h inside in go d (reached-legal own g Anything k d (λ c h. tt) w) (subst (End g u) (sym y) z) y
-      where
-        higher : (a : Ancestor) (v : List Ancestor) → (a ∷ v) ++ u ≡ u → ⊥
-        higher a v h = let l = sym (length-append (a ∷ v) u) ∙ ap length h in omega arith
+      -- So the bets of the call stay at the bottom;
+      pub bets-below : (t : List Bet) × (bets-of e ≡ t ++ s)
+      bets-below = go own-walk
+        where
+          go : InOwnWalk u s M g k e → (t : List Bet) × (bets-of e ≡ t ++ s)
+          go (event p h v t, w, y) = (t, ap bets-of (sym y))
 
-        go : (d : Event) → Legal own g Anything d → End g u (event-on u s d) → event-on u s d ≡ e
-            → (e ≡ event fail g u s) ⊎ ((t : List Bet) × (e ≡ event exit g u (t ++ s)) × Solved own g Anything g [] [] t)
-        go (event call h v t) l z y = absurd (entry-not-end call-entry z)
-        go (event redo h v t) l z y = absurd (entry-not-end redo-entry z)
-        go (event exit h (a ∷ v) t) l z y = absurd (higher a v (end-under z))
-        go (event fail h (a ∷ v) t) l z y = absurd (higher a v (end-under z))
-        go (event fail h [] t) ((n, m), _) z y = inl (sym y ∙ ap (λ h. event fail h u (t ++ s)) n ∙ ap (λ t. event fail g u (t ++ s)) m)
-        go (event exit h [] t) (r, (n, m), _, solved) z y = inr (
-          t,
-          sym y ∙ ap (λ h. event exit h u (t ++ s)) n,
-          subst (λ r. Solved own g Anything g [] r t) m (subst (λ h. Solved own g Anything h [] r t) n solved),
-        )
+      -- fail with those bets, or exit with those by which g is solved on top of them
+      abbrev pub FailedOrSolved : Type 0
+      FailedOrSolved = (e ≡ event fail g u s) ⊎ ((t : List Bet) × (e ≡ event exit g u (t ++ s)) × Solved own g Anything g [] [] t)
+
+      -- and the end of the walk is so.
+      pub end-bets : End g u e → FailedOrSolved
+      end-bets z = let (d, w, y) = own-walk in go d (reached-legal own g Anything k d (λ c h. tt) w) (subst (End g u) (sym y) z) y
+        where
+          higher : (a : Ancestor) (v : List Ancestor) → (a ∷ v) ++ u ≡ u → ⊥
+          higher a v h = let l = sym (length-append (a ∷ v) u) ∙ ap length h in omega arith
+
+          go : (d : Event) → Legal own g Anything d → End g u (event-on u s d) → event-on u s d ≡ e → FailedOrSolved
+          go (event call h v t) l z y = absurd (entry-not-end call-entry z)
+          go (event redo h v t) l z y = absurd (entry-not-end redo-entry z)
+          go (event exit h (a ∷ v) t) l z y = absurd (higher a v (end-under z))
+          go (event fail h (a ∷ v) t) l z y = absurd (higher a v (end-under z))
+          go (event fail h [] t) ((n, m), _) z y = inl (sym y ∙ ap (λ h. event fail h u (t ++ s)) n ∙ ap (λ t. event fail g u (t ++ s)) m)
+          go (event exit h [] t) (r, (n, m), _, solved) z y = inr (
+            t,
+            sym y ∙ ap (λ h. event exit h u (t ++ s)) n,
+            subst (λ r. Solved own g Anything g [] r t) m (subst (λ h. Solved own g Anything h [] r t) n solved),
+          )

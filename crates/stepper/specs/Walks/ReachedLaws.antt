@@ -1,6 +1,6 @@
--- What the demands on lists of steps rest on: reached events are legal, so each step forward on the way is undone by the step back.
--- It is shown for the rules without questions 5 and 10, which only refuse; so it holds whatever they refuse. And what stands before a reached event:
--- the call of a fail, the exit of a redo (SPECIFICATION 9.9).
+-- What the demands on lists of steps rest on: reached events are legal, so each step forward on the way is undone by the step back; that holds whatever
+-- questions 5 and 10 refuse, since it holds of the rules without them. And what stands before a reached event: the call of a fail, the exit of a redo
+-- (SPECIFICATION 9.9).
 use mathlib.Core.Path.{_≡_, refl, _∙_, ap, subst}
 use mathlib.Core.Logic.{_⊎_, inl, inr}
 use mathlib.Core.List.{List}

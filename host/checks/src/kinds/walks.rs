@@ -1,7 +1,7 @@
 //! Walks from a query forward and all the way back: every fail has its call and every redo its exit, and each step back gives the event it came from.
 
 use super::values::known_variable;
-use crate::compare::{Checked, Checker, Difference};
+use crate::compare::{Checked, Checker};
 use crate::generate::{programs, room, Dice};
 
 pub fn round(checker: &mut Checker, dice: &mut Dice) -> Checked<()> {
@@ -23,14 +23,7 @@ pub fn round(checker: &mut Checker, dice: &mut Dice) -> Checked<()> {
             _ => break,
         }
     }
-    checker.walked(&events)?;
-    for pair in events.windows(2).rev() {
-        let source = checker.back(&program, &pair[1], 32_768)?;
-        if source.bytes != pair[0] {
-            return Err(Difference("a step back from a reached event gave another event than it came from".into()));
-        }
-    }
-    Ok(())
+    checker.walked(&program, &query, &events)
 }
 
 /// The other services at an event of the walk.

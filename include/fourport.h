@@ -21,7 +21,7 @@
  *    7  does a rule match? Of a step back also: does the event found lead on to the given one?
  *    8  has each value at most 8,192 bytes?
  *    9  has each local of the body a number of at most 65,535? In a canonical program: has every definition at most 255 locals?
- *   10  does the result fit FOURPORT_RECORD bytes?
+ *   10  does the result fit FOURPORT_RECORD bytes? Of an answer of a query: does it fit what is left of the output?
  *
  * The questions are put in this order: 1 to 4, 11 to 14, 5, and then 6 to 10; the second part of 7 is put last.
  *
@@ -79,6 +79,17 @@ uint32_t fourport_back(const uint8_t *program, size_t program_length, const uint
  * 1 to 5, 11 to 14: `out` is untouched, and `taken` is 0. */
 uint32_t fourport_run(const uint8_t *program, size_t program_length, const uint8_t *event, size_t event_length, uint32_t steps, uint8_t back,
                       uint8_t *out, size_t out_length, uint32_t *taken);
+
+/* Every answer of the query Q: the walk of 'Q, fail', at most `steps` steps forward, and an answer at each exit of Q whose only ancestor is 1/Q,fail.
+ * An answer has two bytes that count the variables of Q, each variable by rising number (two bytes) with its value (a term), and then two bytes that
+ * count the bets BY and OR, and these with their kind bytes, the oldest first. Answers stand one behind the other in `out`, in the order of the walk;
+ * one that needs the last byte of the output still fits.
+ * 0: all steps were taken. 6: the walk ended in fail, and there is no other answer. 7 to 10: the number that refused the next step, or the answer at
+ * the exit that the last step came to, 8 for a value over 8,192 bytes. In all these cases the answers before that stand at the start of `out`, whose
+ * bytes after them are untouched, `written` is their length, and `taken` is the number of steps taken.
+ * 1 to 5, 11 to 13, and 10 where the first event of 'Q, fail' is too long: `out` is untouched, and `written` and `taken` are 0. */
+uint32_t fourport_answers(const uint8_t *program, size_t program_length, const uint8_t *query, size_t query_length, uint32_t steps,
+                          uint8_t *out, size_t out_length, size_t *written, uint32_t *taken);
 
 /* The value of the variable `v` under the bets of an event.
  * 0: its term, without length or version, stands at the start of `out`, whose bytes after it are untouched; `written` is its length, at most 8,192.

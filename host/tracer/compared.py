@@ -5,10 +5,12 @@ from desk_model.trees import *
 from prolog import boxes_case, own_case, run
 
 SECONDS_PER_WALK = 1
+LISTED = 'listed answers'
 KINDS = {
     'ports': 'port and depth of every event, beside compiled boxes',
     'goals': 'goal of every event under its bets, beside compiled boxes',
     'answers': 'answers in order, beside plain Prolog',
+    LISTED: "every answer that the service gives, beside plain Prolog's findall",
     'atoms': "call and exit of atoms, beside SWI-Prolog's own tracer",
 }
 
@@ -32,13 +34,18 @@ class Query:
 
 
 class Compared:
-    """a query and the desk's walk of it"""
+    """a query and the desk's walk of it; where it goes through all answers, their list too"""
 
-    def __init__(self, number, query, walk):
-        self.number, self.query, self.walk = number, query, walk
+    def __init__(self, number, query, walk, listed):
+        self.number, self.query, self.walk, self.listed = number, query, walk, listed
+
+    def has(self, kind):
+        return kind != LISTED or self.listed is not None
 
     @functools.cache
     def shown(self, kind):
+        if kind == LISTED:
+            return self.listed.shown()
         return self.walk.shown(kind, self.query.asked, self.query.all_answers)
 
     def limit(self, kind):
@@ -52,7 +59,13 @@ class Compared:
 
     def own(self):
         values = [Var(v) for v in sorted(variables(self.query.asked))]
-        return own_case(self.number, self.limit('answers'), self.limit('atoms'), self.query, values)
+        return own_case(self.number, self.limit('answers'), self.listing(), self.limit('atoms'), self.query, values)
+
+    def listing(self):
+        """all answers of a whole list are wanted, and as many as there are of any other"""
+        if self.listed is None:
+            return 0
+        return 'all' if self.listed.whole() else len(self.listed.answers)
 
 
 def first_difference(one, other):
@@ -68,5 +81,6 @@ def prolog_shows(walks):
         'ports': {n: [f'{port} {depth}' for port, depth, goal in lines] for n, lines in split.items()},
         'goals': {n: [goal for port, depth, goal in lines] for n, lines in split.items()},
         'answers': {n: [each for each in lines if each.startswith(('answer ', 'endless'))] for n, lines in own.items()},
+        LISTED: {n: [each for each in lines if each.startswith(('listed ', 'unlisted'))] for n, lines in own.items()},
         'atoms': {n: [each for each in lines if each.startswith(('call ', 'exit '))] for n, lines in own.items()},
     }

@@ -56,10 +56,10 @@ def boxes_case(number, limit, goal, program):
     return f'case({number},{limit},{boxed(goal)},[{",".join(definitions)}]).\n'
 
 
-def own_case(number, answers, ports, query, values):
-    """the first answers of the query, and the first ports of its goal, which may go on with fail"""
+def own_case(number, answers, listing, ports, query, values):
+    """the first answers of the query, one by one and as a list, and the first ports of its goal, which may go on with fail"""
     listed = [f'p{name}/{arity}' for name, arity in query.predicates()]
-    return (f'case({number},{answers},{ports},{plain(query.asked)},{plain(query.goal)},{applied("values", list(map(boxed, values)))},'
+    return (f'case({number},{answers},{listing},{ports},{plain(query.asked)},{plain(query.goal)},{applied("values", list(map(boxed, values)))},'
             f'[{",".join(map(clause_text, query.clauses))}],[{",".join(listed)}]).\n')
 
 

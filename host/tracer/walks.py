@@ -1,4 +1,4 @@
-"""A walk as it is compared: its events, each with its goal and the values of the goal's variables, whoever made it."""
+"""A walk as it is compared: its events, each with its goal and the values of the goal's variables, whoever made it; and a list of answers."""
 import collections
 
 from desk_model.substitution import replaced
@@ -40,3 +40,16 @@ class Walk:
         asked = [Var(v) for v in sorted(variables(goal))]
         exits = [e for e in self.events if e.port == EXIT and e.goal == goal and e.depth == int(all_answers)]
         return ['answer ' + renamed(*[replaced(v, e.values) for v in asked], within='values') for e in exits]
+
+
+class Listed:
+    """answers: the values of the query's variables, by their numbers; stop: the number that ended the list"""
+
+    def __init__(self, answers, stop):
+        self.answers, self.stop = answers, stop
+
+    def whole(self):
+        return self.stop == 6
+
+    def shown(self):
+        return ['listed ' + renamed(*[values[v] for v in sorted(values)], within='values') for values in self.answers]

@@ -10,6 +10,7 @@ PROGRAMS = {
     'records': ['records_cases', 'stepper_cases'],
     'terms': ['terms_cases'],
     'stepper': ['stepper_cases'],
+    'answers': ['answers_cases'],
     'canonical': ['canonical_cases'],
     'walk_text': ['walk_cases'],
 }

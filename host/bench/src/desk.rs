@@ -11,6 +11,7 @@ pub trait Desk {
     fn back(&self, program: &[u8], event: &[u8], out: &mut [u8]) -> u32;
     /// The number and the steps taken.
     fn run(&self, program: &[u8], event: &[u8], steps: u32, back: bool, out: &mut [u8]) -> (u32, u32);
+    fn answers(&self, program: &[u8], query: &[u8], steps: u32, out: &mut [u8]) -> u32;
     fn value(&self, event: &[u8], v: u16, out: &mut [u8]) -> u32;
     /// The length of the definition.
     fn lookup(&self, program: &[u8], event: &[u8]) -> usize;
@@ -41,6 +42,10 @@ impl Desk for Fourport {
     fn run(&self, program: &[u8], event: &[u8], steps: u32, back: bool, out: &mut [u8]) -> (u32, u32) {
         let mut taken = 0;
         (raw::run(program, event, steps, u8::from(back), out, &mut taken), taken)
+    }
+
+    fn answers(&self, program: &[u8], query: &[u8], steps: u32, out: &mut [u8]) -> u32 {
+        raw::answers(program, query, steps, out, &mut 0, &mut 0)
     }
 
     fn value(&self, event: &[u8], v: u16, out: &mut [u8]) -> u32 {
@@ -92,6 +97,11 @@ impl Desk for Twin {
         let direction = if back { Direction::Back } else { Direction::Forward };
         let reply = services::run(program, event, steps, direction, out.len());
         (written(reply.number, &reply.bytes, out), reply.steps)
+    }
+
+    fn answers(&self, program: &[u8], query: &[u8], steps: u32, out: &mut [u8]) -> u32 {
+        let reply = twin::answers::answers(program, query, steps, out.len());
+        written(reply.number, &reply.bytes, out)
     }
 
     fn value(&self, event: &[u8], v: u16, out: &mut [u8]) -> u32 {

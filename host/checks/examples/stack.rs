@@ -2,20 +2,22 @@
 //! one that does not fit ends the process.
 
 use fourport::raw;
-use layout::{clause, clauses, equality, event, nested, program, record, symbol, unifier, variable, TRUE};
+use layout::{atom, clause, clauses, definition, equality, event, nested, program, record, symbol, unifier, variable, TRUE};
 use std::process::{Command, ExitCode, Stdio};
 use std::{env, thread};
 
 /// A call with an output of 32,768 bytes.
 type Call = fn(&mut [u8]) -> u32;
 
-const CASES: [(&str, Call); 14] = [
+const CASES: [(&str, Call); 16] = [
     ("nothing", |_| 0),
     ("canonical", |out| raw::canonical(&clauses(&[clause(5, 1, &[nested(8_186, &variable(0))], &TRUE)]), out)),
     ("first", |out| raw::first(&record(&equality(&variable(0), &nested(8_188, &symbol(2, &[])))), out)),
     ("forward", |out| raw::forward(&program(&[]), &event(1, &doubly_nested(1_630), &[], &[]), out)),
     ("back", |out| raw::back(&program(&[]), &event(2, &doubly_nested(2_045), &[], &[unifier(&[])]), out)),
     ("run", |out| raw::run(&program(&[]), &event(2, &doubly_nested(2_045), &[], &[unifier(&[])]), 1, 1, out, &mut 0)),
+    ("answers", |out| raw::answers(&in_a_body(1_635), &record(&atom(5, &[])), 9, out, &mut 0, &mut 0)),
+    ("answers, value", |out| raw::answers(&program(&[]), &record(&equality(&variable(0), &nested(2_047, &symbol(2, &[])))), 9, out, &mut 0, &mut 0)),
     ("value", |out| raw::value(&event(1, &TRUE, &[], &[unifier(&[(0, nested(8_184, &symbol(2, &[])))])]), 0, out, &mut 0)),
     ("value, renamed", |out| raw::value(&event(1, &TRUE, &[], &renamed()), 0, out, &mut 0)),
     ("run, renamed", |out| raw::run(&program(&[]), &event(1, &equality(&variable(0), &variable(0)), &[], &renamed()), 1, 0, out, &mut 0)),
@@ -30,6 +32,11 @@ const CASES: [(&str, Call); 14] = [
 /// are as long as question 8 lets pass, and the unifier is only compared, in a step back from exit; with 1,630 it is written, in a step from call.
 fn doubly_nested(levels: usize) -> Vec<u8> {
     equality(&symbol(5, &[variable(0), nested(levels, &variable(2))]), &symbol(5, &[nested(levels, &variable(1)), variable(1)]))
+}
+
+/// p :- .., such an equality, the longest whose unifier is written: in a query, which is its own ancestor, there would be less room.
+fn in_a_body(levels: usize) -> Vec<u8> {
+    program(&[definition(5, 0, 3, &doubly_nested(levels))])
 }
 
 /// Bets each of which puts a symbol around the next variable: one level for each, as many as question 8 lets pass.

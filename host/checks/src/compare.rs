@@ -15,7 +15,7 @@ use twin::training::{examined, Broken, Examined};
 /// Bytes before and after the lent output that nobody may touch.
 const MARGIN: usize = 16;
 /// The longest output that is lent.
-const LONGEST: usize = 70_000;
+pub const LONGEST: usize = 70_000;
 
 #[derive(Clone, Copy, Debug, PartialEq, Eq)]
 pub enum Service {
@@ -24,6 +24,7 @@ pub enum Service {
     Forward,
     Back,
     Run,
+    Answers,
     Value,
     Lookup,
     Greatest,
@@ -31,24 +32,27 @@ pub enum Service {
 }
 
 impl Service {
-    pub const ALL: [Service; 9] = [
+    pub const ALL: [Service; 10] = [
         Service::Canonical,
         Service::First,
         Service::Forward,
         Service::Back,
         Service::Run,
+        Service::Answers,
         Service::Value,
         Service::Lookup,
         Service::Greatest,
         Service::Count,
     ];
 
-    /// The numbers that the service can give. A query has no question 4, so the first event never gives 14.
+    /// The numbers that the service can give. A query has no question 4, so the first event and the answers never give 14; every event of a walk from
+    /// a query has a rule, so the answers never give 7.
     pub fn numbers(self) -> &'static [usize] {
         match self {
             Service::Canonical => &[0, 1, 2, 3, 4, 5, 9, 10],
             Service::First => &[0, 5, 10, 11, 12, 13],
             Service::Forward | Service::Back | Service::Run => &[0, 1, 2, 3, 4, 5, 6, 7, 8, 9, 10, 11, 12, 13, 14],
+            Service::Answers => &[0, 1, 2, 3, 4, 5, 6, 8, 9, 10, 11, 12, 13],
             Service::Value => &[0, 5, 8, 11, 12, 13, 14],
             Service::Lookup => &[0],
             Service::Greatest | Service::Count => &[0, 11, 12, 13, 14],
@@ -217,6 +221,21 @@ impl Checker {
         };
         let sides = self.sides(room, desk, twin);
         self.settle(Service::Run, sides, Inputs { records: &[program, event], numbers: format!("steps {steps} back {back} output {room}") })
+    }
+
+    /// The answers of a query; beside the number, the bytes written and the steps taken.
+    pub fn answers(&mut self, program: &[u8], query: &[u8], steps: u32, room: usize) -> Checked<Answer> {
+        let desk = |out: &mut [u8]| {
+            let (mut written, mut taken) = (0xDEAD_BEEF, 0xDEAD_BEEF);
+            let number = raw::answers(program, query, steps, out, &mut written, &mut taken);
+            (number, vec![written as u64, u64::from(taken)])
+        };
+        let twin = || {
+            let list = twin::answers::answers(program, query, steps, room);
+            Answer { number: list.number.into(), beside: vec![list.bytes.len() as u64, list.steps.into()], bytes: list.bytes }
+        };
+        let sides = self.sides(room, desk, twin);
+        self.settle(Service::Answers, sides, Inputs { records: &[program, query], numbers: format!("steps {steps} output {room}") })
     }
 
     pub fn value(&mut self, event: &[u8], v: u16, room: usize) -> Checked<Answer> {

@@ -5,6 +5,7 @@ pub mod compare;
 pub mod generate;
 pub mod holders;
 pub mod kinds;
+pub mod listings;
 pub mod numbering;
 pub mod rules;
 pub mod table;

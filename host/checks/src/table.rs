@@ -1,8 +1,9 @@
 //! What was met: cases by kind, by service and number, steps by rule, bodies by the part that numbers them, events by the parts that hold the
-//! greatest variable, events of walks by what training material says of them.
+//! greatest variable, lists of answers by what they were asked for with and what they hold, events of walks by what training material says of them.
 
 use crate::compare::Service;
 use crate::holders::HOLDERS;
+use crate::listings::{Listing, LISTINGS};
 use crate::numbering::{Numbered, ENDS, PLACES, WAYS};
 use crate::rules::RULES;
 use std::fmt;
@@ -42,6 +43,8 @@ pub struct Table {
     numbered: [[[u64; ENDS.len()]; WAYS.len()]; PLACES.len()],
     /// events put to the service of the greatest variable
     holders: [u64; HOLDERS.len()],
+    /// lists of answers, by what they were asked for with and what they hold
+    listings: [u64; LISTINGS.len()],
     /// by kind, events of walks from a query
     pub examined: Vec<Examined>,
     /// pairs of lists of steps whose ends are different, and equal
@@ -56,6 +59,7 @@ impl Table {
             rules: [[0; 2]; RULES.len()],
             numbered: Default::default(),
             holders: Default::default(),
+            listings: Default::default(),
             examined: vec![Examined::default(); kinds.len()],
             ends: [0; 2],
         }
@@ -83,6 +87,10 @@ impl Table {
 
     pub fn add_holders(&mut self, held: usize) {
         self.holders[held] += 1;
+    }
+
+    pub fn add_listing(&mut self, listing: Listing) {
+        self.listings[listing as usize] += 1;
     }
 
     fn times(&self, met: Numbered) -> u64 {
@@ -125,6 +133,8 @@ impl Table {
         missed.extend(unmet.map(|met| format!("never numbered, {}, greatest in {}: {}", WAYS[met.way], PLACES[met.place], ENDS[met.end])));
         let unheld = HOLDERS.iter().zip(self.holders).filter(|(_, count)| *count == 0);
         missed.extend(unheld.map(|(parts, _)| format!("the greatest variable never asked for where it is in {parts}")));
+        let unlisted = LISTINGS.iter().zip(self.listings).filter(|(_, count)| *count == 0);
+        missed.extend(unlisted.map(|(words, _)| format!("no list of answers with {words}")));
         for (kind, met) in self.walking() {
             let unmet = met.each().into_iter().filter(|(_, count)| *count == 0);
             missed.extend(unmet.map(|(what, _)| format!("no walk of the kind {kind} has a {what}")));
@@ -188,6 +198,8 @@ impl fmt::Display for Table {
         self.numbered_lines(f)?;
         writeln!(f, "\ngreatest variable asked for, held by")?;
         HOLDERS.iter().zip(self.holders).try_for_each(|(parts, count)| writeln!(f, "{parts:<34}{:>7}", shown(count)))?;
+        writeln!(f, "\nlists of answers")?;
+        LISTINGS.iter().zip(self.listings).try_for_each(|(words, count)| writeln!(f, "{words:<34}{:>7}", shown(count)))?;
         for (kind, met) in self.walking() {
             writeln!(f, "\nevents of {kind}")?;
             met.each().into_iter().try_for_each(|(what, count)| writeln!(f, "{what:<34}{:>7}", shown(count)))?;

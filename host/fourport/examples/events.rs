@@ -5,7 +5,7 @@
 //! that ended the walk, or `cut`. Records, goals and values are in hexadecimal; all of them are the desk's own answers.
 
 use fourport::{raw, RECORD_LIMIT, STACK};
-use layout::{number_at, record_at, split_record, ATOM, CONJUNCTION, DISJUNCTION, EQUALITY, EVENT_GOAL_AT, PORT_AT, SYMBOL, VARIABLE};
+use layout::{goal_end, number_at, record_at, split_record, EVENT_GOAL_AT, PORT_AT};
 use std::collections::BTreeSet;
 use std::io::{self, BufWriter, Read, Write};
 
@@ -54,7 +54,8 @@ fn walk(clauses: &[u8], query: &[u8], most: usize, out: &mut impl Write) -> io::
 
 /// The event's line; false, and no line, where a value is refused.
 fn printed(event: &[u8], out: &mut impl Write) -> io::Result<bool> {
-    let (end, variables) = goal(event);
+    let mut variables = BTreeSet::new();
+    let end = goal_end(event, EVENT_GOAL_AT, |v| _ = variables.insert(v));
     let (mut line, mut value, mut written) = (String::new(), vec![0; RECORD_LIMIT], 0);
     for v in variables {
         if raw::value(event, v, &mut value, &mut written) != 0 {
@@ -64,32 +65,6 @@ fn printed(event: &[u8], out: &mut impl Write) -> io::Result<bool> {
     }
     writeln!(out, "{} {} {}{line}", event[PORT_AT], number_at(event, end), hex(&event[EVENT_GOAL_AT..end]))?;
     Ok(true)
-}
-
-/// Where an accepted event's goal ends, and its variables in the order of their numbers.
-fn goal(event: &[u8]) -> (usize, BTreeSet<u16>) {
-    let (mut at, mut terms, mut goals, mut variables) = (EVENT_GOAL_AT, 0, 1, BTreeSet::new());
-    while terms + goals > 0 {
-        let kind = event[at];
-        if terms > 0 {
-            terms -= 1;
-        } else {
-            goals -= 1;
-        }
-        at += match kind {
-            VARIABLE => 3,
-            SYMBOL | ATOM => 4,
-            _ => 1,
-        };
-        match kind {
-            VARIABLE => _ = variables.insert(number_at(event, at - 2)),
-            SYMBOL | ATOM => terms += usize::from(event[at - 1]),
-            EQUALITY => terms += 2,
-            CONJUNCTION | DISJUNCTION => goals += 2,
-            _ => (),
-        }
-    }
-    (at, variables)
 }
 
 fn hex(bytes: &[u8]) -> String {

@@ -132,6 +132,11 @@ impl Event {
 }
 
 impl Term {
+    /// A term that the desk wrote.
+    pub(crate) fn written(bytes: Vec<u8>) -> Term {
+        Term(bytes)
+    }
+
     /// The term's bytes.
     ///
     /// ```

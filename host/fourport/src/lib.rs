@@ -6,6 +6,7 @@
 //! - [`Clauses`], [`Program`], [`Query`] and [`Event`] hold the bytes of a record that passed the gate's questions 1 to 4, so a program cannot be
 //!   lent as an event and what is lent later is never refused as a record.
 //! - [`Walk`] stands at an event and steps forward and back from there.
+//! - [`Answers`] gives every answer of a query, with the branches and bodies that gave it.
 //! - [`Refusal`] is a no to one of the questions; its [`number`](Refusal::number) is the specification's.
 //! - [`raw`] is the same over byte slices with an output lent by the caller: any bytes, any length, no allocation.
 //!
@@ -39,6 +40,7 @@
 #![deny(unsafe_op_in_unsafe_fn)]
 #![deny(unsafe_code)]
 
+mod answers;
 mod clauses;
 mod counts;
 mod event;
@@ -51,6 +53,7 @@ mod refusal;
 mod sys;
 mod walk;
 
+pub use answers::{Answer, Answers, Goal, Half, Stop, Used, ANSWERS_ROOM};
 pub use clauses::Clauses;
 pub use counts::Counts;
 pub use event::{Event, Part, Port, Term};

@@ -1,7 +1,7 @@
 //! Program records, and the steps under one.
 
 use crate::record::{record_type, written};
-use crate::{raw, Clauses, Event, Refusal, Walk};
+use crate::{raw, Answers, Clauses, Event, Query, Refusal, Walk};
 use layout::{byte_at, number_at, ARITY_AT, CALL_TRUE, DEFINITION_GOAL_AT, LOCALS_AT, PREDICATE_AT};
 use std::ops::Range;
 
@@ -143,6 +143,30 @@ impl Program {
         let length = raw::lookup(&self.0, event.as_bytes(), &mut at);
         let bytes = self.0.get(at..)?.get(..length)?;
         (!bytes.is_empty()).then_some(Definition { bytes, at })
+    }
+
+    /// Every answer of a query, as an iterator that asks the desk for more steps and more room by itself. It ends after the last answer there is, or
+    /// gives a [`Stop`](crate::Stop) as its last item: the list is whole exactly where there is none. A walk need not end: [`Answers::with_steps`]
+    /// limits it.
+    ///
+    /// ```
+    /// use fourport::{Half, Program, Query, Stop, Used};
+    /// let program = Program::from_bytes([0, 3, 1, 0, 0])?;
+    /// // V0 = a ; V0 = b
+    /// let query = Query::from_bytes([0, 18, 1, 0x14, 0x12, 1, 0, 0, 2, 0, 2, 0, 0x12, 1, 0, 0, 2, 0, 3, 0])?;
+    /// let all: Vec<_> = program.answers(&query).collect::<Result<_, _>>()?;
+    /// assert_eq!(all[0].value(0).unwrap().as_bytes(), [2, 0, 2, 0]);
+    /// assert_eq!(all[1].value(0).unwrap().as_bytes(), [2, 0, 3, 0]);
+    /// assert_eq!((all.len(), &all[1].used[..]), (2, &[Used::Branch(Half::Second)][..]));
+    ///
+    /// let mut some = program.answers(&query).with_steps(4);
+    /// assert_eq!(some.next().unwrap()?, all[0]);
+    /// assert_eq!(some.next(), Some(Err(Stop::Steps)));
+    /// assert_eq!((some.taken(), some.is_whole()), (4, false));
+    /// # Ok::<(), Box<dyn std::error::Error>>(())
+    /// ```
+    pub fn answers<'a>(&'a self, query: &'a Query) -> Answers<'a> {
+        Answers::new(self, query)
     }
 
     /// A walk that stands at the event.

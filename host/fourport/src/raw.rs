@@ -1,7 +1,8 @@
 //! The desk's services over byte slices, with an output lent by the caller: any bytes, any length. Nothing is allocated.
 //!
-//! The result is the number of SPECIFICATION 7, 0 for done. With any other number the output stays as it was, except after a run that 6 to 10
-//! stopped; so do the bytes behind what is written (SPECIFICATION 7.8). A written record's length is its first two bytes, big-endian, and 2.
+//! The result is the number of SPECIFICATION 7, 0 for done. With any other number the output stays as it was, except after a run or a list of answers
+//! that 6 to 10 stopped; so do the bytes behind what is written (SPECIFICATION 7.8). A written record's length is its first two bytes, big-endian,
+//! and 2.
 
 use crate::{sys, Counts};
 
@@ -64,6 +65,20 @@ pub fn back(program: &[u8], event: &[u8], out: &mut [u8]) -> u32 {
 /// ```
 pub fn run(program: &[u8], event: &[u8], steps: u32, back: u8, out: &mut [u8], taken: &mut u32) -> u32 {
     sys::run(program, event, steps, back, out, taken)
+}
+
+/// Every answer of a query within so many steps: 0 to 13. The answers (SPECIFICATION 8.12) are written one behind the other, those before a refused
+/// one too; `written` becomes the number of their bytes and `taken` the steps taken, both 0 where 1 to 5 or 11 to 13 refuse.
+///
+/// ```
+/// let (program, query) = ([0, 3, 1, 0, 0], [0, 9, 1, 0x12, 1, 0, 0, 2, 0, 2, 0]);
+/// let (mut out, mut written, mut taken) = (vec![7; 32_768], 99, 99);
+/// // V0 = a has one answer: one variable, which is a, and no branch or body
+/// assert_eq!(fourport::raw::answers(&program, &query, 100, &mut out, &mut written, &mut taken), 6);
+/// assert_eq!((written, taken, &out[..11]), (10, 7, &[0, 1, 0, 0, 2, 0, 2, 0, 0, 0, 7][..]));
+/// ```
+pub fn answers(program: &[u8], query: &[u8], steps: u32, out: &mut [u8], written: &mut usize, taken: &mut u32) -> u32 {
+    sys::answers(program, query, steps, out, written, taken)
 }
 
 /// S(v) as bare term bytes: 0, 11 to 14, 5 or 8. `written` becomes their number, 0 after a refusal.

@@ -41,7 +41,7 @@ pub enum Refusal {
     Value,
     /// 9: has each local of the body a number of at most 65,535? For the canonical form: has each definition at most 255 locals?
     Locals,
-    /// 10: has the record of the result at most 32,768 bytes?
+    /// 10: has the record of the result at most 32,768 bytes? Of an answer of a query: does it fit what is left of the output?
     Fit,
     /// A number that the specification does not have. The desk gives none; this is here so that nothing has to panic.
     Unknown(u32),
@@ -134,7 +134,7 @@ impl Refusal {
             Refusal::Match => "does a rule match?",
             Refusal::Value => "has each value at most 8,192 bytes?",
             Refusal::Locals => "has each new local a number of at most 65,535, or in a canonical form each definition at most 255 locals?",
-            Refusal::Fit => "has the result at most 32,768 bytes?",
+            Refusal::Fit => "has the result at most 32,768 bytes, or an answer room in the output?",
             Refusal::Unknown(_) => "a question that the specification does not have",
         }
     }

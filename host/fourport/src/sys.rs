@@ -26,6 +26,17 @@ mod archive {
             out_len: usize,
             taken: *mut u32,
         ) -> u32;
+        pub fn fourport_answers(
+            program: *const u8,
+            program_len: usize,
+            query: *const u8,
+            query_len: usize,
+            steps: u32,
+            out: *mut u8,
+            out_len: usize,
+            written: *mut usize,
+            taken: *mut u32,
+        ) -> u32;
         pub fn fourport_value(event: *const u8, event_len: usize, v: u16, out: *mut u8, out_len: usize, written: *mut u32) -> u32;
         pub fn fourport_lookup(program: *const u8, program_len: usize, event: *const u8, event_len: usize, at: *mut usize) -> usize;
         pub fn fourport_greatest(event: *const u8, event_len: usize, part: *mut u32, greatest: *mut u32) -> u32;
@@ -59,6 +70,12 @@ pub fn run(program: &[u8], event: &[u8], steps: u32, back: u8, out: &mut [u8], t
     let (p, e, o) = (program.as_ptr(), event.as_ptr(), out.as_mut_ptr());
     // SAFETY: as for `forward`, and `taken` is an aligned, initialised number that is borrowed alone, apart from `out`.
     unsafe { archive::fourport_run(p, program.len(), e, event.len(), steps, back, o, out.len(), taken) }
+}
+
+pub fn answers(program: &[u8], query: &[u8], steps: u32, out: &mut [u8], written: &mut usize, taken: &mut u32) -> u32 {
+    let (p, q, o) = (program.as_ptr(), query.as_ptr(), out.as_mut_ptr());
+    // SAFETY: as for `forward`, and `written` and `taken` are aligned, initialised numbers, each borrowed alone, apart from `out`.
+    unsafe { archive::fourport_answers(p, program.len(), q, query.len(), steps, o, out.len(), written, taken) }
 }
 
 pub fn value(event: &[u8], v: u16, out: &mut [u8], written: &mut u32) -> u32 {

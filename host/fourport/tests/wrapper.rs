@@ -104,7 +104,7 @@ fn numbers_and_words() {
     }
     assert_eq!(Refusal::from_number(15).map(Refusal::number), Some(15));
     let error: Box<dyn std::error::Error> = Box::new(Refusal::Fit);
-    assert_eq!(error.to_string(), "no to question 10: has the result at most 32,768 bytes?");
+    assert_eq!(error.to_string(), "no to question 10: has the result at most 32,768 bytes, or an answer room in the output?");
 }
 
 /// The part of the greatest variable, where each holds it alone, where all do, and where there is none.

@@ -1,5 +1,7 @@
 //! Where things stand in a record. A byte that is not there is read as 0.
 
+use crate::{ATOM, CONJUNCTION, DISJUNCTION, EQUALITY, SYMBOL, VARIABLE};
+
 /// An event's port stands here.
 pub const PORT_AT: usize = 3;
 /// An event's goal starts here.
@@ -28,4 +30,39 @@ pub fn split_record(bytes: &[u8]) -> (&[u8], &[u8]) {
 /// The record at the front.
 pub fn record_at(bytes: &[u8]) -> &[u8] {
     split_record(bytes).0
+}
+
+/// Where the term at a place ends.
+pub fn term_end(bytes: &[u8], at: usize) -> usize {
+    end(bytes, at, 1, 0, |_| ())
+}
+
+/// Where the goal at a place ends; `meet` is given its variables as they occur.
+pub fn goal_end(bytes: &[u8], at: usize, meet: impl FnMut(u16)) -> usize {
+    end(bytes, at, 0, 1, meet)
+}
+
+/// Where so many terms, and behind them so many goals, end. Terms are read first, since no goal stands within a term.
+fn end(bytes: &[u8], mut at: usize, mut terms: usize, mut goals: usize, mut meet: impl FnMut(u16)) -> usize {
+    while terms + goals > 0 {
+        let kind = byte_at(bytes, at);
+        if terms > 0 {
+            terms -= 1;
+        } else {
+            goals -= 1;
+        }
+        at += match kind {
+            VARIABLE => 3,
+            SYMBOL | ATOM => 4,
+            _ => 1,
+        };
+        match kind {
+            VARIABLE => meet(number_at(bytes, at - 2)),
+            SYMBOL | ATOM => terms += usize::from(byte_at(bytes, at - 1)),
+            EQUALITY => terms += 2,
+            CONJUNCTION | DISJUNCTION => goals += 2,
+            _ => (),
+        }
+    }
+    at
 }

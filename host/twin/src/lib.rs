@@ -5,6 +5,7 @@
 //! no nesting that fits a record runs out of native stack.
 #![forbid(unsafe_code)]
 
+pub mod answers;
 pub mod canonical;
 pub mod gate;
 pub mod records;

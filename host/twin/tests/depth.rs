@@ -2,6 +2,7 @@
 
 use layout::*;
 use std::thread;
+use twin::answers::answers;
 use twin::gate::RECORD_LIMIT as ROOM;
 use twin::records::{Term, TermRef};
 use twin::rules::Direction::{Back, Forward};
@@ -29,6 +30,23 @@ fn nested_terms() {
         }
         let clause = clause(5, 1, &[nested(8185, &variable(0))], &TRUE);
         assert_eq!(canonical(&clauses(&[clause]), ROOM).number, 0);
+    });
+}
+
+#[test]
+fn nested_answers() {
+    on_a_small_stack(|| {
+        let value = nested(2_047, &symbol(2, &[]));
+        let found = answers(&program(&[]), &record(&equality(&variable(0), &value)), 100, ROOM);
+        assert_eq!((found.number, found.bytes), (6, [&[0, 1, 0, 0], &value[..], &[0, 0]].concat()));
+        // every goal is an ancestor of the first one, with all goals within it
+        let joins = 240;
+        let found = answers(&program(&[]), &record(&[vec![DISJUNCTION; joins], vec![TRUTH; joins + 1]].concat()), u32::MAX, 1 << 20);
+        assert_eq!((found.number, found.bytes.len()), (10, 0));
+        let joins = 100;
+        let found = answers(&program(&[]), &record(&[vec![DISJUNCTION; joins], vec![TRUTH; joins + 1]].concat()), u32::MAX, 1 << 20);
+        // the first answer is 100 first halves deep, and each later one comes from a disjunction further out
+        assert_eq!((found.number, found.bytes.len()), (6, 4 * 101 + 2 * (100 + 100 * 101 / 2)));
     });
 }
 

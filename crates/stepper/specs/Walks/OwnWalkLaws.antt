@@ -102,7 +102,7 @@ module _ (M : Machine) (g : Goal) (u : List Ancestor) (s : List Bet) where
   ununifiable-on (event redo h v t) = refl
 
   -- so a step of M that is accepted is one of its own
-  step-on : (d e : Event) → Legal own g Anything d → (End g [] d → ⊥) → step-forward M (event-on u s d) ≡ gives e
+  pub step-on : (d e : Event) → Legal own g Anything d → (End g [] d → ⊥) → step-forward M (event-on u s d) ≡ gives e
       → (c : Event) × (step-forward own d ≡ gives c) × (event-on u s c ≡ e)
   step-on d e l o h =
       let (r, fits) = forward-iff M (event-on u s d) e .0 h in

@@ -1,5 +1,6 @@
 //! The dearest single calls that we know: records made so that each algorithm has as much to do as a record can hold.
 
+mod answers;
 mod bodies;
 mod equalities;
 mod programs;
@@ -18,6 +19,8 @@ pub enum Call {
     First(Bytes),
     Forward(Bytes, Bytes),
     Back(Bytes, Bytes),
+    /// with an output of that length
+    Answers(Bytes, Bytes, usize),
     Value(Bytes, u16),
     Lookup(Bytes, Bytes),
     Greatest(Bytes),
@@ -31,6 +34,7 @@ impl Call {
             Call::First(_) => "first event",
             Call::Forward(..) => "forward",
             Call::Back(..) => "back",
+            Call::Answers(..) => "answers",
             Call::Value(..) => "value",
             Call::Lookup(..) => "lookup",
             Call::Greatest(_) => "greatest variable",
@@ -41,7 +45,16 @@ impl Call {
     fn records(&self) -> Vec<&Bytes> {
         match self {
             Call::Canonical(record) | Call::First(record) | Call::Value(record, _) | Call::Greatest(record) | Call::Count(record) => vec![record],
-            Call::Forward(program, event) | Call::Back(program, event) | Call::Lookup(program, event) => vec![program, event],
+            Call::Forward(program, event) | Call::Back(program, event) | Call::Lookup(program, event) | Call::Answers(program, event, _) => {
+                vec![program, event]
+            }
+        }
+    }
+
+    fn room(&self) -> usize {
+        match self {
+            Call::Answers(_, _, room) => *room,
+            _ => ROOM,
         }
     }
 
@@ -52,6 +65,7 @@ impl Call {
             Call::First(query) => desk.first(query, out),
             Call::Forward(program, event) => desk.forward(program, event, out),
             Call::Back(program, event) => desk.back(program, event, out),
+            Call::Answers(program, query, _) => desk.answers(program, query, u32::MAX, out),
             Call::Value(event, v) => desk.value(event, *v, out),
             Call::Lookup(program, event) => return desk.lookup(program, event),
             Call::Greatest(event) => desk.greatest(event),
@@ -65,12 +79,12 @@ impl Call {
 pub type Case = (&'static str, Vec<Call>);
 
 fn cases() -> Vec<Case> {
-    [equalities::cases(), values::cases(), bodies::cases(), programs::cases(), records::cases()].into_iter().flatten().collect()
+    [equalities::cases(), values::cases(), bodies::cases(), programs::cases(), records::cases(), answers::cases()].into_iter().flatten().collect()
 }
 
 /// Milliseconds, and what was answered and written.
 fn timed(desk: &dyn Desk, call: &Call) -> (f64, usize, Vec<u8>) {
-    let mut out = vec![0; ROOM];
+    let mut out = vec![0; call.room()];
     let answer = call.answer(desk, &mut out);
     let time = least(3, || assert_eq!(call.answer(desk, &mut out), answer));
     (time.as_secs_f64() * 1e3, answer, out)

@@ -1,5 +1,6 @@
 //! The generator: dice with a seed, and records made with them. Mostly small, sometimes near the limits.
 
+pub mod answers;
 pub mod clauses;
 pub mod damage;
 pub mod dice;

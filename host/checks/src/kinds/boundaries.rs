@@ -1,6 +1,6 @@
 //! Each limit of SPECIFICATION 10 on both sides, and empty things.
 
-use super::numbering;
+use super::{answers, numbering};
 use crate::compare::{Checked, Checker};
 use crate::generate::clauses::fact_of;
 use crate::generate::families::{chain, doubling, ladder, system};
@@ -25,6 +25,7 @@ pub fn round(checker: &mut Checker, dice: &mut Dice) -> Checked<()> {
     ends_of_walks(checker)?;
     doublings(checker)?;
     orders(checker)?;
+    answers::boundaries(checker)?;
     counts(checker)
 }
 
@@ -220,6 +221,7 @@ fn short_slices(checker: &mut Checker) -> Checked<()> {
             checker.back(program, event, ROOM)?;
             checker.run(program, event, 1, 0, ROOM)?;
             checker.run(program, event, 1, 0, 0)?;
+            checker.answers(program, event, 9, ROOM)?;
             checker.lookup(program, event)?;
         }
         checker.value(slice, 0, ROOM)?;

@@ -51,6 +51,7 @@ fn terms(checker: &mut Checker, dice: &mut Dice) -> Checked<()> {
     };
     let start = checker.first(&record(&goal), 32_768)?;
     let program = layout::program(&[definition(0, 1, 1, &equality(&variable(0), &variable(1)))]);
+    checker.answers(&program, &record(&goal), 40, 32_768)?;
     everywhere(checker, dice, &program, &start.bytes)
 }
 

@@ -31,6 +31,7 @@ pub fn round(checker: &mut Checker, dice: &mut Dice) -> Checked<()> {
             events.push(next.bytes);
         }
         checker.walked(program, query, &events)?;
+        checker.answers(program, query, MOST_STEPS as u32, 32_768)?;
     }
     Ok(())
 }

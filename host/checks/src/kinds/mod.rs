@@ -1,5 +1,6 @@
 //! The kinds of case. Each makes one round of cases with the dice it is given.
 
+mod answers;
 mod boundaries;
 mod clauses;
 mod counts;
@@ -26,7 +27,7 @@ pub struct Kind {
     pub round: fn(&mut Checker, &mut Dice) -> Checked<()>,
 }
 
-pub const KINDS: [Kind; 15] = [
+pub const KINDS: [Kind; 16] = [
     Kind { name: "boundaries", share: 0, round: boundaries::round },
     Kind { name: "garages", share: 0, round: garages::round },
     Kind { name: "walks", share: 200, round: walks::round },
@@ -42,4 +43,5 @@ pub const KINDS: [Kind; 15] = [
     Kind { name: "deep", share: 10, round: deep::round },
     Kind { name: "numbering", share: 30, round: numbering::round },
     Kind { name: "parts", share: 20, round: parts::round },
+    Kind { name: "answers", share: 60, round: answers::round },
 ];

@@ -87,7 +87,7 @@ pub fn pairs(out: &mut Vec<u8>, unifier: &Unifier) {
     }
 }
 
-fn bet(out: &mut Vec<u8>, bet: &Bet) {
+pub fn bet(out: &mut Vec<u8>, bet: &Bet) {
     match bet {
         Bet::Unifier(unifier) => {
             out.push(0x20);

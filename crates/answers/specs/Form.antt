@@ -1,0 +1,15 @@
+-- What the answers of a query are, and the laws of that.
+pub mod Answer
+pub mod Answers
+pub mod Service
+pub mod Continued
+pub mod Told
+pub mod NextExit
+pub mod AnswerLaws
+pub mod AnswersLaws
+pub mod FrontLaws
+pub mod EndLaws
+pub mod ContinuedLaws
+pub mod AnswersExample
+pub mod ToldLaws
+pub mod ServiceLaws

@@ -1,0 +1,268 @@
+-- Laws of the list of answers: a run to the next exit that stops before one ends the list, and one that comes to an exit adds its answer, or ends the list
+-- where the answer is refused.
+use mathlib.Core.Path.{_≡_, refl, sym, _∙_, ap, subst}
+use mathlib.Core.Bool.{Bool, true, false, cond}
+use mathlib.Core.List.{List, [], _∷_, _++_, append-nil, append-assoc}
+use native.Mathlib.Nat.{zero-add, add-zero}
+use native.Mathlib.Omega.{arith}
+use Prim.Native.Nat.{ℕ, zero, suc, _+_, _-_, _≤_, _<_}
+use lib.Dec.{eqb}
+use lib.ListN.{length, take, drop, length-append, length-take, length-drop}
+use lib.Seq.{length-take-le}
+use borrow.Author.Tests.{eqb-true, eq-eqb}
+use Rattle.records.specs.Format.Never.{never}
+use Rattle.records.specs.Format.Syntax.{Goal, Bet, Event, Definition}
+use Rattle.records.specs.Format.Encode.{event-record}
+use Rattle.records.specs.Format.HeadLaws.{Known, bytes-all}
+use Rattle.records.specs.Gate.Gate.{tree, read-event}
+use Rattle.records.specs.Gate.Door.{BothPassed}
+use Rattle.records.specs.Gate.Question.{Question, question-number}
+use Rattle.records.specs.Gate.Reply.{Answer, refused, gives, through, answer-number, answer-length, reply-with, Receipted}
+use Rattle.records.specs.Gate.ReplyLaws.{number-positive, reply-put}
+use Rattle.records.specs.Writing.Patched.{Put}
+use Rattle.records.specs.Writing.PatchedLaws.{patched-nil, part-patched, put-none, put-then, put-tail, put-length}
+use Rattle.records.specs.declared.put.Receipt.{Receipt}
+use Rattle.terms.specs.Values.ValueService.{bets-of}
+use Rattle.stepper.specs.Rules.Machine.{Machine}
+use Rattle.stepper.specs.Run.Run.{Order, Stop, spent, met, full, by, RunEnd, run, stop-number}
+use Rattle.stepper.specs.Run.RunLoop.{stop-case, Tells, RanTo}
+use Rattle.stepper.specs.Run.RunLaws.{run-within}
+use Rattle.stepper.specs.Run.RunServiceLaws.{run-recordable}
+use Rattle.stepper.specs.Services.Desk.{layers}
+use Rattle.stepper.specs.Services.DeskLaws.{lawful}
+use Rattle.stepper.specs.Services.ServiceLaws.{limit-fits, read-recordable}
+use Rattle.stepper.specs.Services.Services.{Program, machine}
+use Rattle.stepper.specs.Walks.Reached.{Reached}
+use Rattle.stepper.specs.declared.run.RunAnswer.{RunAnswer}
+use Rattle.answers.specs.Form.Answer.{query-variables, solution-for, solution-into}
+use Rattle.answers.specs.Form.Answers.{all-of, Written, no-more, an-answer, from-event, answers-from, answers}
+use Rattle.answers.specs.Form.FrontLaws.{into-more}
+use Rattle.answers.specs.Form.NextExit.{to-next-exit}
+use Rattle.answers.specs.Form.AnswersLaws.{steps-before, at-stop, answers-of-run, run-reached, met-steps}
+use Rattle.answers.specs.Writing.Listing.{met-case, RanHere, behind, ListStands, Listed, Turned, turns-left}
+use Rattle.answers.specs.declared.service.Listing.{Listing}
+
+-- the front of a slice is known as the slice is
+pub front-known : (n : ℕ) (l : List ℕ) → Known l → Known (take n l)
+front-known zero l h i = record { fits = omega arith }
+front-known (suc n) [] h i = h i
+front-known (suc n) (b ∷ l) h zero = h 0
+front-known (suc n) (b ∷ l) h (suc i) = front-known n l (λ i. h (suc i)) i
+
+-- what is put at the front of a buffer
+pub front-put : {before bytes after : List ℕ} {n : ℕ} → Put before 0 bytes after n → length bytes ≤ length before → take n after ≡ bytes
+front-put {before} {bytes} p h = rw (p .place, zero-add, p .output) (part-patched before 0 bytes (omega arith))
+
+-- the record of the event that a run comes to is short enough
+module _ {program s : List ℕ} (byte : Known program) (known : Known s) (w : BothPassed program s) (o : Order) (n : ℕ) where
+  abbrev end : RunEnd
+  end = run (machine layers (w .definitions)) o n (w .event)
+
+  pub end-short : length (event-record (end .event)) ≤ 32768
+  end-short =
+      let P : Program layers = record { program = program; bytes = bytes-all program byte; definitions = w .definitions; reads = w .program-reads } in
+      limit-fits (end .event) (run-recordable layers lawful P o n (w .event) (read-recordable layers lawful s (bytes-all s known) (w .event) (w .reads)) .1)
+
+  -- what a run leaves in its output, put at the front of a buffer
+  pub ran-here : {log log′ out out′ here here′ : List ℕ} {next : ℕ} {r : RunAnswer} → RanTo end false log out r log′ out′ → length out′ ≡ 32768 → 32768 ≤ length here
+      → Put here 0 (take (r .length) out′) here′ next → RanHere end r here here′
+  ran-here {out′ = out′} {here} {here′} {next} {r} ran size room p =
+      let short : r .length ≤ 32768 = rw (ran .tells .length-is) end-short in
+      let n : length (take (r .length) out′) ≡ r .length = length-take-le (r .length) out′ (omega arith) in
+      let same : next ≡ r .length = p .place ∙ zero-add _ ∙ n in
+      let front = front-put p (omega arith) in
+      record {
+        tells = ran .tells;
+        reads = ap read-event (rw same at front) ∙ ran .reads;
+        inside = omega (arith, put-length p);
+        same-length = put-length p;
+      }
+
+-- nothing in front
+pub behind-nothing : (w : Written) → w ≡ behind [] 0 w
+behind-nothing w = rw add-zero refl
+
+-- an answer behind what is kept is kept with it
+regrouped : (a b : List ℕ) (t k : ℕ) (w : Written) → behind a t (steps-before k (an-answer b w)) ≡ behind (a ++ b) (t + k) w
+regrouped a b t k w = let e : w .taken + k + t ≡ w .taken + (t + k) = omega arith in rw (append-assoc a b (w .bytes), e) refl
+
+module _ {program : List ℕ} {ds : List Definition} {q : Goal} {variables : List ℕ} {steps : ℕ} {before : List ℕ} {last : Listing} {here out : List ℕ}
+    (g : ListStands program ds q variables steps before last here out) where
+  abbrev M : Machine
+  M = machine layers ds
+
+  -- the event of the list and the program pass the door
+  abbrev pub list-passed : BothPassed program (take (last .length) here)
+  list-passed = record { definitions = ds; program-reads = g .program-reads; event = g .event; reads = g .reads }
+
+  abbrev pub left : ℕ
+  left = steps - last .taken
+
+  abbrev pub ahead : RunEnd
+  ahead = run M to-next-exit left (g .event)
+
+  -- the room that is left
+  abbrev room-left : ℕ
+  room-left = length before - length (g .kept)
+
+  -- the output behind what is kept
+  pub written-inside : last .written ≤ length out
+  written-inside = omega (arith, g .put .place, put-length (g .put), g .room)
+
+  abbrev at : ℕ
+  at = last .written
+
+  abbrev pub lent : List ℕ
+  lent = take (length out - at) (drop at out)
+
+  lent-length : length lent ≡ room-left
+  lent-length = omega (arith, length-take (length out - at) (drop at out), length-drop at out, put-length (g .put), g .put .place)
+
+  -- what is written, by the run to the next exit
+  pub list-ahead : answers M q steps (length before)
+      ≡ behind (g .kept) (last .taken) (steps-before (ahead .taken) (at-stop M q (ahead .why) (left - ahead .taken) room-left (ahead .event)))
+  list-ahead = g .rest ∙ ap (behind (g .kept) (last .taken)) (answers-of-run M q left room-left (g .event) (last .taken) (g .reached))
+
+  pub ahead-within : ahead .taken ≤ left
+  ahead-within = run-within M to-next-exit left (g .event)
+
+  -- nothing more is written, and the list ends with a number
+  list-ends : (p : Listing) (k n : ℕ) (out′ : List ℕ)
+      → answers M q steps (length before) ≡ behind (g .kept) (last .taken) (steps-before k (no-more n))
+      → p .number ≡ n → p .taken ≡ last .taken + k → p .written ≡ last .written → out′ ≡ out → Listed (answers M q steps (length before)) before p out′
+  list-ends p k n out′ e a b c d = rw (e, d) (record {
+    number-is = a;
+    taken-is = b ∙ omega arith;
+    put = rw (append-nil, c) (g .put);
+    room = rw append-nil (g .room);
+  })
+
+  module _ {r : RunAnswer} {here′ : List ℕ} (ran : RanHere ahead r here here′) where
+    pub taken-small : last .taken + r .taken ≤ steps
+    taken-small = omega (arith, ran .tells .taken-is, ahead-within, g .within)
+
+    -- the walk stops before the next exit
+    pub listed-stop : {p : Listing} → met-case (r .stop) ≡ false → p .number ≡ r .number → p .taken ≡ last .taken + r .taken → p .written ≡ last .written
+        → Listed (answers M q steps (length before)) before p out
+    unfolding at-stop stop-number
+    listed-stop {p} m a b c = go (ahead .why) refl
+      where
+        whole : (n : ℕ) → at-stop M q (ahead .why) (left - ahead .taken) room-left (ahead .event) ≡ no-more n → n ≡ stop-number (ahead .why)
+            → Listed (answers M q steps (length before)) before p out
+        whole n e i =
+            list-ends p (ahead .taken) n out (list-ahead ∙ ap (λ w. behind (g .kept) (last .taken) (steps-before (ahead .taken) w)) e) (a ∙ ran .tells .number-is ∙ sym i) (b ∙ ap (λ t. last .taken + t) (ran .tells .taken-is)) c refl
+
+        go : (s : Stop) → ahead .why ≡ s → Listed (answers M q steps (length before)) before p out
+        go spent e = whole 0 (rw e refl) (rw e refl)
+        go met e = never (rw (ran .tells .stop-is, e) at m)
+        go full e = whole 0 (rw e refl) (rw e refl)
+        go (by k) e = whole (question-number k) (rw e refl) (rw e refl)
+
+    module _ (m : met-case (r .stop) ≡ true) where
+      is-met : ahead .why ≡ met
+      is-met = go (ahead .why) refl
+        where
+          go : (s : Stop) → ahead .why ≡ s → ahead .why ≡ met
+          go spent e = never (sym (rw (ran .tells .stop-is, e) at m))
+          go met e = e
+          go full e = never (sym (rw (ran .tells .stop-is, e) at m))
+          go (by k) e = never (sym (rw (ran .tells .stop-is, e) at m))
+
+      -- the answer at the exit, for the room that is left
+      abbrev pub here-answer : Answer (List ℕ)
+      here-answer = solution-into room-left (solution-for (query-variables q) (bets-of (ahead .event)))
+
+      -- it is told for the tail of the output and the bets found there
+      pub here-told : {s : List Bet} → s ≡ bets-of (ahead .event) → solution-into (length lent) (solution-for variables s) ≡ here-answer
+      here-told e = rw (e, lent-length, g .variables-are) refl
+
+      -- it is refused,
+      list-refused : (k : Question) → here-answer ≡ refused k
+          → answers M q steps (length before) ≡ behind (g .kept) (last .taken) (steps-before (ahead .taken) (no-more (question-number k)))
+      unfolding at-stop from-event through
+      list-refused k e = list-ahead ∙ rw (is-met, e) refl
+
+      -- or its bytes are written
+      list-given : (b : List ℕ) → here-answer ≡ gives b
+          → answers M q steps (length before)
+          ≡ behind (g .kept) (last .taken) (steps-before (ahead .taken) (an-answer b (answers-from M q (left - ahead .taken) (room-left - length b) (ahead .event))))
+      unfolding at-stop from-event through
+      list-given b e = list-ahead ∙ rw (is-met, e) refl
+
+      -- the answer, put to the tail of the output behind what is kept
+      module _ {a : Answer (List ℕ)} (is : a ≡ here-answer) {receipt : Receipt} {tail : List ℕ}
+          (w : Receipted (λ b. b) a lent receipt tail) where
+        abbrev pub after : List ℕ
+        after = take at out ++ (tail ++ drop (length out - at) (drop at out))
+
+        unwritten : tail ≡ lent → after ≡ out
+        unwritten e = rw e (put-tail {before = out} {at = at} (put-none {before = lent} {at = 0}) .output ∙ patched-nil out at)
+
+        given-put : (b : List ℕ) → a ≡ gives b → length b ≤ room-left → Put before 0 (g .kept ++ b) after (at + length b)
+        unfolding answer-length
+        given-put b e n = put-then (g .put) (put-tail (reply-put (λ b. b) lent b (omega (arith, lent-length)) (rw e at (w .output-is))))
+
+        -- its bytes are inside the output
+        pub answer-inside : at + receipt .length ≤ length out
+        unfolding answer-length
+        answer-inside = go a refl
+          where
+            go : (x : Answer (List ℕ)) → a ≡ x → at + receipt .length ≤ length out
+            go (refused z) e = let none : receipt .length ≡ 0 = rw e at (w .length-is) in omega (arith, none, written-inside)
+            go (gives b) e =
+                let size : receipt .length ≡ length b = rw e at (w .length-is) in
+                let fits = into-more room-left 0 (solution-for (query-variables q) (bets-of (ahead .event))) b (sym is ∙ e) .1 in
+                omega (arith, size, fits, g .put .place, put-length (g .put), g .room)
+
+        -- the list goes on behind it, or ends with it
+        pub turned : {p : Listing} → p .number ≡ receipt .number → p .written ≡ at + receipt .length → p .taken ≡ last .taken + r .taken → p .length ≡ r .length
+            → p .going ≡ eqb (receipt .number) 0 → Turned program ds q variables steps before last p here′ after
+        unfolding answer-number answer-length reply-with
+        turned {p} i j k l m = go a refl
+          where
+            go : (x : Answer (List ℕ)) → a ≡ x → Turned program ds q variables steps before last p here′ after
+            go (refused z) e =
+                let number : receipt .number ≡ question-number z = rw e at (w .number-is) in
+                let none : receipt .length ≡ 0 = rw e at (w .length-is) in
+                record {
+                  on = λ t. absurd (number-positive z (sym number ∙ eqb-true (receipt .number) 0 (sym m ∙ t)));
+                  done = λ t.
+                      list-ends p (ahead .taken) (question-number z) after (list-refused z (sym is ∙ e)) (i ∙ number) (k ∙ ap (λ t. last .taken + t) (ran .tells .taken-is)) (omega arith) (unwritten (rw e at (w .output-is)));
+                }
+            go (gives b) e =
+                let number : receipt .number ≡ 0 = rw e at (w .number-is) in
+                let size : receipt .length ≡ length b = rw e at (w .length-is) in
+                let fits = into-more room-left 0 (solution-for (query-variables q) (bets-of (ahead .event))) b (sym is ∙ e) .1 in
+                let steps-is : p .taken ≡ last .taken + ahead .taken = k ∙ ap (λ t. last .taken + t) (ran .tells .taken-is) in
+                let fewer : left - ahead .taken ≡ steps - p .taken = omega (arith, steps-is) in
+                let smaller : room-left - length b ≡ length before - length (g .kept ++ b) = omega (arith, length-append (g .kept) b) in
+                record {
+                  on = λ t. (
+                    record {
+                      program-reads = g .program-reads;
+                      variables-are = g .variables-are;
+                      variables-few = g .variables-few;
+                      variables-small = g .variables-small;
+                      event = ahead .event;
+                      reached = rw steps-is (run-reached M q to-next-exit refl left (last .taken) (g .event) (g .reached));
+                      reads = rw l (ran .reads);
+                      inside = rw l (ran .inside);
+                      within = rw k taken-small;
+                      kept = g .kept ++ b;
+                      put = rw (j, size) (given-put b e fits);
+                      room = omega (arith, length-append (g .kept) b, g .room);
+                      rest = list-given b (sym is ∙ e) ∙ regrouped (g .kept) b (last .taken) (ahead .taken) _ ∙ rw (fewer, smaller, ← steps-is) refl;
+                    },
+                    omega (arith, steps-is, met-steps M q to-next-exit left (g .event) is-met),
+                  );
+                  done = λ t. never (sym (eq-eqb (receipt .number) 0 number) ∙ sym m ∙ t);
+                }
+
+-- an answer later fewer turns are left
+pub turned-less : {program : List ℕ} {ds : List Definition} {q : Goal} {variables : List ℕ} {steps : ℕ} {before : List ℕ} {last p : Listing} {here out : List ℕ}
+    → last .going ≡ true → Turned program ds q variables steps before last p here out → turns-left steps p < turns-left steps last
+turned-less {steps = steps} {last = last} {p} h t = rw h (go (p .going) refl)
+  where
+    go : (b : Bool) → p .going ≡ b → cond b (suc (steps - p .taken)) 0 < suc (steps - last .taken)
+    go true e = omega (arith, t .on e .1, t .on e .0 .within)
+    go false e = omega arith

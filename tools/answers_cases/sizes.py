@@ -38,6 +38,31 @@ query('three answers, of which 70,000 bytes hold two', GOAL, DEFINITIONS, room=M
 GOAL = joined(disj(eq(V0, LONGEST), eq(V0, A)), *[eq(var(v), LONGEST) for v in range(1, 4)], atom(6, X, Y))
 query('the first does not fit, the second would', GOAL, [BIG], want=(10, None, []))
 
+heading('question 10 at the least output')
+V11 = var(11)
+
+
+def filling(length):
+    """a goal and its one answer, of so many bytes: two values as long as can be, and a third with n symbols around a leaf"""
+    for leaf, free in (A, []), (sym(6, V11, V11), [(11, V11)]):
+        for branches in [], [chosen(1)]:
+
+            def answer(n):
+                third = sym(8, *[BOUND[0][1]] * 3, chain(n, leaf))
+                return solution([(0, MADE), (1, MADE), (2, third), *free, *BOUND], [by(BIG_BODY), *branches])
+
+            n, rest = divmod(length - len(answer(0)), 4)
+            if not rest:
+                equalities = [eq(V0, LONGEST), eq(V1, LONGEST), eq(var(2), sym(8, X, X, X, chain(n, leaf)))]
+                return joined(*equalities, atom(6, X, Y), *[disj(TRUE, FAIL)] * len(branches)), answer(n)
+
+
+for length in ROOM - 1, ROOM, ROOM + 1:
+    GOAL, ANSWER = filling(length)
+    assert len(ANSWER) == length
+    fits = length <= ROOM
+    query(f'an answer of {length:,} bytes, 32,768 bytes', GOAL, [BIG], want=(6 if fits else 10, None, [ANSWER] * fits))
+
 heading('question 10 after many answers')
 
 

@@ -1,9 +1,9 @@
--- What a planner may rely on in a list of answers (SPECIFICATION 8.12), of the service on bytes. `reply n out` is what the service replies for a program's
--- and a query's record, n steps and the output `out`, and `kept` are the bytes of the answers that it keeps. `begin-answer` is the door; where it gives
+-- What a planner may rely on in a list of answers (SPECIFICATION 9.10), of the service on bytes. `reply n out` is what the service replies for a program's
+-- and a query's record, n steps and the output `out`, and `kept-answers` are the bytes of the answers that it keeps. `begin-answer` is the door; where it gives
 -- trees, q is the query's goal and M has the program's rules. `events M n e` is the walk of n steps behind the event e, `answer-exits q` has the bets of
 -- its exits of q whose only ancestor is 1/q,fail, and `failed q` is the fail of 'q, fail'. `AnswersExample` has lists.
 use mathlib.Core.Path.{_≡_, refl, sym, _∙_, ap}
-use mathlib.Core.List.{List}
+use mathlib.Core.List.{List, []}
 use mathlib.Core.Logic.{_↔_}
 use Prim.Native.Nat.{ℕ, _-_, _+_, _≤_, _<_}
 use native.Mathlib.Omega.{arith}
@@ -13,6 +13,7 @@ use Rattle.records.specs.Format.Syntax.{Goal, Bet, Event, Definition}
 use Rattle.records.specs.Gate.Door.{Trees}
 use Rattle.records.specs.Gate.Gate.{tree, read-program, read-query, read-event}
 use Rattle.records.specs.Gate.Question.{possible, question-number}
+use Rattle.records.specs.Gate.RecordRules.{bound}
 use Rattle.records.specs.Gate.Reply.{Answer, refused, gives}
 use Rattle.records.specs.Gate.ReplyLaws.{number-injective}
 use Rattle.terms.specs.Values.ValueService.{bets-of}
@@ -21,17 +22,17 @@ use Rattle.stepper.specs.Rules.Rules.{first-event}
 use Rattle.stepper.specs.Services.Desk.{layers}
 use Rattle.stepper.specs.Services.Services.{machine}
 use Rattle.stepper.specs.Walks.Reached.{Reached}
-use Rattle.answers.specs.Form.Answer.{QuerySolution, solution}
-use Rattle.answers.specs.Form.Answers.{all-of, events, Written, answers-from, answers}
+use Rattle.answers.specs.Form.Answer.{query-variables, QuerySolution, solution}
+use Rattle.answers.specs.Form.Answers.{all-of, events, answers-from, answers}
 use Rattle.answers.specs.Form.Service.{begin-answer, AnswersReply, answers-record}
 use Rattle.answers.specs.Form.Continued.{continued, own-exits, answer-exits}
-use Rattle.answers.specs.Form.Told.{Told}
-use Rattle.answers.specs.Form.AnswerLaws.{ValueServed, solution-values}
-use Rattle.answers.specs.Form.FrontLaws.{Front, front-all, front-front, front-steps, front-room, whole-list}
-use Rattle.answers.specs.Form.EndLaws.{failed, six-iff}
+use Rattle.answers.specs.Form.Told.{ToldAnswers}
+use Rattle.answers.specs.Form.AnswerLaws.{ValueServed, solution-variables, solution-values}
+use Rattle.answers.specs.Form.FrontLaws.{Front, front-same, front-front, whole-answers, front-steps, front-room, whole-list}
+use Rattle.answers.specs.Form.EndLaws.{failed, record-limits, six-iff}
 use Rattle.answers.specs.Form.ContinuedLaws.{same-exits}
-use Rattle.answers.specs.Form.ToldLaws.{told}
-use Rattle.answers.specs.Form.ServiceLaws.{record-limits, begin-more, begin-never-six, kept, kept-nothing, kept-bytes, reply-number-is, reply-taken-is}
+use Rattle.answers.specs.Form.ToldLaws.{told, walk-six}
+use Rattle.answers.specs.Form.ServiceLaws.{begin-more, begin-never-six, kept-answers, kept-nothing, kept-bytes, reply-number-is, reply-taken-is}
 
 module _ (program query : List ℕ) where
   abbrev pub reply : ℕ → List ℕ → AnswersReply
@@ -40,12 +41,20 @@ module _ (program query : List ℕ) where
   abbrev pub opened : List ℕ → Answer (Trees (List Definition) Goal)
   opened out = begin-answer (read-program program) (read-query query) (length out)
 
-  -- Under fewer steps, or in a shorter output, the answers kept are a front of those under more.
-  pub fewer-are-front : (n m : ℕ) (out wider : List ℕ) → n ≤ m → length out ≤ length wider → Front (kept (reply n out)) (kept (reply m wider))
+  -- What is kept are whole answers.
+  pub kept-are-answers : (n : ℕ) (out : List ℕ) → Front [] (kept-answers (reply n out))
+  kept-are-answers n out = go (opened out) refl
+    where
+      go : (a : Answer (Trees (List Definition) Goal)) → opened out ≡ a → Front [] (kept-answers (reply n out))
+      go (refused x) i = rw (kept-nothing n program query out i .0) (front-same [])
+      go (gives t) i = rw (kept-bytes n program query out i) (whole-answers (machine layers (t .program)) (t .event) n (length out) _)
+
+  -- Under fewer steps, or in a shorter output, they are a front of those under more: behind them come other answers, or none.
+  pub fewer-are-front : (n m : ℕ) (out wider : List ℕ) → n ≤ m → length out ≤ length wider → Front (kept-answers (reply n out)) (kept-answers (reply m wider))
   fewer-are-front n m out wider h k = go (opened out) refl
     where
-      go : (a : Answer (Trees (List Definition) Goal)) → opened out ≡ a → Front (kept (reply n out)) (kept (reply m wider))
-      go (refused x) i = rw (kept-nothing n program query out i .0) (front-all _)
+      go : (a : Answer (Trees (List Definition) Goal)) → opened out ≡ a → Front (kept-answers (reply n out)) (kept-answers (reply m wider))
+      go (refused x) i = rw (kept-nothing n program query out i .0) (kept-are-answers m wider)
       go (gives t) i =
           let M = machine layers (t .program) in
           let e = first-event (all-of (t .event)) in
@@ -78,7 +87,7 @@ module _ (program query : List ℕ) where
 
     -- Then no larger step count and no larger output gives another answer.
     pub six-is-whole : reply n out .number ≡ 6 → (m : ℕ) (wider : List ℕ) → n ≤ m → length out ≤ length wider
-        → (kept (reply m wider) ≡ kept (reply n out)) × (reply m wider .number ≡ 6) × (reply m wider .taken ≡ reply n out .taken)
+        → (kept-answers (reply m wider) ≡ kept-answers (reply n out)) × (reply m wider .number ≡ 6) × (reply m wider .taken ≡ reply n out .taken)
     unfolding question-number
     six-is-whole h m wider k l =
         let j = begin-more _ _ (length out) (length wider) passes l in
@@ -91,18 +100,26 @@ module _ (program query : List ℕ) where
           reply-taken-is m program query wider j ∙ ap (λ w. w .taken) z ∙ sym (reply-taken-is n program query out passes),
         )
 
-    -- The answers kept are told at the exits of the walk, in their order from the first on, and at all of them where the number is 6.
-    pub told-at-exits : Told q (events M n (first-event (all-of q))) (record { bytes = kept (reply n out); taken = reply n out .taken; number = reply n out .number })
+    -- The answers kept are told at the exits of the walk, in their order from the first on, and at all of them unless the number is 8 or 10.
+    pub told-at-exits : ToldAnswers q (events M n (first-event (all-of q))) (record { bytes = kept-answers (reply n out); taken = reply n out .taken; number = reply n out .number })
     unfolding answers-from
     told-at-exits =
         rw (kept-bytes n program query out passes, reply-taken-is n program query out passes, reply-number-is n program query out passes)
         (told q _ (length out) (events M n (first-event (all-of q))))
 
-    -- Those exits have the bets of the exits of Q's own walk, continued by redo at each, in the same order.
+    -- Those exits have the bets of the exits of Q's own walk, continued by redo at each, in the same order; and where the number is 6, Q's own walk so
+    -- continued has no other exit, however far it goes on.
     pub exits-by-redo : (m : ℕ) × (answer-exits q (events M n (first-event (all-of q))) ≡ own-exits (continued M m (first-event q)))
-    exits-by-redo = same-exits (t .program) q n
+        × (reply n out .number ≡ 6 → (k : ℕ) → own-exits (continued M (m + k) (first-event q)) ≡ own-exits (continued M m (first-event q)))
+    unfolding question-number answers-from
+    exits-by-redo =
+        let (m, same, ended) = same-exits (t .program) q n in
+        (m, same, λ h. ended (walk-six q _ (length out) (events M n (first-event (all-of q))) (sym (reply-number-is n program query out passes) ∙ h)))
 
-    -- An answer has the values that the value service gives at its exit.
+    -- An answer has the variables of Q by rising number, each once, and the values that the value service gives at its exit.
+    pub variables-are-those-of-query : (s : List Bet) (x : QuerySolution) → solution q s ≡ gives x → bound (x .values) ≡ query-variables q
+    variables-are-those-of-query s x h = solution-variables q s x h
+
     pub values-are-served : (s : List Bet) (x : QuerySolution) → solution q s ≡ gives x
         → (r : List ℕ) (e : Event) → read-event r ≡ tree e → bets-of e ≡ s → (room : ℕ) → 32768 ≤ room → All (ValueServed r room) (x .values)
     values-are-served s x h = solution-values q s x h

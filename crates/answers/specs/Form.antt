@@ -7,9 +7,9 @@ pub mod Told
 pub mod NextExit
 pub mod AnswerLaws
 pub mod AnswersLaws
+pub mod ToldLaws
 pub mod FrontLaws
 pub mod EndLaws
 pub mod ContinuedLaws
-pub mod AnswersExample
-pub mod ToldLaws
 pub mod ServiceLaws
+pub mod AnswersExample

@@ -12,11 +12,9 @@ use records::questions::VALUES;
 use terms::pairs::list_bets;
 use terms::substitute::Sized;
 ghost use mathlib.Core.Path.{_≡_};
-ghost use mathlib.Core.List.{List};
-ghost use Prim.Native.Nat.{_*_, _≤_, _<_};
+ghost use Prim.Native.Nat.{_≤_, _<_};
 ghost use lib.ListN.{length};
 ghost use Rattle.records.specs.Format.Formed.{All};
-ghost use Rattle.records.specs.Format.Syntax.{Bet};
 ghost use Rattle.records.specs.Gate.Reply.{Receipted};
 ghost use Rattle.records.specs.Writing.Patched.{Put};
 ghost use Rattle.terms.specs.Standing.BetRow.{RuledBets};
@@ -24,7 +22,6 @@ ghost use Rattle.terms.specs.Theory.Outcome.{value-limit};
 ghost use Rattle.terms.specs.Values.Answered.{Buffers};
 ghost use Rattle.terms.specs.Values.Entries.{PairsListed};
 ghost use Rattle.answers.specs.Form.Answer.{solution-for, solution-into, solution-bytes};
-ghost use Rattle.answers.specs.Writing.Used.{used-size};
 ghost use Rattle.answers.specs.Writing.Solved.{solution-of, SolutionFits};
 
 // The two counts of an answer.

@@ -8,7 +8,6 @@ use records::put::put_range;
 use records::put::put_record_head;
 use records::put::put_word;
 ghost use mathlib.Core.Path.{_≡_};
-ghost use mathlib.Core.List.{[], _∷_};
 ghost use Prim.Native.Nat.{_+_, _≤_};
 ghost use lib.ListN.{length};
 ghost use Rattle.records.specs.Format.Encode.{event-record};
@@ -17,18 +16,18 @@ ghost use Rattle.records.specs.Gate.Gate.{Accepted, tree, read-query};
 ghost use Rattle.records.specs.Writing.Patched.{Put};
 ghost use Rattle.stepper.specs.Rules.Rules.{first-event};
 ghost use Rattle.answers.specs.Form.Answers.{all-of};
-ghost use Rattle.answers.specs.Writing.Begun.{closing-bytes};
+ghost use Rattle.answers.specs.Writing.Begun.{opening-bytes, closing-bytes};
 
-// So many bytes more than the query's record the event's has: a port, a conjunction, a goal, and two counts.
+// The event's record has so many bytes more than the query's: a port, a conjunction, a goal, and two counts.
 pub const BEGIN_MORE: usize = 7;
 
 // The place of a query's goal in its record.
-const GOAL: usize = 3;
+pub const QUERY_GOAL: usize = 3;
 
 // A call of a conjunction.
 fn put_opening(out: &mut [u8], at: usize) -> usize
     requires { ⌜ at + 2 ≤ length (now out) ⌝ }
-    ensures { λ r. ⌜ Put (now (out .entry)) at (0x01 ∷ 0x13 ∷ []) (now (out .exit)) r ⌝ }
+    ensures { λ r. ⌜ Put (now (out .entry)) at opening-bytes (now (out .exit)) r ⌝ }
 {
     let goal_at = put_byte(out, at, CALL);
     put_byte(out, goal_at, CONJ)
@@ -53,6 +52,14 @@ pub fn put_begin(query: &[u8], out: &mut [u8]) -> usize
     let n = query.len();
     let port_at = put_record_head(out, n + BEGIN_MORE);
     let goal_at = put_opening(out, port_at);
-    let end = put_range(out, goal_at, query, Range { from: GOAL, to: n });
+    let end = put_range(
+        out,
+        goal_at,
+        query,
+        Range {
+            from: QUERY_GOAL,
+            to: n,
+        },
+    );
     put_closing(out, end)
 }

@@ -8,6 +8,7 @@ use records::door::query_door;
 use records::kinds::RECORD_LIMIT;
 use records::kinds::VALUE_LIMIT;
 use records::places::places_by;
+use records::put::Receipt;
 use records::put::put_part;
 use records::questions::DONE;
 use records::questions::FITS;
@@ -21,7 +22,7 @@ use terms::tables::MOST_PAIRS;
 ghost use mathlib.Core.Bool.{true};
 ghost use mathlib.Core.List.{List};
 ghost use mathlib.Core.Path.{_≡_};
-ghost use Prim.Native.Nat.{ℕ, _≤_};
+ghost use Prim.Native.Nat.{ℕ, _+_, _≤_, _<_, _^_};
 ghost use lib.ListN.{length, take};
 ghost use Rattle.records.specs.Format.Syntax.{Goal, Definition};
 ghost use Rattle.records.specs.Gate.Door.{Trees, BothPassed};
@@ -31,9 +32,9 @@ ghost use Rattle.stepper.specs.Run.Run.{run};
 ghost use Rattle.stepper.specs.Services.Desk.{layers};
 ghost use Rattle.stepper.specs.Services.Services.{machine};
 ghost use Rattle.answers.specs.Form.Answers.{answers};
-ghost use Rattle.answers.specs.Form.NextExit.{to-next-exit};
+ghost use Rattle.answers.specs.Form.NextExit.{exit-order, to-next-exit};
 ghost use Rattle.answers.specs.Form.Service.{begin-answer, answers-record, AnswersReplied};
-ghost use Rattle.answers.specs.Writing.Listing.{exit-order, met-case, first-listing, refused-listing, RanHere, AnswerTables, ListStands, Listed, Turned};
+ghost use Rattle.answers.specs.Writing.Listing.{met-case, first-listing, stopped-listing, answered-listing, RanHere, AnswerTables, ListStands, Listed, Turned};
 
 // A query has at most so many variables: each has three bytes.
 const MOST_VARIABLES: usize = 10923;
@@ -100,6 +101,34 @@ fn run_to_exit(program: &[u8], here: &mut [u8], len: usize, steps: u32) -> RunAn
     r
 }
 
+// The list where the walk stops before another exit.
+fn stopped_listing(last: Listing, r: RunAnswer) -> Listing
+    requires { ⌜ last .taken + r .taken < 2 ^ 32 ⌝ }
+    ensures { λ x. ⌜ x ≡ stopped-listing last r ⌝ }
+{
+    Listing {
+        number: r.number,
+        written: last.written,
+        taken: last.taken + r.taken,
+        length: r.length,
+        going: false,
+    }
+}
+
+// The list behind the answer at an exit, or ended by it where it is refused.
+fn answered_listing(last: Listing, r: RunAnswer, receipt: Receipt) -> Listing
+    requires { ⌜ (last .taken + r .taken < 2 ^ 32) × (last .written + receipt .length < 2 ^ 64) ⌝ }
+    ensures { λ x. ⌜ x ≡ answered-listing last r receipt ⌝ }
+{
+    Listing {
+        number: receipt.number,
+        written: last.written + receipt.length,
+        taken: last.taken + r.taken,
+        length: r.length,
+        going: receipt.number == DONE,
+    }
+}
+
 // The next answer, if the walk comes to one: the run to the next exit, and the answer there.
 fn next_answer(
     program: &[u8],
@@ -116,22 +145,15 @@ fn next_answer(
     requires { ⌜ AnswerTables (now here) (now places) (now firsts) (now value) ⌝ }
     ensures { λ r. ⌜ ((ds : List Definition) (q : Goal) (before : List ℕ) → ListStands (now (program .entry)) ds q (now (variables .entry)) steps before last (now (here .entry)) (now (out .entry)) → Turned (now (program .entry)) ds q (now (variables .entry)) steps before last r (now (here .exit)) (now (out .exit))) ⌝ }
 {
-    let at = last.written;
     let r = run_to_exit(program, here, last.length, steps - last.taken);
-    let taken = last.taken + r.taken;
     let stop = r.stop;
-    let n = r.length;
     if !is_met(stop) {
-        return Listing {
-            number: r.number,
-            written: at,
-            taken,
-            length: n,
-            going: false,
-        };
+        return stopped_listing(last, r);
     }
+    let n = r.length;
     let parts = places_by(&here[..n], r.ends);
     let bets = parts.bets;
+    let at = last.written;
     let receipt = put_answer(
         &here[..n],
         bets.from,
@@ -142,13 +164,7 @@ fn next_answer(
         value,
         &mut out[at..],
     );
-    Listing {
-        number: receipt.number,
-        written: at + receipt.length,
-        taken,
-        length: n,
-        going: receipt.number == DONE,
-    }
+    answered_listing(last, r, receipt)
 }
 
 // All answers from where the list stands.
@@ -255,26 +271,29 @@ fn begin_answers(program: &[u8], query: &[u8], steps: u32, out: &mut [u8]) -> Li
     listed_answers(program, &table[..n], steps, len, &mut here, out)
 }
 
-// What is told where the door says no.
-fn refused_listing(number: u8) -> Listing
-    ensures { λ r. ⌜ r ≡ refused-listing number ⌝ }
-{
-    Listing {
-        number,
-        written: 0,
-        taken: 0,
-        length: 0,
-        going: false,
-    }
+// What the service tells: 0 or the number that stopped the list, the bytes written, and the steps made.
+pub struct ListAnswer {
+    pub number: u8,
+    pub written: usize,
+    pub taken: u32,
 }
 
 // The service, for every two records, every number of steps and every output.
-pub fn answers(program: &[u8], query: &[u8], steps: u32, out: &mut [u8]) -> Listing
+pub fn answers(program: &[u8], query: &[u8], steps: u32, out: &mut [u8]) -> ListAnswer
     ensures { λ r. ⌜ AnswersReplied (answers-record layers steps (now (program .entry)) (now (query .entry)) (now (out .entry))) (r .number) (r .written) (r .taken) (now (out .exit)) ⌝ }
 {
     let number = answers_door(program, query, out.len());
     if number != DONE {
-        return refused_listing(number);
+        return ListAnswer {
+            number,
+            written: 0,
+            taken: 0,
+        };
     }
-    begin_answers(program, query, steps, out)
+    let list = begin_answers(program, query, steps, out);
+    ListAnswer {
+        number: list.number,
+        written: list.written,
+        taken: list.taken,
+    }
 }

@@ -1,4 +1,5 @@
 // The variables of a query by rising number.
+use crate::begin::QUERY_GOAL;
 use records::sets::is_marked;
 use records::sets::mark;
 use records::traverse::Cursor;
@@ -6,8 +7,7 @@ use records::traverse::NodeStep;
 use records::traverse::next_node;
 use records::traverse::variables_top;
 ghost use mathlib.Core.Path.{_≡_};
-ghost use mathlib.Core.List.{List};
-ghost use Prim.Native.Nat.{ℕ, _*_, _≤_};
+ghost use Prim.Native.Nat.{_*_, _≤_};
 ghost use lib.ListN.{length};
 ghost use Rattle.records.specs.Format.Syntax.{Goal};
 ghost use Rattle.records.specs.Ends.Steps.{On, met, along};
@@ -70,7 +70,7 @@ pub fn list_variables(query: &[u8], table: &mut [usize]) -> usize
     ensures { λ r. ⌜ ((q : Goal) → read-query (now (query .entry)) ≡ tree q → Put (now (table .entry)) 0 (query-variables q) (now (table .exit)) r) ⌝ }
 {
     let goal = Cursor {
-        pos: 3,
+        pos: QUERY_GOAL,
         terms: 0,
         goals: 1,
     };

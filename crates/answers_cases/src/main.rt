@@ -7,7 +7,7 @@ mod rest;
 
 use crate::rest::LENT;
 use crate::rest::as_lent;
-use answers::service::Listing;
+use answers::service::ListAnswer;
 use answers::service::answers;
 use case_io::input::at_most;
 use case_io::input::read_field;
@@ -27,7 +27,7 @@ fn print_answers(written: &[u8]) {
     }
 }
 
-fn print_listing(ordinal: u64, listing: Listing, out: &[u8]) {
+fn print_listing(ordinal: u64, listing: ListAnswer, out: &[u8]) {
     let n = at_most(listing.written, out);
     let left = as_lent(&out[n..]);
     io::print_decimal(1, ordinal);

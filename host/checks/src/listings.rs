@@ -8,7 +8,7 @@ use twin::rules::{step, Direction};
 
 /// What a list is asked for with, or shows.
 #[derive(Clone, Copy)]
-pub enum Listing {
+pub enum Sort {
     NoSteps,
     ToAnExit,
     BeforeAnExit,
@@ -100,14 +100,14 @@ pub fn laid_out(answers: &[Answer]) -> Vec<u8> {
 }
 
 /// What a list of answers holds.
-pub fn held(answers: &[Answer]) -> Vec<Listing> {
+pub fn held(answers: &[Answer]) -> Vec<Sort> {
     let unbound = |answer: &Answer| answer.values.iter().any(|(_, term)| term.as_bytes().first() == Some(&VARIABLE));
     let equal = answers.iter().enumerate().any(|(i, one)| answers[..i].iter().any(|other| other.values == one.values));
     let holds = [
-        (Listing::Several, answers.len() > 1),
-        (Listing::Equal, equal && answers.iter().any(|answer| !answer.values.is_empty())),
-        (Listing::NoVariable, answers.iter().any(|answer| answer.values.is_empty())),
-        (Listing::Unbound, answers.iter().any(unbound)),
+        (Sort::Several, answers.len() > 1),
+        (Sort::Equal, equal && answers.iter().any(|answer| !answer.values.is_empty())),
+        (Sort::NoVariable, answers.iter().any(|answer| answer.values.is_empty())),
+        (Sort::Unbound, answers.iter().any(unbound)),
     ];
     holds.into_iter().filter(|(_, holds)| *holds).map(|(listing, _)| listing).collect()
 }

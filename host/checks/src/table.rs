@@ -3,7 +3,7 @@
 
 use crate::compare::Service;
 use crate::holders::HOLDERS;
-use crate::listings::{Listing, LISTINGS};
+use crate::listings::{Sort, LISTINGS};
 use crate::numbering::{Numbered, ENDS, PLACES, WAYS};
 use crate::rules::RULES;
 use std::fmt;
@@ -89,7 +89,7 @@ impl Table {
         self.holders[held] += 1;
     }
 
-    pub fn add_listing(&mut self, listing: Listing) {
+    pub fn add_listing(&mut self, listing: Sort) {
         self.listings[listing as usize] += 1;
     }
 

@@ -57,10 +57,10 @@ pub enum Stop {
 /// The answers of a query, one by one in the order of the walk: see [`Program::answers`].
 ///
 /// The desk keeps nothing between calls, so whoever wants more asks again from the start. The answers within fewer steps, or in a shorter output, are
-/// a front of those within more (SPECIFICATION 8.12), so those already given are passed over. The steps are doubled each time, so that all askings
-/// together cost some few times the last one, and no answer waits for a walk of more than twice the steps that lead to it, or of 1,024.
+/// a front of those within more (SPECIFICATION 9.10), so those already given are passed over. The steps are doubled each time, so that all askings
+/// together cost at most some ten times the last one, and no answer waits for a walk of more than twice the steps that lead to it, or of 1,024.
 ///
-/// The output is made longer, four times as long, only where an answer does not fit, and all before it are given, up to [`ANSWERS_ROOM`] bytes for all
+/// The output is made longer, four times as long, only where 10 is answered and all answers before that are given, up to [`ANSWERS_ROOM`] bytes for all
 /// answers together.
 #[derive(Clone, Debug)]
 pub struct Answers<'a> {

@@ -68,7 +68,8 @@ pub fn run(program: &[u8], event: &[u8], steps: u32, back: u8, out: &mut [u8], t
 }
 
 /// Every answer of a query within so many steps: 0 to 13. The answers (SPECIFICATION 8.12) are written one behind the other, those before a refused
-/// one too; `written` becomes the number of their bytes and `taken` the steps taken, both 0 where 1 to 5 or 11 to 13 refuse.
+/// one too; `written` becomes the number of their bytes and `taken` the steps taken, both 0 where 1 to 5 or 11 to 13 refuse, or 10 the first event of
+/// 'Q, fail'.
 ///
 /// ```
 /// let (program, query) = ([0, 3, 1, 0, 0], [0, 9, 1, 0x12, 1, 0, 0, 2, 0, 2, 0]);

@@ -1,10 +1,10 @@
 -- Laws of one answer: its variables are the query's, and the value of each is the one that the value service gives at the answer's exit.
-use mathlib.Core.Path.{_≡_, refl, sym, _∙_, ap}
+use mathlib.Core.Path.{_≡_, refl, ap}
 use mathlib.Core.List.{List, [], _∷_}
 use mathlib.Core.Option.{Option, none, some}
 use Prim.Native.Nat.{ℕ, _≤_}
 use Rattle.records.specs.Format.Never.{never}
-use Rattle.records.specs.Format.Syntax.{Term, var, Goal, Binding, bind, Bet, Event}
+use Rattle.records.specs.Format.Syntax.{Term, Goal, Binding, bind, Bet, Event}
 use Rattle.records.specs.Format.Formed.{All}
 use Rattle.records.specs.Gate.Door.{event-door}
 use Rattle.records.specs.Gate.DoorLaws.{room-enough}

@@ -8,7 +8,7 @@ use Prim.Native.Nat.{ℕ, zero, suc, _-_}
 use lib.ListN.{length}
 use Rattle.records.specs.Format.Syntax.{Goal, failure, conj, first, in-conj, Bet, exit, Event, event, event?}
 use Rattle.records.specs.Gate.Question.{question-number}
-use Rattle.records.specs.Gate.Reply.{through}
+use Rattle.records.specs.Gate.Reply.{Answer, through}
 use Rattle.terms.specs.Values.ValueService.{bets-of}
 use Rattle.stepper.specs.Rules.Machine.{Machine}
 use Rattle.stepper.specs.Rules.Rules.{step-forward, first-event}
@@ -58,11 +58,16 @@ a-step w = record { bytes = w .bytes; taken = suc (w .taken); number = w .number
 abbrev pub an-answer : List ℕ → Written → Written
 an-answer b w = record { bytes = b ++ w .bytes; taken = w .taken; number = w .number }
 
+-- an answer that is put to so much room: its bytes and what follows in the room behind it, or, where it is refused, nothing and its number
+unfoldable pub settled : (room : ℕ) → Answer (List ℕ) → (ℕ → Written) → Written
+unfolding through question-number
+settled room a rest = through (λ k. no-more (question-number k)) a (λ b. an-answer b (rest (room - length b)))
+
 -- what is written from an event on, with so much room left: where it is an exit of Q, its answer; an answer that is refused ends it
 unfoldable pub from-event : Goal → (room : ℕ) → Option (List Bet) → (ℕ → Written) → Written
-unfolding through question-number solution-for solution-into
+unfolding settled solution-for solution-into
 from-event q room none rest = rest room
-from-event q room (some s) rest = through (λ k. no-more (question-number k)) (solution-into room (solution q s)) (λ b. an-answer b (rest (room - length b)))
+from-event q room (some s) rest = settled room (solution-into room (solution q s)) rest
 
 -- what is written of the events of a walk that ends with the number n
 unfoldable pub written : Goal → (room : ℕ) → List Event → (n : ℕ) → Written

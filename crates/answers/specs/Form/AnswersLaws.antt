@@ -2,7 +2,7 @@
 -- stands at an exit of Q whose only ancestor is 1/Q,fail.
 use mathlib.Core.Path.{_≡_, refl, sym, _∙_, ap, subst}
 use mathlib.Core.Bool.{Bool, true, false, cond}
-use mathlib.Core.List.{List, [], _∷_, _++_}
+use mathlib.Core.List.{List, [], _∷_}
 use mathlib.Core.Logic.{ite}
 use mathlib.Core.Option.{Option, none, some}
 use native.Mathlib.Nat.{add-zero, add-suc, suc-add}
@@ -13,17 +13,17 @@ use lib.Dec.{eqb}
 use lib.ListN.{length}
 use borrow.Author.Tests.{eqb-true}
 use Rattle.records.specs.Format.Never.{never}
-use Rattle.records.specs.Format.Syntax.{Goal, failure, conj, disj, atom, first, second, Ancestor, called, in-conj, in-disj, Bet, Port, call, exit, fail, redo, Event, event, event?}
+use Rattle.records.specs.Format.Syntax.{Goal, failure, first, second, Ancestor, called, in-conj, in-disj, Bet, Port, call, exit, fail, redo, Event, event, event?}
 use Rattle.records.specs.Gate.Question.{Question, question-number}
 use Rattle.terms.specs.Values.ValueService.{bets-of}
 use Rattle.stepper.specs.Rules.Machine.{Machine, refused, gives}
-use Rattle.stepper.specs.Rules.Rules.{step, step-forward, accepted}
+use Rattle.stepper.specs.Rules.Rules.{step, step-forward}
 use Rattle.stepper.specs.Rules.AnswerLaws.{gives-accepted}
 use Rattle.stepper.specs.Walks.Walk.{forward, Reach}
-use Rattle.stepper.specs.Walks.Legal.{Solved, CalledUnder, Legal}
+use Rattle.stepper.specs.Walks.Legal.{Solved, Legal}
 use Rattle.stepper.specs.Walks.Reached.{Reached}
 use Rattle.stepper.specs.Walks.ReachedLaws.{Anything, reached-legal}
-use Rattle.stepper.specs.Run.Run.{mark, Aim, meets, Order, plain, is-full, less-room, Stop, spent, met, full, by, RunEnd, past, on-answer, run, stop-number}
+use Rattle.stepper.specs.Run.Run.{mark, meets, Order, is-full, less-room, Stop, spent, met, full, by, RunEnd, past, on-answer, run, stop-number}
 use Rattle.stepper.specs.Run.RunLaws.{Course, no-count, no-room, no-step, last-step, one-step, course}
 use Rattle.answers.specs.Form.Answers.{all-of, exit-of, exit-bets, events, events-number, Written, no-more, a-step, from-event, written, answers-from}
 use Rattle.answers.specs.Form.NextExit.{exit-aim, to-next-exit}
@@ -87,7 +87,7 @@ module _ (M : Machine) (q : Goal) where
   exit-legal g (called p ts ∷ []) s n (r, (k, (h, _), _), _, _) = never cc
   exit-legal g (a ∷ (b ∷ u)) s n l = absurd (omega arith)
 
-  -- so an event of that walk which is aimed at is told as an answer's
+  -- so an event of that walk which is aimed at is the exit of an answer
   pub met-exit : (i : ℕ) (e : Event) → Reached M (all-of q) i e → meets (some exit-aim) (mark e) ≡ true → e ≡ exit-of q (bets-of e)
   unfolding meets mark
   met-exit i (event p g u s) r h =
@@ -101,7 +101,19 @@ module _ (M : Machine) (q : Goal) where
       go redo x l n = never (sym x)
 
   -- one step of the walk
+  pub number-none : (e : Event) → events-number M zero e ≡ 0
+  unfolding events-number run stop-number
+  number-none e = refl
+
   module _ (n : ℕ) (e : Event) where
+    pub number-refused : (k : Question) → step-forward M e ≡ refused k → events-number M (suc n) e ≡ question-number k
+    unfolding events-number run is-full on-answer step stop-number
+    number-refused k h = rw h
+
+    pub number-given : (c : Event) → step-forward M e ≡ gives c → events-number M (suc n) e ≡ events-number M n c
+    unfolding events-number run is-full on-answer step meets less-room past
+    number-given c h = rw h
+
     pub answers-refused : (room : ℕ) (k : Question) → step-forward M e ≡ refused k → answers-from M q (suc n) room e ≡ no-more (question-number k)
     unfolding answers-from written events events-number run is-full on-answer step stop-number
     answers-refused room k h = rw h

@@ -2,19 +2,19 @@
 use mathlib.Core.Path.{_≡_, refl, sym, _∙_, ap, subst}
 use mathlib.Core.Bool.{Bool, true, false, cond}
 use mathlib.Core.List.{List, [], _∷_, _++_, append-nil}
-use mathlib.Core.Option.{Option, none, some}
+use mathlib.Core.Option.{none}
+use native.Mathlib.Nat.{zero-add, suc-add}
 use native.Mathlib.Omega.{arith}
-use Prim.Native.Nat.{ℕ, zero, suc, _+_, _≤_, _<_, max}
+use Prim.Native.Nat.{ℕ, zero, suc, _+_, _≤_, max}
 use lib.Dec.{eqb}
 use lib.ListN.{length, length-append}
 use borrow.Author.Tests.{ne-eqb}
-use Rattle.records.specs.Format.Never.{never}
-use Rattle.records.specs.Format.Syntax.{Terms, Goal, truth, failure, equal, conj, disj, atom, first, second, Ancestor, called, in-conj, in-disj, Bet, unifier, or, by, Port, call, exit, fail, redo, Event, event, Definition, goal?}
-use Rattle.records.specs.Format.Encode.{each, counted, ancestor-bytes, goal-bytes, bet-bytes, event-bytes, event-record}
-use Rattle.records.specs.Gate.Question.{Question}
+use Rattle.records.specs.Format.Syntax.{Terms, Goal, truth, failure, equal, conj, disj, atom, first, second, Ancestor, called, in-conj, in-disj, Bet, Port, call, exit, fail, redo, Event, event, Definition, goal?}
+use Rattle.records.specs.Format.Encode.{each, ancestor-bytes, goal-bytes, bet-bytes, event-bytes, event-record}
+use Rattle.records.specs.Gate.Question.{Question, possible, question-number}
 use Rattle.records.specs.Gate.RecordRules.{goal-variables, ancestor-variables}
 use Rattle.records.specs.Gate.Reply.{through}
-use Rattle.records.specs.Gate.ReplyLaws.{gives-injective, refused-not-gives}
+use Rattle.records.specs.Gate.ReplyLaws.{gives-injective, number-injective, refused-not-gives}
 use Rattle.records.specs.Ends.Above.{above}
 use Rattle.records.specs.Writing.EmittedLaws.{length-record-of}
 use Rattle.terms.specs.Body.Body.{next-variable, ancestors-variables, bets-variables, body}
@@ -23,10 +23,11 @@ use Rattle.terms.specs.Values.NodeBytesLaws.{each-append}
 use Rattle.stepper.specs.Rules.Machine.{Machine, StepOutcome, refused, gives}
 use Rattle.stepper.specs.Rules.AnswerLaws.{Given, given-matching}
 use Rattle.stepper.specs.Rules.ListedLaws.{rule-iff, forward-by-rule, forward-iff}
-use Rattle.stepper.specs.Rules.RefusalLaws.{ends-refused}
-use Rattle.stepper.specs.Rules.Rules.{rule, ununifiable, step-forward, first-event}
+use Rattle.stepper.specs.Rules.RefusalLaws.{ends-refused, forward-refused-iff}
+use Rattle.stepper.specs.Rules.Refusals.{AtEnd}
+use Rattle.stepper.specs.Rules.Rules.{rule, ununifiable, limited-by, step-forward, first-event}
 use Rattle.stepper.specs.Run.Run.{mark, meets}
-use Rattle.stepper.specs.Walks.Legal.{Solved, CalledUnder, Legal}
+use Rattle.stepper.specs.Walks.Legal.{CalledUnder, Legal}
 use Rattle.stepper.specs.Walks.ReachedLaws.{Anything}
 use Rattle.stepper.specs.Walks.OwnWalk.{event-on, machine-on}
 use Rattle.stepper.specs.Walks.OwnWalkLaws.{step-on}
@@ -36,9 +37,10 @@ use Rattle.stepper.specs.Walks.Inverse.{rule-good}
 use Rattle.stepper.specs.Services.Desk.{layers}
 use Rattle.stepper.specs.Services.ServiceLaws.{limit-fits, fits-limit}
 use Rattle.stepper.specs.Services.Services.{record-limit, machine}
-use Rattle.answers.specs.Form.Answers.{all-of, exit-of, exit-bets, events}
-use Rattle.answers.specs.Form.AnswersLaws.{exit-told, unmet-exit}
+use Rattle.answers.specs.Form.Answers.{all-of, exit-bets, events, events-number}
+use Rattle.answers.specs.Form.AnswersLaws.{exit-told, unmet-exit, number-none, number-refused, number-given}
 use Rattle.answers.specs.Form.Continued.{step-or-redo, continued, own-bets, with-bets, own-exits, answer-exits}
+use Rattle.answers.specs.Form.EndLaws.{record-limits, six-ends}
 
 -- an event of another port is not aimed at
 unmet-port : (n : ℕ) → cond (eqb n 1) false false ≡ false
@@ -137,7 +139,7 @@ module _ (ds : List Definition) (q : Goal) where
     inside : (d : Event) → Legal own q Anything d → Beside (event-on under [] d) d
     fail-called : (s : List Bet) → Legal own q Anything (event exit q [] s) → Beside (event call failure beside (s ++ [])) (event exit q [] s)
     fail-failed : (s : List Bet) → Legal own q Anything (event exit q [] s) → Beside (event fail failure beside (s ++ [])) (event exit q [] s)
-    over : (s : List Bet) (d : Event) → Beside (event fail (all-of q) [] s) d
+    over : (s : List Bet) → Beside (event fail (all-of q) [] (s ++ [])) (event fail q [] s)
 
   -- where the one tells an answer the other is at an exit
   same-exit : (c : Event) → Legal own q Anything c → exit-bets q (event-on under [] c) ≡ own-bets c
@@ -172,18 +174,20 @@ module _ (ds : List Definition) (q : Goal) where
       subst (Given (λ c. c ≡ event redo q under s)) (forward-by-rule M (event fail failure beside s) e h)
       (given-matching (λ c. c ≡ event redo q under s) (goal? failure failure) (event redo q under s) (λ k. refl))
 
-  -- as many exits with the same bets within n steps from e as within some number of steps of the continued walk from d
-  abbrev SameExits : ℕ → Event → Event → Type 0
+  -- The exits within n steps from e have the same bets as those within some number of steps of the continued walk from d; and where question 6 stops the
+  -- one, the other has no more of them, however far it goes on.
+  abbrev pub SameExits : ℕ → Event → Event → Type 0
   SameExits n e d = (m : ℕ) × (answer-exits q (events M n e) ≡ own-exits (continued M m d))
+      × (events-number M n e ≡ question-number possible → (k : ℕ) → own-exits (continued M (m + k) d) ≡ own-exits (continued M m d))
 
   -- one walk goes on alone, at no answer; or both do
   goes-alone : (n : ℕ) (e f d : Event) → step-forward M e ≡ gives f → exit-bets q f ≡ none → SameExits n f d → SameExits (suc n) e d
   unfolding events through
-  goes-alone n e f d h k (m, w) = (m, rw (h, k) w)
+  goes-alone n e f d h k (m, w, z) = (m, rw (h, k) w, λ i. z (sym (number-given M q n e f h) ∙ i))
 
   go-both : (n : ℕ) (e f d c : Event) → step-forward M e ≡ gives f → step-or-redo M d ≡ gives c → exit-bets q f ≡ own-bets c → SameExits n f c → SameExits (suc n) e d
   unfolding events continued through
-  go-both n e f d c h i k (m, w) = (suc m, rw (h, i, k) (ap (with-bets (own-bets c)) w))
+  go-both n e f d c h i k (m, w, z) = (suc m, rw (h, i, k) (ap (with-bets (own-bets c)) w), λ j l. rw (suc-add, i) (ap (with-bets (own-bets c)) (z (sym (number-given M q n e f h) ∙ j) l)))
 
   module _ (n : ℕ) (later : (e d : Event) → Beside e d → SameExits n e d) where
     -- at an exit of Q the walk of 'Q, fail' goes on to fail
@@ -201,7 +205,7 @@ module _ (ds : List Definition) (q : Goal) where
     from-fail s f h =
         let e = after-fail (s ++ []) f h in
         goes-alone n _ f _ h (ap (exit-bets q) e ∙ unmet-exit q (event fail (all-of q) [] (s ++ [])) refl)
-        (later f _ (subst (λ f. Beside f (event fail q [] s)) (sym e) (over (s ++ []) _)))
+        (later f _ (subst (λ f. Beside f (event fail q [] s)) (sym e) (over s)))
 
     -- inside Q both make the same step
     both-inside : (d f : Event) → Legal own q Anything d → (End q [] d → ⊥) → step-or-redo M d ≡ step-forward M d → step-forward M (event-on under [] d) ≡ gives f
@@ -241,25 +245,59 @@ module _ (ds : List Definition) (q : Goal) where
         let legal : Legal own q Anything (event redo q [] s) = (l .0, l .1, l .2, l .3, tt) in
         go-both n _ f _ (event redo q [] s) h refl (ap (exit-bets q) x ∙ unmet-exit q (event redo q under (s ++ [])) refl)
         (later f _ (subst (λ f. Beside f (event redo q [] s)) (sym x) (inside (event redo q [] s) legal)))
-    next-beside f (over s c) h = absurd (refused-not-gives (sym (ends-refused M (event fail (all-of q) [] s) tt) ∙ forward-by-rule M (event fail (all-of q) [] s) f h))
+    next-beside f (over s) h = absurd (refused-not-gives (sym (ends-refused M (event fail (all-of q) [] (s ++ [])) tt) ∙ forward-by-rule M (event fail (all-of q) [] (s ++ [])) f h))
+
+  -- an event with Q's ancestor below its own is no end of the walk
+  not-end : (p : Port) (g : Goal) (v : List Ancestor) (s : List Bet) → AtEnd (event p g (v ++ under) s) → ⊥
+  not-end call g v s w = w
+  not-end exit g [] s w = w
+  not-end exit g (a ∷ v) s w = w
+  not-end fail g [] s w = w
+  not-end fail g (a ∷ v) s w = w
+  not-end redo g v s w = w
+
+  fail-refused : (s : List Bet) → step-or-redo M (event fail q [] s) ≡ refused possible
+  unfolding step-or-redo step-forward limited-by
+  fail-refused s = rw (ends-refused M (event fail q [] s) tt)
+
+  goes-no-further : (d : Event) (p : Question) → step-or-redo M d ≡ refused p → (k : ℕ) → continued M k d ≡ []
+  unfolding continued through
+  goes-no-further d p h zero = refl
+  goes-no-further d p h (suc k) = rw h refl
+
+  -- where question 6 stops the walk of 'Q, fail', the walk of Q stands at its fail and goes no further
+  ended-exits : {e d : Event} → Beside e d → AtEnd e → (k : ℕ) → own-exits (continued M k d) ≡ []
+  ended-exits (inside (event p g v t) l) w k = absurd (not-end p g v (t ++ []) w)
+  ended-exits (fail-called s l) w k = absurd w
+  ended-exits (fail-failed s l) w k = absurd w
+  ended-exits (over s) w k = ap own-exits (goes-no-further (event fail q [] s) possible (fail-refused s) k)
+
+  six-at-end : (n : ℕ) (e : Event) (k : Question) → step-forward M e ≡ refused k → events-number M (suc n) e ≡ question-number possible → AtEnd e
+  six-at-end n e k h i =
+      let same : k ≡ possible = number-injective k possible (sym (number-refused M q n e k h) ∙ i) in
+      six-ends M record-limits e k (forward-refused-iff M e k .0 h) same
+
+  not-six : (e : Event) → events-number M zero e ≡ question-number possible → ⊥
+  unfolding question-number
+  not-six e i = omega (arith, sym (number-none M q e) ∙ i)
 
   beside-exits : (n : ℕ) (e d : Event) → Beside e d → SameExits n e d
   unfolding events continued through
-  beside-exits zero e d b = (0, refl)
+  beside-exits zero e d b = (0, refl, λ i. absurd (not-six e i))
   beside-exits (suc n) e d b = go (step-forward M e) refl (beside-exits n)
     where
       go : (a : StepOutcome) → step-forward M e ≡ a → ((e d : Event) → Beside e d → SameExits n e d) → SameExits (suc n) e d
-      go (refused k) h later = (0, rw h refl)
+      go (refused k) h later = (0, rw h refl, λ i l. rw zero-add (ended-exits b (six-at-end n e k h i) l))
       go (gives f) h later = next-beside n later f b h
 
   -- The answers of Q are told at the exits of Q's own walk, continued by redo: with the same bets, in the same order.
-  pub same-exits : (n : ℕ) → (m : ℕ) × (answer-exits q (events M n (first-event (all-of q))) ≡ own-exits (continued M m (first-event q)))
+  pub same-exits : (n : ℕ) → SameExits n (first-event (all-of q)) (first-event q)
   unfolding events continued through first-event rule meets mark
-  same-exits zero = (0, refl)
+  same-exits zero = (0, refl, λ i. absurd (not-six _ i))
   same-exits (suc n) = go (step-forward M (first-event (all-of q))) refl
     where
-      go : (a : StepOutcome) → step-forward M (first-event (all-of q)) ≡ a → (m : ℕ) × (answer-exits q (events M (suc n) (first-event (all-of q))) ≡ own-exits (continued M m (first-event q)))
-      go (refused k) h = (0, rw h refl)
+      go : (a : StepOutcome) → step-forward M (first-event (all-of q)) ≡ a → SameExits (suc n) (first-event (all-of q)) (first-event q)
+      go (refused k) h = (0, rw h refl, λ i. absurd (six-at-end n _ k h i))
       go (gives f) h =
           let x : f ≡ event call q under [] = sym (gives-injective (forward-by-rule M (first-event (all-of q)) f h)) in
           goes-alone n (first-event (all-of q)) f (first-event q) h (ap (exit-bets q) x ∙ unmet-exit q (event call q under []) refl)

@@ -1,31 +1,35 @@
 -- Laws of the end of the list: its number is 6 exactly where the walk of 'Q, fail' stands at its fail before the steps are spent.
 use mathlib.Core.Path.{_≡_, refl, sym, _∙_, ap, subst}
+use mathlib.Core.Bool.{Bool, true, false}
 use mathlib.Core.Logic.{_↔_}
 use mathlib.Core.List.{List, [], _∷_}
 use mathlib.Core.Option.{Option, none, some}
 use native.Mathlib.Nat.{zero-add, add-zero}
 use native.Mathlib.Omega.{arith}
 use Prim.Native.Nat.{ℕ, zero, suc, _+_, _-_, _<_}
+use lib.Dec.{ltb}
 use lib.ListN.{length}
 use Rattle.records.specs.Format.Never.{never}
-use Rattle.records.specs.Format.Syntax.{Goal, failure, conj, Ancestor, Bet, call, exit, fail, redo, Event, event}
+use Rattle.records.specs.Format.Syntax.{Goal, Bet, call, exit, fail, redo, Event, event}
+use Rattle.records.specs.Format.Encode.{event-record}
 use Rattle.records.specs.Gate.Question.{Question, possible, question-number}
 use Rattle.records.specs.Gate.Reply.{Answer, refused, gives, through}
 use Rattle.records.specs.Gate.ReplyLaws.{number-injective}
 use Rattle.stepper.specs.Rules.Machine.{Machine, StepOutcome}
-use Rattle.stepper.specs.Rules.Rules.{rule, limited-by, step, step-forward, first-event}
+use Rattle.stepper.specs.Rules.Rules.{limited-by, step, step-forward, first-event}
 use Rattle.stepper.specs.Rules.AnswerLaws.{gives-accepted}
 use Rattle.stepper.specs.Rules.Refusals.{AtEnd, Refusal, walk-ends, no-rule, value-too-large, local-too-large, result-refused}
 use Rattle.stepper.specs.Rules.RefusalLaws.{ends-refused, forward-refused-iff}
 use Rattle.stepper.specs.Run.Run.{mark, meets}
+use Rattle.stepper.specs.Services.Services.{record-limit, too-long}
 use Rattle.stepper.specs.Walks.Walk.{Reach}
 use Rattle.stepper.specs.Walks.Legal.{Solved, by-conj, Legal}
 use Rattle.stepper.specs.Walks.Reached.{Reached}
 use Rattle.stepper.specs.Walks.ReachedLaws.{Anything, one-event, reached-legal}
 use Rattle.answers.specs.Form.Answer.{solution, solution-into}
-use Rattle.answers.specs.Form.Answers.{all-of, exit-bets, Written, no-more, a-step, an-answer, from-event, answers-from, answers}
+use Rattle.answers.specs.Form.Answers.{all-of, exit-bets, Written, settled, from-event, answers-from, answers}
 use Rattle.answers.specs.Form.AnswersLaws.{unmet-exit, failure-unsolved, answers-refused, answers-given, answers-none}
-use Rattle.answers.specs.Form.FrontLaws.{into-refused}
+use Rattle.answers.specs.Form.ToldLaws.{into-not-six}
 
 -- the fail of 'Q, fail'
 abbrev pub failed : Goal → Event
@@ -35,28 +39,45 @@ failed q = event fail (all-of q) [] []
 abbrev pub LimitsLater : Machine → Type 0
 LimitsLater M = (e : Event) → M .result-limit e ≡ some possible → ⊥
 
+-- no limit of the desk's rules is question 6
+pub record-limits : (e : Event) → record-limit e ≡ some possible → ⊥
+unfolding record-limit too-long
+record-limits e h = go (ltb 32768 (length (event-record e))) h
+  where
+    go : (b : Bool) → too-long b ≡ some possible → ⊥
+    go true k = never cc
+    go false k = never cc
+
+-- question 6 is put at an end alone
+pub six-ends : (M : Machine) → LimitsLater M → (e : Event) (k : Question) → Refusal M e k → k ≡ possible → AtEnd e
+six-ends M limits e k (walk-ends w) h = w
+six-ends M limits e k (no-rule w n) h = never cc
+six-ends M limits e k (value-too-large n) h = never cc
+six-ends M limits e k (local-too-large n) h = never cc
+six-ends M limits e k (result-refused {d = d} r n l) h = absurd (limits d (l ∙ ap some h))
+
 -- what an event adds: where the number is 6 behind it, and where the steps behind it are such
 module _ (q : Goal) (room : ℕ) (Φ : ℕ → Type 0) where
   event-six : (o : Option (List Bet)) (f : ℕ → Written) → ((r : ℕ) → f r .number ≡ question-number possible → Φ (f r .taken))
       → from-event q room o f .number ≡ question-number possible → Φ (from-event q room o f .taken)
-  unfolding from-event through
+  unfolding from-event settled through
   event-six none f h z = h room z
   event-six (some s) f h z = go (solution-into room (solution q s)) refl z
     where
       go : (a : Answer (List ℕ)) → solution-into room (solution q s) ≡ a
-          → through (λ k. no-more (question-number k)) a (λ b. an-answer b (f (room - length b))) .number ≡ question-number possible
-          → Φ (through (λ k. no-more (question-number k)) a (λ b. an-answer b (f (room - length b))) .taken)
-      go (refused p) x y = absurd (into-refused q room s (x ∙ ap refused (number-injective p possible y)))
+          → settled room a f .number ≡ question-number possible
+          → Φ (settled room a f .taken)
+      go (refused p) x y = absurd (into-not-six q room s p x y)
       go (gives b) x y = h (room - length b) y
 
   event-ended : (o : Option (List Bet)) (f : ℕ → Written) → ((r : ℕ) → Φ (f r .taken) → f r .number ≡ question-number possible) → (Φ 0 → o ≡ none)
       → Φ (from-event q room o f .taken) → from-event q room o f .number ≡ question-number possible
-  unfolding from-event through
+  unfolding from-event settled through
   event-ended none f h none-there z = h room z
   event-ended (some s) f h none-there z = go (solution-into room (solution q s)) z
     where
-      go : (a : Answer (List ℕ)) → Φ (through (λ k. no-more (question-number k)) a (λ b. an-answer b (f (room - length b))) .taken)
-          → through (λ k. no-more (question-number k)) a (λ b. an-answer b (f (room - length b))) .number ≡ question-number possible
+      go : (a : Answer (List ℕ)) → Φ (settled room a f .taken)
+          → settled room a f .number ≡ question-number possible
       go (refused p) y = let e = none-there y in never cc
       go (gives b) y = h (room - length b) y
 
@@ -80,16 +101,8 @@ module _ (M : Machine) (limits : LimitsLater M) (q : Goal) where
       go (event fail g (a ∷ u) s) l w = absurd w
       go (event redo g u s) l w = absurd w
 
-  -- question 6 is put at an end alone
-  six-ends : (e : Event) (k : Question) → Refusal M e k → k ≡ possible → AtEnd e
-  six-ends e k (walk-ends w) h = w
-  six-ends e k (no-rule w n) h = never cc
-  six-ends e k (value-too-large n) h = never cc
-  six-ends e k (local-too-large n) h = never cc
-  six-ends e k (result-refused {d = d} r n l) h = absurd (limits d (l ∙ ap some h))
-
   refused-at-end : (i : ℕ) (e : Event) (k : Question) → Reached M (all-of q) i e → step-forward M e ≡ refused k → k ≡ possible → e ≡ failed q
-  refused-at-end i e k h r z = ended i e h (six-ends e k (forward-refused-iff M e k .0 r) z)
+  refused-at-end i e k h r z = ended i e h (six-ends M limits e k (forward-refused-iff M e k .0 r) z)
 
   -- which is no exit
   failed-none : exit-bets q (failed q) ≡ none

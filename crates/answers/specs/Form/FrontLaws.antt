@@ -2,7 +2,7 @@
 -- nothing is left to be written, so that more steps and more room change nothing.
 use mathlib.Core.Path.{_≡_, refl, sym, _∙_, ap}
 use mathlib.Core.Bool.{Bool, true, false}
-use mathlib.Core.List.{List, [], _++_, append-assoc, append-nil}
+use mathlib.Core.List.{List, [], _∷_, _++_, append-assoc, append-nil}
 use mathlib.Core.Option.{Option, none, some}
 use native.Mathlib.Nat.{suc-add}
 use native.Mathlib.Omega.{arith}
@@ -11,32 +11,40 @@ use lib.Dec.{leb}
 use lib.ListN.{length}
 use borrow.Author.Tests.{leb-true, le-leb}
 use Rattle.records.specs.Format.Never.{never}
-use Rattle.records.specs.Format.Syntax.{Goal, Binding, Bet, Event}
+use Rattle.records.specs.Format.Encode.{each}
+use Rattle.records.specs.Format.Syntax.{Goal, Bet, Event}
 use Rattle.records.specs.Gate.Question.{possible, fits, question-number}
 use Rattle.records.specs.Gate.Reply.{Answer, refused, gives, on-yes, through}
-use Rattle.records.specs.Gate.ReplyLaws.{number-injective}
+use Rattle.terms.specs.Values.NodeBytesLaws.{each-append}
 use Rattle.stepper.specs.Rules.Machine.{Machine, StepOutcome}
 use Rattle.stepper.specs.Rules.Rules.{step-forward}
-use Rattle.answers.specs.Form.Answer.{QuerySolution, solution-bytes, all-within, values-of, used-of, query-variables, solution-for, solution, solution-into}
-use Rattle.answers.specs.Form.Answers.{exit-bets, Written, no-more, a-step, an-answer, from-event, answers-from}
+use Rattle.answers.specs.Form.Answer.{QuerySolution, solution-bytes, solution, solution-into}
+use Rattle.answers.specs.Form.Answers.{exit-bets, events, events-number, Written, a-step, an-answer, settled, from-event, answers-from}
 use Rattle.answers.specs.Form.AnswersLaws.{answers-refused, answers-given, answers-none}
+use Rattle.answers.specs.Form.Told.{ToldAnswers}
+use Rattle.answers.specs.Form.ToldLaws.{into-given, into-not-six, told}
 
--- the list b begins with a
+-- b begins with a, and the rest of it is whole answers
 pub record Front (a b : List ℕ) : Type 0 where
-  pub rest : List ℕ
-  pub is : b ≡ a ++ rest
+  pub more : List QuerySolution
+  pub is : b ≡ a ++ each solution-bytes more
 
-pub front-all : (a : List ℕ) → Front [] a
-front-all a = record { rest = a; is = refl }
+-- the bytes of a list are those of whole answers
+front-all : (q : Goal) (walk : List Event) (w : Written) → ToldAnswers q walk w → Front [] (w .bytes)
+front-all q walk w t = record { more = t .found; is = t .bytes-are }
 
-front-same : (a : List ℕ) → Front a a
-front-same a = record { rest = []; is = sym (append-nil a) }
+pub front-same : (a : List ℕ) → Front a a
+front-same a = record { more = []; is = sym (append-nil a) }
 
 front-behind : (x : List ℕ) {a b : List ℕ} → Front a b → Front (x ++ a) (x ++ b)
-front-behind x {a} f = record { rest = f .rest; is = ap (x ++_) (f .is) ∙ sym (append-assoc x a (f .rest)) }
+front-behind x {a} f = record { more = f .more; is = ap (x ++_) (f .is) ∙ sym (append-assoc x a (each solution-bytes (f .more))) }
 
 pub front-front : {a b c : List ℕ} → Front a b → Front b c → Front a c
-front-front {a} f g = record { rest = f .rest ++ g .rest; is = g .is ∙ ap (_++ g .rest) (f .is) ∙ append-assoc a (f .rest) (g .rest) }
+front-front {a} f g = record {
+  more = f .more ++ g .more;
+  is = g .is ∙ ap (_++ each solution-bytes (g .more)) (f .is) ∙ append-assoc a (each solution-bytes (f .more)) (each solution-bytes (g .more))
+      ∙ ap (a ++_) (sym (each-append solution-bytes (f .more) (g .more)));
+}
 
 -- an answer that fits, fits more room too
 module _ (room more : ℕ) where
@@ -55,44 +63,36 @@ module _ (room more : ℕ) where
 
 -- what an event adds to what is written behind it
 module _ (q : Goal) where
-  -- an answer is refused by 8 or by 10, never by 6
-  pub into-refused : (room : ℕ) (s : List Bet) → solution-into room (solution q s) ≡ refused possible → ⊥
-  unfolding solution-into solution-for through on-yes
-  into-refused room s h = go (values-of s (query-variables q)) h
-    where
-      last : (b : List ℕ) (t : Bool) → on-yes fits t (gives b) ≡ refused possible → ⊥
-      last b true k = never cc
-      last b false k = never cc
-
-      go : (o : Option (List Binding)) → solution-into room (through refused (all-within o) (λ l. gives (record { values = l; used = used-of s }))) ≡ refused possible → ⊥
-      go none k = never cc
-      go (some l) k =
-          let b = solution-bytes (record { values = l; used = used-of s }) in
-          last b (leb (length b) room) k
-
   module _ (room : ℕ) where
     front-event : (o : Option (List Bet)) (f g : ℕ → Written) → ((r : ℕ) → Front (f r .bytes) (g r .bytes))
         → Front (from-event q room o f .bytes) (from-event q room o g .bytes)
-    unfolding from-event through
+    unfolding from-event settled through
     front-event none f g h = h room
     front-event (some s) f g h = go (solution-into room (solution q s))
       where
-        go : (a : Answer (List ℕ)) → Front (through (λ k. no-more (question-number k)) a (λ b. an-answer b (f (room - length b))) .bytes)
-            (through (λ k. no-more (question-number k)) a (λ b. an-answer b (g (room - length b))) .bytes)
+        go : (a : Answer (List ℕ)) → Front (settled room a f .bytes)
+            (settled room a g .bytes)
         go (refused k) = front-same []
         go (gives b) = front-behind b (h (room - length b))
 
     -- with more room
-    roomier-event : (more : ℕ) (o : Option (List Bet)) (f : ℕ → Written) → ((r : ℕ) → Front (f r .bytes) (f (r + more) .bytes))
+    roomier-event : (more : ℕ) (o : Option (List Bet)) (f : ℕ → Written) → ((r : ℕ) → Front (f r .bytes) (f (r + more) .bytes)) → ((r : ℕ) → Front [] (f r .bytes))
         → Front (from-event q room o f .bytes) (from-event q (room + more) o f .bytes)
-    unfolding from-event through
-    roomier-event more none f h = h room
-    roomier-event more (some s) f h = go (solution-into room (solution q s)) refl
+    unfolding from-event settled through
+    roomier-event more none f h all = h room
+    roomier-event more (some s) f h all = go (solution-into room (solution q s)) refl
       where
         go : (a : Answer (List ℕ)) → solution-into room (solution q s) ≡ a
-            → Front (through (λ k. no-more (question-number k)) a (λ b. an-answer b (f (room - length b))) .bytes)
-            (through (λ k. no-more (question-number k)) (solution-into (room + more) (solution q s)) (λ b. an-answer b (f (room + more - length b))) .bytes)
-        go (refused k) e = front-all _
+            → Front (settled room a f .bytes)
+            (settled (room + more) (solution-into (room + more) (solution q s)) f .bytes)
+        go (refused k) e = wider (solution-into (room + more) (solution q s)) refl
+          where
+            wider : (a : Answer (List ℕ)) → solution-into (room + more) (solution q s) ≡ a → Front [] (settled (room + more) a f .bytes)
+            wider (refused l) i = front-same []
+            wider (gives b) i =
+                let (x, j, k) = into-given (room + more) (solution q s) b i in
+                let rest = all (room + more - length b) in
+                record { more = x ∷ rest .more; is = ap (b ++_) (rest .is) ∙ ap (_++ each solution-bytes (rest .more)) k }
         go (gives b) e =
             let (i, n) = into-more room more (solution q s) b e in
             let less : room + more - length b ≡ room - length b + more = omega arith in
@@ -101,24 +101,28 @@ module _ (q : Goal) where
     -- where the number is 6 behind it
     whole-event : (more : ℕ) (o : Option (List Bet)) (f g : ℕ → Written) → ((r : ℕ) → f r .number ≡ question-number possible → g (r + more) ≡ f r)
         → from-event q room o f .number ≡ question-number possible → from-event q (room + more) o g ≡ from-event q room o f
-    unfolding from-event through
+    unfolding from-event settled through
     whole-event more none f g h z = h room z
     whole-event more (some s) f g h z = go (solution-into room (solution q s)) refl z
       where
         go : (a : Answer (List ℕ)) → solution-into room (solution q s) ≡ a
-            → through (λ k. no-more (question-number k)) a (λ b. an-answer b (f (room - length b))) .number ≡ question-number possible
-            → through (λ k. no-more (question-number k)) (solution-into (room + more) (solution q s)) (λ b. an-answer b (g (room + more - length b)))
-            ≡ through (λ k. no-more (question-number k)) a (λ b. an-answer b (f (room - length b)))
-        go (refused p) e y = absurd (into-refused room s (e ∙ ap refused (number-injective p possible y)))
+            → settled room a f .number ≡ question-number possible
+            → settled (room + more) (solution-into (room + more) (solution q s)) g
+            ≡ settled room a f
+        go (refused p) e y = absurd (into-not-six q room s p e y)
         go (gives b) e y =
             let (i, n) = into-more room more (solution q s) b e in
             let less : room + more - length b ≡ room - length b + more = omega arith in
             rw (i, less) (ap (an-answer b) (h (room - length b) y))
 
 module _ (M : Machine) (q : Goal) where
+  pub whole-answers : (n room : ℕ) (e : Event) → Front [] (answers-from M q n room e .bytes)
+  unfolding answers-from
+  whole-answers n room e = front-all q (events M n e) _ (told q (events-number M n e) room (events M n e))
+
   -- Within more steps there are the same answers, and perhaps others behind them;
   pub front-steps : (n more room : ℕ) (e : Event) → Front (answers-from M q n room e .bytes) (answers-from M q (n + more) room e .bytes)
-  front-steps zero more room e = rw (answers-none M q e room) (front-all _)
+  front-steps zero more room e = rw (answers-none M q e room) (whole-answers (zero + more) room e)
   front-steps (suc n) more room e = rw suc-add (go (step-forward M e) refl (front-steps n more))
     where
       go : (a : StepOutcome) → step-forward M e ≡ a → ((room : ℕ) (e : Event) → Front (answers-from M q n room e .bytes) (answers-from M q (n + more) room e .bytes))
@@ -129,14 +133,14 @@ module _ (M : Machine) (q : Goal) where
 
   -- and so there are in more room.
   pub front-room : (n room more : ℕ) (e : Event) → Front (answers-from M q n room e .bytes) (answers-from M q n (room + more) e .bytes)
-  front-room zero room more e = rw (answers-none M q e room) (front-all _)
+  front-room zero room more e = rw (answers-none M q e room) (whole-answers zero (room + more) e)
   front-room (suc n) room more e = go (step-forward M e) refl (λ r c. front-room n r more c)
     where
       go : (a : StepOutcome) → step-forward M e ≡ a → ((r : ℕ) (c : Event) → Front (answers-from M q n r c .bytes) (answers-from M q n (r + more) c .bytes))
           → Front (answers-from M q (suc n) room e .bytes) (answers-from M q (suc n) (room + more) e .bytes)
       go (refused k) h f = rw (answers-refused M q n e room k h, answers-refused M q n e (room + more) k h) (front-same _)
       go (gives c) h f =
-          rw (answers-given M q n e room c h, answers-given M q n e (room + more) c h) (roomier-event q room more (exit-bets q c) _ (λ r. f r c))
+          rw (answers-given M q n e room c h, answers-given M q n e (room + more) c h) (roomier-event q room more (exit-bets q c) _ (λ r. f r c) (λ r. whole-answers n r c))
 
   -- Where the number is 6, more steps and more room change nothing.
   pub whole-list : (n more room wider : ℕ) (e : Event) → answers-from M q n room e .number ≡ question-number possible

@@ -1,8 +1,7 @@
 -- Laws of the service of the answers: what passes its door, and what a reply keeps.
-use mathlib.Core.Path.{_≡_, refl, sym, _∙_, ap}
+use mathlib.Core.Path.{_≡_, refl, _∙_, ap}
 use mathlib.Core.Bool.{Bool, true, false}
-use mathlib.Core.List.{List, [], _++_}
-use mathlib.Core.Option.{some}
+use mathlib.Core.List.{List, []}
 use Prim.Native.Nat.{ℕ, _≤_, _<_}
 use lib.Dec.{ltb, leb}
 use lib.ListN.{length, take, drop}
@@ -16,7 +15,7 @@ use Rattle.records.specs.Gate.Gate.{Reading, tree, read-program, read-query}
 use Rattle.records.specs.Gate.Door.{Trees, program-door, event-door, door, with-room, gate}
 use Rattle.records.specs.Gate.DoorLaws.{gate-both, gate-gives}
 use Rattle.records.specs.Gate.Question.{Question, possible, question-number}
-use Rattle.records.specs.Gate.Reply.{Answer, refused, gives, on-yes, through, answer-number, reply-with}
+use Rattle.records.specs.Gate.Reply.{refused, gives, on-yes, through, answer-number, reply-with}
 use Rattle.records.specs.Gate.ReplyLaws.{number-refuses, through-gives, refused-not-gives}
 use Rattle.stepper.specs.Rules.Rules.{first-event, limited-by, fitting}
 use Rattle.stepper.specs.Services.Desk.{layers}
@@ -65,15 +64,6 @@ pub begin-more : {A : Type 0} (p : Reading A) (r : Reading Goal) (room wider : �
     → begin-answer p r wider ≡ gives t
 begin-more p r room wider h k = let (i, j, n, l) = begin-gives p r room h in begin-given p r wider (gate-both p r i j (omega arith)) l
 
--- no limit of the desk's rules is question 6
-pub record-limits : (e : Event) → record-limit e ≡ some possible → ⊥
-unfolding record-limit too-long
-record-limits e h = go (ltb 32768 (length (event-record e))) h
-  where
-    go : (b : Bool) → too-long b ≡ some possible → ⊥
-    go true k = never cc
-    go false k = never cc
-
 -- the door never says 6
 pub begin-never-six : {A : Type 0} (p : Reading A) (r : Reading Goal) (room : ℕ) → begin-answer p r room ≡ refused possible → ⊥
 unfolding begin-answer gate door program-door event-door with-room on-yes through fitting-event limited-by fitting record-limit too-long
@@ -90,15 +80,15 @@ begin-never-six (tree a) (tree q) room h = output-asked (leb 32768 room) refl
     output-asked false e = let z = rw e at h in never cc
 
 -- the bytes that a reply keeps: as many as it says are written, from the start of the output
-abbrev pub kept : AnswersReply → List ℕ
-kept r = take (r .written) (r .output)
+abbrev pub kept-answers : AnswersReply → List ℕ
+kept-answers r = take (r .written) (r .output)
 
 -- a reply where the door says no, and one where it gives trees
 module _ (n : ℕ) (program query out : List ℕ) where
   abbrev reply : AnswersReply
   reply = answers-record layers n program query out
 
-  pub kept-nothing : {k : Question} → begin-answer (read-program program) (read-query query) (length out) ≡ refused k → (kept reply ≡ []) × (reply .number ≡ question-number k)
+  pub kept-nothing : {k : Question} → begin-answer (read-program program) (read-query query) (length out) ≡ refused k → (kept-answers reply ≡ []) × (reply .number ≡ question-number k)
   unfolding answers-record answers-reply answers-answer through
   kept-nothing h = rw h (refl, refl)
 
@@ -106,7 +96,7 @@ module _ (n : ℕ) (program query out : List ℕ) where
     abbrev list : Written
     list = answers (machine layers (t .program)) (t .event) n (length out)
 
-    pub kept-bytes : kept reply ≡ list .bytes
+    pub kept-bytes : kept-answers reply ≡ list .bytes
     unfolding answers-record answers-reply answers-answer through reply-with
     kept-bytes = rw h (take-append-seam (list .bytes) (drop (length (list .bytes)) out))
 

@@ -1,7 +1,6 @@
 -- What a list of answers says of the walk: which answers it has, and at which of the walk's exits each is told.
 use mathlib.Core.Path.{_≡_}
 use mathlib.Core.List.{List, [], _∷_, _++_}
-use Prim.Native.Nat.{ℕ}
 use Rattle.records.specs.Format.Encode.{each}
 use Rattle.records.specs.Format.Syntax.{Goal, Bet, Event}
 use Rattle.records.specs.Gate.Reply.{gives}
@@ -16,12 +15,13 @@ ToldAt q [] (x ∷ xs) = ⊥
 ToldAt q (s ∷ ss) [] = ⊥
 ToldAt q (s ∷ ss) (x ∷ xs) = (solution q s ≡ gives x) × ToldAt q ss xs
 
--- what is written of a walk: the bytes of its answers, told at its first exits one after another, and at all of them where the number is 6
-pub record Told (q : Goal) (walk : List Event) (w : Written) : Type 0 where
+-- what is written of a walk: the bytes of its answers, told at its exits one after another from the first on, and at all of them unless 8 or 10 refused
+-- something
+pub record ToldAnswers (q : Goal) (walk : List Event) (w : Written) : Type 0 where
   pub found : List QuerySolution
   pub exits : List (List Bet)
   pub later : List (List Bet)
   pub bytes-are : w .bytes ≡ each solution-bytes found
   pub exits-are : answer-exits q walk ≡ exits ++ later
   pub told : ToldAt q exits found
-  pub all-told : w .number ≡ 6 → later ≡ []
+  pub all-told : (w .number ≡ 8 → ⊥) → (w .number ≡ 10 → ⊥) → later ≡ []

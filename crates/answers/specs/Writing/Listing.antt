@@ -4,11 +4,13 @@ use mathlib.Core.Path.{_≡_}
 use mathlib.Core.Bool.{Bool, true, false, cond}
 use mathlib.Core.List.{List, _++_}
 use Prim.Native.Nat.{ℕ, suc, _+_, _-_, _*_, _≤_, _<_}
+use lib.Dec.{eqb}
 use lib.ListN.{length, take}
 use Rattle.records.specs.Format.Syntax.{Goal, Event, Definition}
 use Rattle.records.specs.Format.Formed.{All}
 use Rattle.records.specs.Gate.Gate.{tree, read-program, read-event}
 use Rattle.records.specs.Writing.Patched.{Put}
+use Rattle.records.specs.declared.put.Receipt.{Receipt}
 use Rattle.terms.specs.Theory.Outcome.{value-limit}
 use Rattle.stepper.specs.Run.Run.{RunEnd}
 use Rattle.stepper.specs.Run.RunLoop.{Tells}
@@ -16,16 +18,11 @@ use Rattle.stepper.specs.Services.Desk.{layers}
 use Rattle.stepper.specs.Services.Services.{machine}
 use Rattle.stepper.specs.Walks.Reached.{Reached}
 use Rattle.stepper.specs.declared.run.RunAnswer.{RunAnswer}
-use Rattle.stepper.specs.declared.run.RunOrder.{RunOrder}
 use Rattle.stepper.specs.declared.run.RunStop.{RunStop}
 use Rattle.stepper.specs.declared.run.RunStop.the-variants.{Spent, Met, Full, Refused}
 use Rattle.answers.specs.Form.Answer.{query-variables}
 use Rattle.answers.specs.Form.Answers.{all-of, Written, answers-from, answers}
 use Rattle.answers.specs.declared.service.Listing.{Listing}
-
--- forward to the next exit with one ancestor, in code
-abbrev pub exit-order : RunOrder
-exit-order = record { back = false; aimed = true; aim = record { call = false; exit = true; fail = false; redo = false; ancestors = 1 }; logged = false }
 
 abbrev pub met-case : RunStop → Bool
 met-case Spent = false
@@ -33,12 +30,22 @@ met-case Met = true
 met-case Full = false
 met-case Refused = false
 
--- the list before the first answer, and one that the door refuses
+-- the list before the first answer
 abbrev pub first-listing : ℕ → Listing
 first-listing len = record { number = 0; written = 0; taken = 0; length = len; going = true }
 
-abbrev pub refused-listing : ℕ → Listing
-refused-listing n = record { number = n; written = 0; taken = 0; length = 0; going = false }
+-- where the walk stops before another exit, and where it comes to one
+abbrev pub stopped-listing : Listing → RunAnswer → Listing
+stopped-listing last r = record { number = r .number; written = last .written; taken = last .taken + r .taken; length = r .length; going = false }
+
+abbrev pub answered-listing : Listing → RunAnswer → Receipt → Listing
+answered-listing last r x = record {
+  number = x .number;
+  written = last .written + x .length;
+  taken = last .taken + r .taken;
+  length = r .length;
+  going = eqb (x .number) 0;
+}
 
 -- a run's end whose record is left at the front of a buffer
 pub record RanHere (end : RunEnd) (r : RunAnswer) (before here : List ℕ) : Type 0 where
@@ -83,16 +90,16 @@ pub record Listed (w : Written) (before : List ℕ) (p : Listing) (out : List �
   pub put : Put before 0 (w .bytes) out (p .written)
   pub room : length (w .bytes) ≤ length before
 
--- an answer later: the list goes on, at a later event, or it is written
-pub record Turned (program : List ℕ) (ds : List Definition) (q : Goal) (variables : List ℕ) (steps : ℕ) (before : List ℕ) (last p : Listing) (here out : List ℕ) : Type 0 where
-  pub on : p .going ≡ true → ListStands program ds q variables steps before p here out × (last .taken < p .taken)
-  pub done : p .going ≡ false → Listed (answers (machine layers ds) q steps (length before)) before p out
-
 -- between two turns: the list goes on from where it stands, or it is written
 abbrev pub ListState : (program : List ℕ) → List Definition → Goal → (variables : List ℕ) → ℕ → (before : List ℕ) → Listing → (here out : List ℕ) → Type 0
 ListState program ds q variables steps before p here out =
     (p .going ≡ true → ListStands program ds q variables steps before p here out)
     × (p .going ≡ false → Listed (answers (machine layers ds) q steps (length before)) before p out)
+
+-- an answer later: the list goes on, at a later event, or it is written
+pub record Turned (program : List ℕ) (ds : List Definition) (q : Goal) (variables : List ℕ) (steps : ℕ) (before : List ℕ) (last p : Listing) (here out : List ℕ) : Type 0 where
+  pub state : ListState program ds q variables steps before p here out
+  pub later : p .going ≡ true → last .taken < p .taken
 
 -- how many turns are left at most
 abbrev pub turns-left : ℕ → Listing → ℕ

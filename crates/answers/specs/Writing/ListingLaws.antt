@@ -1,6 +1,6 @@
 -- Laws of the list of answers: a run to the next exit that stops before one ends the list, and one that comes to an exit adds its answer, or ends the list
 -- where the answer is refused.
-use mathlib.Core.Path.{_≡_, refl, sym, _∙_, ap, subst}
+use mathlib.Core.Path.{_≡_, refl, sym, _∙_, ap}
 use mathlib.Core.Bool.{Bool, true, false, cond}
 use mathlib.Core.List.{List, [], _∷_, _++_, append-nil, append-assoc}
 use native.Mathlib.Nat.{zero-add, add-zero}
@@ -11,10 +11,10 @@ use lib.ListN.{length, take, drop, length-append, length-take, length-drop}
 use lib.Seq.{length-take-le}
 use borrow.Author.Tests.{eqb-true, eq-eqb}
 use Rattle.records.specs.Format.Never.{never}
-use Rattle.records.specs.Format.Syntax.{Goal, Bet, Event, Definition}
+use Rattle.records.specs.Format.Syntax.{Goal, Bet, Definition}
 use Rattle.records.specs.Format.Encode.{event-record}
 use Rattle.records.specs.Format.HeadLaws.{Known, bytes-all}
-use Rattle.records.specs.Gate.Gate.{tree, read-event}
+use Rattle.records.specs.Gate.Gate.{read-event}
 use Rattle.records.specs.Gate.Door.{BothPassed}
 use Rattle.records.specs.Gate.Question.{Question, question-number}
 use Rattle.records.specs.Gate.Reply.{Answer, refused, gives, through, answer-number, answer-length, reply-with, Receipted}
@@ -25,21 +25,20 @@ use Rattle.records.specs.declared.put.Receipt.{Receipt}
 use Rattle.terms.specs.Values.ValueService.{bets-of}
 use Rattle.stepper.specs.Rules.Machine.{Machine}
 use Rattle.stepper.specs.Run.Run.{Order, Stop, spent, met, full, by, RunEnd, run, stop-number}
-use Rattle.stepper.specs.Run.RunLoop.{stop-case, Tells, RanTo}
+use Rattle.stepper.specs.Run.RunLoop.{RanTo}
 use Rattle.stepper.specs.Run.RunLaws.{run-within}
 use Rattle.stepper.specs.Run.RunServiceLaws.{run-recordable}
 use Rattle.stepper.specs.Services.Desk.{layers}
 use Rattle.stepper.specs.Services.DeskLaws.{lawful}
 use Rattle.stepper.specs.Services.ServiceLaws.{limit-fits, read-recordable}
 use Rattle.stepper.specs.Services.Services.{Program, machine}
-use Rattle.stepper.specs.Walks.Reached.{Reached}
 use Rattle.stepper.specs.declared.run.RunAnswer.{RunAnswer}
 use Rattle.answers.specs.Form.Answer.{query-variables, solution-for, solution-into}
-use Rattle.answers.specs.Form.Answers.{all-of, Written, no-more, an-answer, from-event, answers-from, answers}
+use Rattle.answers.specs.Form.Answers.{Written, no-more, an-answer, settled, from-event, answers-from, answers}
 use Rattle.answers.specs.Form.FrontLaws.{into-more}
 use Rattle.answers.specs.Form.NextExit.{to-next-exit}
 use Rattle.answers.specs.Form.AnswersLaws.{steps-before, at-stop, answers-of-run, run-reached, met-steps}
-use Rattle.answers.specs.Writing.Listing.{met-case, RanHere, behind, ListStands, Listed, Turned, turns-left}
+use Rattle.answers.specs.Writing.Listing.{met-case, stopped-listing, answered-listing, RanHere, behind, ListStands, Listed, Turned, turns-left}
 use Rattle.answers.specs.declared.service.Listing.{Listing}
 
 -- the front of a slice is known as the slice is
@@ -142,21 +141,26 @@ module _ {program : List ℕ} {ds : List Definition} {q : Goal} {variables : Lis
     taken-small = omega (arith, ran .tells .taken-is, ahead-within, g .within)
 
     -- the walk stops before the next exit
-    pub listed-stop : {p : Listing} → met-case (r .stop) ≡ false → p .number ≡ r .number → p .taken ≡ last .taken + r .taken → p .written ≡ last .written
-        → Listed (answers M q steps (length before)) before p out
+    listed-stop : met-case (r .stop) ≡ false → Listed (answers M q steps (length before)) before (stopped-listing last r) out
     unfolding at-stop stop-number
-    listed-stop {p} m a b c = go (ahead .why) refl
+    listed-stop m = go (ahead .why) refl
       where
+        p : Listing
+        p = stopped-listing last r
+
         whole : (n : ℕ) → at-stop M q (ahead .why) (left - ahead .taken) room-left (ahead .event) ≡ no-more n → n ≡ stop-number (ahead .why)
             → Listed (answers M q steps (length before)) before p out
         whole n e i =
-            list-ends p (ahead .taken) n out (list-ahead ∙ ap (λ w. behind (g .kept) (last .taken) (steps-before (ahead .taken) w)) e) (a ∙ ran .tells .number-is ∙ sym i) (b ∙ ap (λ t. last .taken + t) (ran .tells .taken-is)) c refl
+            list-ends p (ahead .taken) n out (list-ahead ∙ ap (λ w. behind (g .kept) (last .taken) (steps-before (ahead .taken) w)) e) (ran .tells .number-is ∙ sym i) (ap (λ t. last .taken + t) (ran .tells .taken-is)) refl refl
 
         go : (s : Stop) → ahead .why ≡ s → Listed (answers M q steps (length before)) before p out
         go spent e = whole 0 (rw e refl) (rw e refl)
         go met e = never (rw (ran .tells .stop-is, e) at m)
         go full e = whole 0 (rw e refl) (rw e refl)
         go (by k) e = whole (question-number k) (rw e refl) (rw e refl)
+
+    pub turned-stop : {p : Listing} → p ≡ stopped-listing last r → met-case (r .stop) ≡ false → Turned program ds q variables steps before last p here′ out
+    turned-stop e m = rw e (record { state = (λ t. never (sym t), λ t. listed-stop m); later = λ t. never (sym t) })
 
     module _ (m : met-case (r .stop) ≡ true) where
       is-met : ahead .why ≡ met
@@ -179,14 +183,14 @@ module _ {program : List ℕ} {ds : List Definition} {q : Goal} {variables : Lis
       -- it is refused,
       list-refused : (k : Question) → here-answer ≡ refused k
           → answers M q steps (length before) ≡ behind (g .kept) (last .taken) (steps-before (ahead .taken) (no-more (question-number k)))
-      unfolding at-stop from-event through
+      unfolding at-stop from-event settled through
       list-refused k e = list-ahead ∙ rw (is-met, e) refl
 
       -- or its bytes are written
       list-given : (b : List ℕ) → here-answer ≡ gives b
           → answers M q steps (length before)
           ≡ behind (g .kept) (last .taken) (steps-before (ahead .taken) (an-answer b (answers-from M q (left - ahead .taken) (room-left - length b) (ahead .event))))
-      unfolding at-stop from-event through
+      unfolding at-stop from-event settled through
       list-given b e = list-ahead ∙ rw (is-met, e) refl
 
       -- the answer, put to the tail of the output behind what is kept
@@ -215,48 +219,56 @@ module _ {program : List ℕ} {ds : List Definition} {q : Goal} {variables : Lis
                 omega (arith, size, fits, g .put .place, put-length (g .put), g .room)
 
         -- the list goes on behind it, or ends with it
-        pub turned : {p : Listing} → p .number ≡ receipt .number → p .written ≡ at + receipt .length → p .taken ≡ last .taken + r .taken → p .length ≡ r .length
-            → p .going ≡ eqb (receipt .number) 0 → Turned program ds q variables steps before last p here′ after
+        answered : Turned program ds q variables steps before last (answered-listing last r receipt) here′ after
         unfolding answer-number answer-length reply-with
-        turned {p} i j k l m = go a refl
+        answered = go a refl
           where
-            go : (x : Answer (List ℕ)) → a ≡ x → Turned program ds q variables steps before last p here′ after
+            p : Listing
+            p = answered-listing last r receipt
+
+            go : (x : Answer (List ℕ)) → a ≡ x → Turned program ds q variables steps before last (answered-listing last r receipt) here′ after
             go (refused z) e =
                 let number : receipt .number ≡ question-number z = rw e at (w .number-is) in
                 let none : receipt .length ≡ 0 = rw e at (w .length-is) in
+                let ends : (receipt .number ≡ 0) → ⊥ = λ t. number-positive z (sym number ∙ t) in
+                let over : eqb (receipt .number) 0 ≡ true → ⊥ = λ t. ends (eqb-true (receipt .number) 0 t) in
                 record {
-                  on = λ t. absurd (number-positive z (sym number ∙ eqb-true (receipt .number) 0 (sym m ∙ t)));
-                  done = λ t.
-                      list-ends p (ahead .taken) (question-number z) after (list-refused z (sym is ∙ e)) (i ∙ number) (k ∙ ap (λ t. last .taken + t) (ran .tells .taken-is)) (omega arith) (unwritten (rw e at (w .output-is)));
+                  state = (
+                    λ t. absurd (over t),
+                    λ t.
+                        list-ends p (ahead .taken) (question-number z) after (list-refused z (sym is ∙ e)) number (ap (λ t. last .taken + t) (ran .tells .taken-is)) (omega arith) (unwritten (rw e at (w .output-is))),
+                  );
+                  later = λ t. absurd (over t);
                 }
             go (gives b) e =
                 let number : receipt .number ≡ 0 = rw e at (w .number-is) in
                 let size : receipt .length ≡ length b = rw e at (w .length-is) in
                 let fits = into-more room-left 0 (solution-for (query-variables q) (bets-of (ahead .event))) b (sym is ∙ e) .1 in
-                let steps-is : p .taken ≡ last .taken + ahead .taken = k ∙ ap (λ t. last .taken + t) (ran .tells .taken-is) in
+                let steps-is : p .taken ≡ last .taken + ahead .taken = ap (λ t. last .taken + t) (ran .tells .taken-is) in
                 let fewer : left - ahead .taken ≡ steps - p .taken = omega (arith, steps-is) in
                 let smaller : room-left - length b ≡ length before - length (g .kept ++ b) = omega (arith, length-append (g .kept) b) in
+                let stands : ListStands program ds q variables steps before p here′ after = record {
+                  program-reads = g .program-reads;
+                  variables-are = g .variables-are;
+                  variables-few = g .variables-few;
+                  variables-small = g .variables-small;
+                  event = ahead .event;
+                  reached = rw steps-is (run-reached M q to-next-exit refl left (last .taken) (g .event) (g .reached));
+                  reads = ran .reads;
+                  inside = ran .inside;
+                  within = taken-small;
+                  kept = g .kept ++ b;
+                  put = rw size (given-put b e fits);
+                  room = omega (arith, length-append (g .kept) b, g .room);
+                  rest = list-given b (sym is ∙ e) ∙ regrouped (g .kept) b (last .taken) (ahead .taken) _ ∙ rw (fewer, smaller, ← steps-is) refl;
+                } in
                 record {
-                  on = λ t. (
-                    record {
-                      program-reads = g .program-reads;
-                      variables-are = g .variables-are;
-                      variables-few = g .variables-few;
-                      variables-small = g .variables-small;
-                      event = ahead .event;
-                      reached = rw steps-is (run-reached M q to-next-exit refl left (last .taken) (g .event) (g .reached));
-                      reads = rw l (ran .reads);
-                      inside = rw l (ran .inside);
-                      within = rw k taken-small;
-                      kept = g .kept ++ b;
-                      put = rw (j, size) (given-put b e fits);
-                      room = omega (arith, length-append (g .kept) b, g .room);
-                      rest = list-given b (sym is ∙ e) ∙ regrouped (g .kept) b (last .taken) (ahead .taken) _ ∙ rw (fewer, smaller, ← steps-is) refl;
-                    },
-                    omega (arith, steps-is, met-steps M q to-next-exit left (g .event) is-met),
-                  );
-                  done = λ t. never (sym (eq-eqb (receipt .number) 0 number) ∙ sym m ∙ t);
+                  state = (λ t. stands, λ t. never (sym (eq-eqb (receipt .number) 0 number) ∙ t));
+                  later = λ t. omega (arith, steps-is, met-steps M q to-next-exit left (g .event) is-met);
                 }
+
+        pub turned : {p : Listing} → p ≡ answered-listing last r receipt → Turned program ds q variables steps before last p here′ after
+        turned e = rw e answered
 
 -- an answer later fewer turns are left
 pub turned-less : {program : List ℕ} {ds : List Definition} {q : Goal} {variables : List ℕ} {steps : ℕ} {before : List ℕ} {last p : Listing} {here out : List ℕ}
@@ -264,5 +276,5 @@ pub turned-less : {program : List ℕ} {ds : List Definition} {q : Goal} {variab
 turned-less {steps = steps} {last = last} {p} h t = rw h (go (p .going) refl)
   where
     go : (b : Bool) → p .going ≡ b → cond b (suc (steps - p .taken)) 0 < suc (steps - last .taken)
-    go true e = omega (arith, t .on e .1, t .on e .0 .within)
+    go true e = omega (arith, t .later e, t .state .0 e .within)
     go false e = omega arith

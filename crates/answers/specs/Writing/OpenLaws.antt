@@ -1,29 +1,25 @@
 -- Laws of the answers' door in code: which number it says, the list before the first answer, and the reply.
-use mathlib.Core.Path.{_≡_, refl, sym, _∙_, ap}
-use mathlib.Core.Bool.{Bool, true, false}
+use mathlib.Core.Path.{_≡_, refl, _∙_, ap}
 use mathlib.Core.List.{List, []}
 use native.Mathlib.Nat.{zero-add}
 use native.Mathlib.Omega.{arith}
-use Prim.Native.Nat.{ℕ, zero, _+_, _-_, _*_, _≤_, _<_}
-use lib.Dec.{ltb}
-use lib.ListN.{length, take, drop, length-append}
-use borrow.Author.Tests.{lt-ltb, le-ltb, ltb-false}
-use Rattle.records.specs.Format.Syntax.{Goal, Event, Definition}
-use Rattle.records.specs.Format.Encode.{goal-bytes, event-bytes, event-record}
+use Prim.Native.Nat.{ℕ, _+_, _-_, _*_, _≤_, _<_}
+use lib.ListN.{length, take}
+use Rattle.records.specs.Format.Syntax.{Goal, Definition}
+use Rattle.records.specs.Format.Encode.{event-record}
 use Rattle.records.specs.Format.HeadLaws.{Known, bytes-all}
 use Rattle.records.specs.Gate.Gate.{Reading, tree, read-program, read-query, read-event}
 use Rattle.records.specs.Gate.GateLaws.{query-tree, event-read}
 use Rattle.records.specs.Gate.Door.{Trees, door, gate}
 use Rattle.records.specs.Gate.DoorLaws.{gate-gives, number-open}
-use Rattle.records.specs.Gate.Question.{fits, question-number}
-use Rattle.records.specs.Gate.Reply.{Answer, refused, gives, through, answer-number, reply-with}
-use Rattle.records.specs.Gate.ReplyLaws.{number-refuses, number-gives, through-gives, refused-not-gives}
+use Rattle.records.specs.Gate.Reply.{gives, through, answer-number, reply-with}
+use Rattle.records.specs.Gate.ReplyLaws.{number-refuses, number-gives}
 use Rattle.records.specs.Gate.RecordRules.{event-rules}
 use Rattle.records.specs.Writing.Patched.{Put}
 use Rattle.records.specs.Writing.PatchedLaws.{put-none, put-length, put-front}
-use Rattle.stepper.specs.Rules.Rules.{first-event, limited-by, fitting}
+use Rattle.stepper.specs.Rules.Rules.{first-event}
 use Rattle.stepper.specs.Services.Desk.{layers}
-use Rattle.stepper.specs.Services.Services.{machine, record-limit, too-long}
+use Rattle.stepper.specs.Services.Services.{machine}
 use Rattle.stepper.specs.Walks.Walk.{Reach}
 use Rattle.answers.specs.Form.Answer.{query-variables}
 use Rattle.answers.specs.Form.Answers.{all-of, answers}

@@ -1,24 +1,22 @@
 -- Laws of an answer: how long it is, its parts written one after the other, and each of the ways it is delivered.
 use mathlib.Core.Path.{_≡_, refl, sym, _∙_, ap}
-use mathlib.Core.List.{List, [], _∷_, _++_, append-assoc}
+use mathlib.Core.List.{List, [], _∷_}
 use mathlib.Core.Option.{Option, none, some}
 use native.Mathlib.Omega.{arith}
 use Prim.Native.Nat.{ℕ, _+_, _-_, _*_, _≤_, _<_}
-use lib.Dec.{leb}
 use lib.ListN.{length, length-append}
 use borrow.Author.Tests.{le-leb, lt-leb}
 use Rattle.records.specs.Format.Never.{never}
 use Rattle.records.specs.Format.Syntax.{var, Binding, Bet}
 use Rattle.records.specs.Format.Encode.{word, each, term-bytes, binding-bytes, bet-bytes}
 use Rattle.records.specs.Gate.Question.{values, fits, question-number}
-use Rattle.records.specs.Gate.Reply.{refused, gives, on-yes, through, Receipted}
+use Rattle.records.specs.Gate.Reply.{gives, on-yes, through, Receipted}
 use Rattle.records.specs.Gate.ReplyLaws.{receipted-refused, receipted-given}
 use Rattle.records.specs.Writing.Patched.{Put}
 use Rattle.records.specs.Writing.PatchedLaws.{put-then, put-length}
 use Rattle.terms.specs.Theory.Outcome.{value}
 use Rattle.terms.specs.Theory.OutcomeLaws.{Valued, within, beyond, valued}
 use Rattle.terms.specs.Values.Entries.{under}
-use Rattle.terms.specs.declared.substitute.Sized.{Sized}
 use Rattle.terms.specs.declared.substitute.Sized.the-variants.{Fits, TooLarge}
 use Rattle.answers.specs.Form.Answer.{values-of, used-of, solution-bytes, solution-for, solution-into}
 use Rattle.answers.specs.Writing.Values.{value-pairs, pairs-sized, ValuePairsFit}

@@ -13,7 +13,7 @@ use Rattle.records.specs.Format.Heads.{bet-head-at}
 use Rattle.records.specs.Format.Items.{read-bet}
 use Rattle.records.specs.Ends.Range.{cut, Inside}
 use Rattle.records.specs.Ends.Stands.{head-of-bet}
-use Rattle.records.specs.Ends.StandsLaws.{stands-ends, stands-within, bet-stands, stands-cut, stands-inside}
+use Rattle.records.specs.Ends.StandsLaws.{stands-ends, stands-within, bet-stands, stands-cut}
 use Rattle.records.specs.Ends.Traversal.{position, end-of}
 use Rattle.records.specs.Writing.Patched.{Put}
 use Rattle.records.specs.Writing.PatchedLaws.{put-none, put-ahead}
@@ -207,15 +207,15 @@ module _ {s : List ℕ} {bets : List Bet} {pos left : ℕ} {before : List ℕ} {
       rw (at, all) (w .put)
 
 -- a bet behind others has its bytes more
-behind : (b : Bet) (s : List Bet) → length (each bet-bytes (used-of s)) ≤ length (each bet-bytes s) → length (each bet-bytes (used-of s ++ (b ∷ []))) ≤ length (each bet-bytes (b ∷ s))
-behind b s h = rw (each-append bet-bytes (used-of s) (b ∷ [])) (simp length-append (omega arith))
+one-behind : (b : Bet) (s : List Bet) → length (each bet-bytes (used-of s)) ≤ length (each bet-bytes s) → length (each bet-bytes (used-of s ++ (b ∷ []))) ≤ length (each bet-bytes (b ∷ s))
+one-behind b s h = rw (each-append bet-bytes (used-of s) (b ∷ [])) (simp length-append (omega arith))
 
 -- they have no more bytes than the bets have,
 used-below : (s : List Bet) → length (each bet-bytes (used-of s)) ≤ length (each bet-bytes s)
 used-below [] = omega arith
 used-below (unifier m ∷ s) = let h = used-below s in let n = length-append (bet-bytes (unifier m)) (each bet-bytes s) in omega arith
-used-below (or n ∷ s) = behind (or n) s (used-below s)
-used-below (by g ∷ s) = behind (by g) s (used-below s)
+used-below (or n ∷ s) = one-behind (or n) s (used-below s)
+used-below (by g ∷ s) = one-behind (by g) s (used-below s)
 
 -- and so no more than the event
 pub used-short : {s : List ℕ} {at n : ℕ} (b : BetsAt s at n) → length (each bet-bytes (used-of (b .items))) ≤ length s

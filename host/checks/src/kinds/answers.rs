@@ -1,19 +1,24 @@
 //! Every answer of a query: counts of steps at and beside exits and the final fail, outputs that are just long enough or just not, damaged records.
-//! The list within fewer steps or less room is a front of the longer one (SPECIFICATION 8.12).
+//! The list within fewer steps or less room is a front of the longer one (SPECIFICATION 9.10).
 
 use crate::compare::{Answer, Checked, Checker, Difference, LONGEST};
 use crate::generate::answers::{asked, Asked};
 use crate::generate::sized::{goal_of, term_of};
 use crate::generate::{damage, Dice};
-use crate::listings::{exits, held, laid_out, typed, Exits, Listing};
+use crate::listings::{exits, held, laid_out, typed, Exits, Sort};
 use layout::{atom, conjunction, constant, definition, disjunction, equality, program, record, symbol, variable, FAIL, RECORD_LIMIT as ROOM, TRUE};
 
 /// The steps within which a list is asked for whole.
 const MOST: u32 = 700;
+/// The steps of a longer list, more than the typed one asks for at once.
+const LONGER: u32 = 3_000;
 
 pub fn round(checker: &mut Checker, dice: &mut Dice) -> Checked<()> {
     let (program, query) = asked(dice);
-    let (whole, found) = listed(checker, &program, &query)?;
+    if dice.below(10) == 0 {
+        listed(checker, &program, &query, LONGER)?;
+    }
+    let (whole, found) = listed(checker, &program, &query, MOST)?;
     counted(checker, dice, (&program, &query), &whole, found)?;
     lent(checker, dice, (&program, &query), &whole)?;
     let (steps, room) = (dice.below(60) as u32, *dice.pick(&[0, ROOM - 1, ROOM, ROOM + 1]));
@@ -27,16 +32,16 @@ fn broken<T>(words: &str) -> Checked<T> {
     Err(Difference(format!("answers: {words}")))
 }
 
-/// The list within the most steps and the longest output, and how many answers it has; the typed list is the same.
-fn listed(checker: &mut Checker, program: &[u8], query: &[u8]) -> Checked<(Answer, usize)> {
-    let whole = checker.answers(program, query, MOST, LONGEST)?;
-    let Some((found, number)) = typed(program, query, MOST, LONGEST) else { return broken("a record that passes is refused") };
+/// The list within so many steps and the longest output, and how many answers it has; the typed list is the same.
+fn listed(checker: &mut Checker, program: &[u8], query: &[u8], most: u32) -> Checked<(Answer, usize)> {
+    let whole = checker.answers(program, query, most, LONGEST)?;
+    let Some((found, number)) = typed(program, query, most, LONGEST) else { return broken("a record that passes is refused") };
     if (laid_out(&found), number) != (whole.bytes.clone(), whole.number) {
         return broken("the typed list is another one");
     }
-    held(&found).into_iter().for_each(|listing| checker.table.add_listing(listing));
+    held(&found).into_iter().for_each(|sort| checker.table.add_listing(sort));
     if whole.number == 6 && found.is_empty() {
-        checker.table.add_listing(Listing::NoAnswer);
+        checker.table.add_listing(Sort::NoAnswer);
     }
     refused(checker, program, query, &whole)?;
     Ok((whole, found.len()))
@@ -50,10 +55,10 @@ fn refused(checker: &mut Checker, program: &[u8], query: &[u8], whole: &Answer) 
     let (taken, kept) = (whole.beside[1] as u32, !whole.bytes.is_empty());
     let again = checker.answers(program, query, taken, LONGEST)?;
     match (whole.number, again.number) {
-        (10, 0) => checker.table.add_listing(Listing::StepRefused),
-        (10, 10) if taken == 0 => checker.table.add_listing(Listing::FirstRefused),
-        (10, 10) if kept => checker.table.add_listing(Listing::KeptBefore10),
-        (8, 8) if kept => checker.table.add_listing(Listing::KeptBefore8),
+        (10, 0) => checker.table.add_listing(Sort::StepRefused),
+        (10, 10) if taken == 0 => checker.table.add_listing(Sort::FirstRefused),
+        (10, 10) if kept => checker.table.add_listing(Sort::KeptBefore10),
+        (8, 8) if kept => checker.table.add_listing(Sort::KeptBefore8),
         _ => (),
     }
     Ok(())
@@ -61,20 +66,20 @@ fn refused(checker: &mut Checker, program: &[u8], query: &[u8], whole: &Answer) 
 
 /// No steps; up to an exit and one less; up to the final fail and one more; any number. Each list is a front of the whole one.
 fn counted(checker: &mut Checker, dice: &mut Dice, (program, query): (&[u8], &[u8]), whole: &Answer, found: usize) -> Checked<()> {
-    let mut at = |steps: u32, met: Option<Listing>| {
+    let mut at = |steps: u32, met: Option<Sort>| {
         let list = checker.answers(program, query, steps, LONGEST)?;
-        met.into_iter().for_each(|listing| checker.table.add_listing(listing));
+        met.into_iter().for_each(|sort| checker.table.add_listing(sort));
         if whole.bytes.starts_with(&list.bytes) {
             Ok(list)
         } else {
             broken("fewer steps give another list")
         }
     };
-    at(0, Some(Listing::NoSteps))?;
+    at(0, Some(Sort::NoSteps))?;
     at(dice.below(MOST as usize) as u32, None)?;
     let taken = whole.beside[1] as u32;
     if whole.number == 6 {
-        let ends = [at(taken, Some(Listing::ToTheFail))?, at(taken + 1, Some(Listing::BeyondTheFail))?, at(u32::MAX, None)?];
+        let ends = [at(taken, Some(Sort::ToTheFail))?, at(taken + 1, Some(Sort::BeyondTheFail))?, at(u32::MAX, None)?];
         if ends.each_ref().map(|list| list.number) != [0, 6, 6] || ends.iter().any(|list| list.bytes != whole.bytes) {
             return broken("more steps than the walk has give another list");
         }
@@ -86,13 +91,13 @@ fn counted(checker: &mut Checker, dice: &mut Dice, (program, query): (&[u8], &[u
     }
     if found > 0 {
         let steps = answers[dice.below(found)];
-        let [less, more] = [at(steps - 1, Some(Listing::BeforeAnExit))?, at(steps, Some(Listing::ToAnExit))?];
+        let [less, more] = [at(steps - 1, Some(Sort::BeforeAnExit))?, at(steps, Some(Sort::ToAnExit))?];
         if less.bytes.len() >= more.bytes.len() {
             return broken("an exit of the query gives no answer");
         }
     }
     if deeper {
-        checker.table.add_listing(Listing::Deeper);
+        checker.table.add_listing(Sort::Deeper);
     }
     Ok(())
 }
@@ -105,10 +110,10 @@ fn lent(checker: &mut Checker, dice: &mut Dice, (program, query): (&[u8], &[u8])
         return if same { Ok(()) } else { broken("a list that fits the least output is another one there") };
     }
     let steps = whole.beside[1] as u32;
-    let rooms = [(length, Some(Listing::LastByte)), (length - 1, Some(Listing::OneByteLess)), (dice.between(ROOM, length), None)];
+    let rooms = [(length, Some(Sort::LastByte)), (length - 1, Some(Sort::OneByteLess)), (dice.between(ROOM, length), None)];
     for (room, met) in rooms {
         let list = checker.answers(program, query, steps, room)?;
-        met.into_iter().for_each(|listing| checker.table.add_listing(listing));
+        met.into_iter().for_each(|sort| checker.table.add_listing(sort));
         if !whole.bytes.starts_with(&list.bytes) || (room < length) != (list.bytes.len() < length) {
             return broken("less room gives no front of the list");
         }
@@ -127,11 +132,11 @@ pub fn boundaries(checker: &mut Checker) -> Checked<()> {
         }
     }
     for length in 32_755..=32_765 {
-        listed(checker, &none, &record(&goal_of(length)))?;
+        listed(checker, &none, &record(&goal_of(length)), MOST)?;
         checker.answers(&none, &record(&goal_of(length)), 0, ROOM)?;
     }
     for (program, query) in values().iter().chain(&lists()).chain(&locals()).chain(&[too_many()]) {
-        listed(checker, program, query)?;
+        listed(checker, program, query, MOST)?;
     }
     fits(checker)
 }

@@ -1,6 +1,5 @@
-use mathlib.Core.Path.{_≡_, refl}
+use mathlib.Core.Path.{refl}
 use native.Mathlib.Omega.{arith}
-use lib.ListN.{length}
 use Rattle.records.specs.Writing.PatchedLaws.{put-length}
 use Rattle.answers.specs.Writing.SolvedLaws.{solution-length, used-fits, pairs-fit-at, parts-put}
 use borrow.Author.Needs.{needs}

@@ -1,6 +1,5 @@
-use mathlib.Core.Path.{_≡_, refl, sym}
+use mathlib.Core.Path.{sym}
 use native.Mathlib.Omega.{arith}
-use lib.ListN.{length}
 use lib.Seq.{length-take-le}
 use Rattle.answers.specs.Writing.OpenLaws.{query-reads, begin-room, table-front, first-stands}
 use borrow.Author.Needs.{needs}

@@ -45,7 +45,7 @@ loop-again c =
     let going = c .before .before .before .before .before .before .before .before .before .before .before .before .before .before .before .before .loop-test .taken in (
       λ ds q before g.
           let t = c .before .before .before .before .before .before .before .before .before .before .next-answer .ensures ds q before (inv .0 ds q before g .0 going) in
-          (λ h. t .on h .0, t .done),
+          t .state,
       search needs,
       search needs,
       search needs,

@@ -1,4 +1,4 @@
-use mathlib.Core.Path.{_≡_, refl}
+use mathlib.Core.Path.{refl}
 use borrow.Author.Needs.{needs}
 use Rattle.answers.proofs.service.listed_answers.Statement.{statement}
 use Rattle.answers.proofs.service.listed_answers.Tie as tie

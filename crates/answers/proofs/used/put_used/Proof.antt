@@ -1,10 +1,8 @@
 use mathlib.Core.Path.{_≡_, refl}
-use mathlib.Core.List.{List}
 use native.Mathlib.Omega.{arith}
 use Prim.Native.Nat.{_≤_}
 use lib.ListN.{length}
 use Rattle.records.specs.Format.Encode.{each, bet-bytes}
-use Rattle.records.specs.Format.Syntax.{Bet}
 use Rattle.records.specs.Writing.PatchedLaws.{put-length}
 use Rattle.terms.specs.Standing.Frames.{BetsAt}
 use Rattle.answers.specs.Form.Answer.{used-of}

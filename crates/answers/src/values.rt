@@ -1,9 +1,9 @@
-// The values of variables under a bet stack whose pairs are listed: measured, and written as pairs.
+// The values of variables under a bet stack whose pairs are listed and linked: measured, and written as pairs.
 use records::kinds::VARIABLE;
 use records::put::Range;
 use records::put::put_range;
 use records::put::put_word;
-use terms::apply::listed_value;
+use terms::apply::linked_value;
 use terms::substitute::Sized;
 ghost use mathlib.Core.Path.{_≡_};
 ghost use mathlib.Core.List.{List};
@@ -17,6 +17,7 @@ ghost use Rattle.records.specs.Writing.Patched.{Put};
 ghost use Rattle.terms.specs.Theory.Outcome.{value-limit};
 ghost use Rattle.terms.specs.Values.Answered.{Answered};
 ghost use Rattle.terms.specs.Values.Entries.{PairsListed};
+ghost use Rattle.terms.specs.Values.Links.{Linked};
 ghost use Rattle.answers.specs.Form.Answer.{values-of};
 ghost use Rattle.answers.specs.Writing.Values.{value-pair, value-pairs, pairs-sized, ValuePairFits, ValuePairsFit};
 
@@ -26,16 +27,18 @@ fn listed_variable(
     places: &[usize],
     firsts: &[usize],
     k: usize,
+    links: &[u16],
     v: usize,
     value: &mut [u8],
 ) -> Sized
     requires { ⌜ ((bets : List Bet) × PairsListed bets (now event) (now places) (now firsts) k) ⌝ }
     requires { ⌜ v < 65536 ⌝ }
     requires { ⌜ length (now value) ≡ value-limit ⌝ }
+    requires { ⌜ Linked (now event) (now places) k (now links) ⌝ }
     ensures { λ r. ⌜ ((bets : List Bet) → PairsListed bets (now (event .entry)) (now (places .entry)) (now (firsts .entry)) k → Answered bets (var v) (now (value .exit)) r) ⌝ }
 {
     let term: [u8; 3] = [VARIABLE, (v / 256) as u8, (v % 256) as u8];
-    listed_value(event, places, firsts, k, &term, 0, value)
+    linked_value(event, places, firsts, k, links, &term, 0, value)
 }
 
 // How many bytes the variables have with their values, as pairs; or that a value is too large.
@@ -44,6 +47,7 @@ pub fn values_length(
     places: &[usize],
     firsts: &[usize],
     k: usize,
+    links: &[u16],
     variables: &[usize],
     value: &mut [u8],
 ) -> Sized
@@ -51,13 +55,14 @@ pub fn values_length(
     requires { ⌜ All (λ v. v < 65536) (now variables) ⌝ }
     requires { ⌜ length (now variables) ≤ 65536 ⌝ }
     requires { ⌜ length (now value) ≡ value-limit ⌝ }
+    requires { ⌜ Linked (now event) (now places) k (now links) ⌝ }
     ensures { λ r. ⌜ ((bets : List Bet) → PairsListed bets (now (event .entry)) (now (places .entry)) (now (firsts .entry)) k → r ≡ pairs-sized (values-of bets (now (variables .entry)))) ⌝ }
 {
     let mut i = 0;
     let mut sum = 0;
     while i < variables.len() {
         let v = variables[i];
-        let Sized::Fits(m) = listed_variable(event, places, firsts, k, v, value) else {
+        let Sized::Fits(m) = listed_variable(event, places, firsts, k, links, v, value) else {
             return Sized::TooLarge;
         };
         sum += 2 + m;
@@ -72,6 +77,7 @@ fn put_value_pair(
     places: &[usize],
     firsts: &[usize],
     k: usize,
+    links: &[u16],
     v: usize,
     value: &mut [u8],
     out: &mut [u8],
@@ -80,10 +86,11 @@ fn put_value_pair(
     requires { ⌜ ((bets : List Bet) × PairsListed bets (now event) (now places) (now firsts) k × ValuePairFits bets v at (length (now out))) ⌝ }
     requires { ⌜ v < 65536 ⌝ }
     requires { ⌜ length (now value) ≡ value-limit ⌝ }
+    requires { ⌜ Linked (now event) (now places) k (now links) ⌝ }
     ensures { λ r. ⌜ ((bets : List Bet) → PairsListed bets (now (event .entry)) (now (places .entry)) (now (firsts .entry)) k → ValuePairFits bets v at (length (now (out .entry))) → Put (now (out .entry)) at (binding-bytes (value-pair bets v)) (now (out .exit)) r) ⌝ }
 {
     let term_at = put_word(out, at, v);
-    let Sized::Fits(m) = listed_variable(event, places, firsts, k, v, value) else {
+    let Sized::Fits(m) = listed_variable(event, places, firsts, k, links, v, value) else {
         return term_at;
     };
     put_range(out, term_at, value, Range { from: 0, to: m })
@@ -95,6 +102,7 @@ pub fn put_value_pairs(
     places: &[usize],
     firsts: &[usize],
     k: usize,
+    links: &[u16],
     variables: &[usize],
     value: &mut [u8],
     out: &mut [u8],
@@ -103,13 +111,14 @@ pub fn put_value_pairs(
     requires { ⌜ ((bets : List Bet) × PairsListed bets (now event) (now places) (now firsts) k × ValuePairsFit bets (now variables) at (length (now out))) ⌝ }
     requires { ⌜ All (λ v. v < 65536) (now variables) ⌝ }
     requires { ⌜ length (now value) ≡ value-limit ⌝ }
+    requires { ⌜ Linked (now event) (now places) k (now links) ⌝ }
     ensures { λ r. ⌜ ((bets : List Bet) → PairsListed bets (now (event .entry)) (now (places .entry)) (now (firsts .entry)) k → ValuePairsFit bets (now (variables .entry)) at (length (now (out .entry))) → Put (now (out .entry)) at (each binding-bytes (value-pairs bets (now (variables .entry)))) (now (out .exit)) r) ⌝ }
 {
     let mut i = 0;
     let mut pos = at;
     while i < variables.len() {
         let v = variables[i];
-        pos = put_value_pair(event, places, firsts, k, v, value, out, pos);
+        pos = put_value_pair(event, places, firsts, k, links, v, value, out, pos);
         i += 1;
     }
     pos

@@ -2,6 +2,7 @@
 pub mod NodeBytes
 pub mod Fitted
 pub mod Entries
+pub mod Links
 pub mod Replacing
 pub mod Applied
 pub mod Answered
@@ -13,6 +14,7 @@ pub mod AppliedLaws
 pub mod AnsweredLaws
 pub mod AheadLaws
 pub mod EntryLaws
+pub mod LinksLaws
 pub mod ReplacingLaws
 pub mod ListingLaws
 pub mod ValueLaws

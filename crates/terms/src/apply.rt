@@ -11,11 +11,46 @@ ghost use lib.ListN.{length};
 ghost use Rattle.records.specs.Format.Syntax.{Bet};
 ghost use Rattle.terms.specs.Theory.Outcome.{value-limit};
 ghost use Rattle.terms.specs.Values.Entries.{PairsListed};
+ghost use Rattle.terms.specs.Values.Links.{Linked};
 ghost use Rattle.terms.specs.Values.Answered.{Answered, Buffers};
 ghost use Rattle.terms.specs.Values.Applied.{TermAt};
 ghost use Rattle.terms.specs.Standing.BetRow.{RuledBets};
 
-// A bet stack whose k pairs are listed, applied to the term at `from` of src. The value is left in the output.
+// A bet stack whose k pairs are listed and linked, applied to the term at `from` of src. The value is left in the output.
+pub fn linked_value(
+    event: &[u8],
+    places: &[usize],
+    firsts: &[usize],
+    k: usize,
+    links: &[u16],
+    src: &[u8],
+    from: usize,
+    out: &mut [u8],
+) -> Sized
+    requires { ⌜ ((bets : List Bet) × PairsListed bets (now event) (now places) (now firsts) k) ⌝ }
+    requires { ⌜ Linked (now event) (now places) k (now links) ⌝ }
+    requires { ⌜ ((to : ℕ) × TermAt (now src) from to) ⌝ }
+    requires { ⌜ length (now out) ≡ value-limit ⌝ }
+    ensures { λ r. ⌜ ((bets : List Bet) → PairsListed bets (now (event .entry)) (now (places .entry)) (now (firsts .entry)) k → (to : ℕ) (q : TermAt (now (src .entry)) from to) → Answered bets (q .term) (now (out .exit)) r) ⌝ }
+{
+    let term = Cursor {
+        pos: from,
+        terms: 1,
+        goals: 0,
+    };
+    put_nodes(
+        event,
+        places,
+        firsts,
+        links,
+        Replacing::Pairs(k),
+        src,
+        term,
+        out,
+    )
+}
+
+// The same where no pair is linked, as it pays for one value or two.
 pub fn listed_value(
     event: &[u8],
     places: &[usize],
@@ -30,12 +65,8 @@ pub fn listed_value(
     requires { ⌜ length (now out) ≡ value-limit ⌝ }
     ensures { λ r. ⌜ ((bets : List Bet) → PairsListed bets (now (event .entry)) (now (places .entry)) (now (firsts .entry)) k → (to : ℕ) (q : TermAt (now (src .entry)) from to) → Answered bets (q .term) (now (out .exit)) r) ⌝ }
 {
-    let term = Cursor {
-        pos: from,
-        terms: 1,
-        goals: 0,
-    };
-    put_nodes(event, places, firsts, Replacing::Pairs(k), src, term, out)
+    let none: [u16; 1] = [0; 1];
+    linked_value(event, places, firsts, k, &none[..0], src, from, out)
 }
 
 // The n bets at `at` of the event applied to the term at `from` of src. The value is left in the output; the tables are for the pairs of the bets.

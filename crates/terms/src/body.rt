@@ -123,8 +123,9 @@ fn numbered_body(
         terms: 0,
         goals: 1,
     };
+    let links: [u16; 1] = [0; 1];
     let by = Replacing::Numbered(k, m);
-    put_nodes(event, table, table, by, program, start, out);
+    put_nodes(event, table, table, &links, by, program, start, out);
     BodyAnswer::Defined(n)
 }
 

@@ -7,6 +7,7 @@ pub mod definitions; // definitions.rt: the definition of a predicate and an ari
 pub mod equality; // equality.rt: the unifier of the values of two terms of an event
 pub mod greatest; // greatest.rt: the greatest variable of an event, and the first new one
 pub mod lengths; // lengths.rt: the lengths of the classes' terms
+pub mod links; // links.rt: where a look for the pair of a variable begins
 pub mod load; // load.rt: two terms in one table of nodes
 pub mod nodes; // nodes.rt: the kinds of nodes
 pub mod pairs; // pairs.rt: the pairs of a bet stack, listed

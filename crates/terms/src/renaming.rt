@@ -18,8 +18,9 @@ pub fn write_renamed(out: &mut [u8], first: usize, s: &[u8], start: Cursor, m: u
     ensures { λ r. ⌜ Put (now (out .entry)) first (renamed m (traverse (now (s .entry)) (start .pos) (start .terms) (start .goals))) (now (out .exit)) r ⌝ }
 {
     let none: [usize; 1] = [0; 1];
+    let links: [u16; 1] = [0; 1];
     let by = Replacing::Numbered(0, m);
-    match put_nodes(s, &none, &none, by, s, start, &mut out[first..]) {
+    match put_nodes(s, &none, &none, &links, by, s, start, &mut out[first..]) {
         Sized::Fits(n) => first + n,
         Sized::TooLarge => first,
     }

@@ -1,5 +1,6 @@
 // A term or a goal under a substitution, from bytes to bytes: the one writer for values, for the bodies of atoms and for renamed clauses.
 use crate::arguments::argument;
+use crate::links::look_from;
 use records::ends::Found;
 use records::heads::TermHead;
 use records::heads::Word;
@@ -28,7 +29,8 @@ ghost use Rattle.terms.specs.Theory.Substitution.{Substitution, apply};
 ghost use Rattle.terms.specs.Values.Fitted.{Fitted};
 ghost use Rattle.terms.specs.Values.NodeBytes.{traversal-bytes};
 ghost use Rattle.terms.specs.Values.Entries.{PairTable, FoundPair};
-ghost use Rattle.terms.specs.Values.Replacing.{Replaces, ValueFound};
+ghost use Rattle.terms.specs.Values.Links.{Linked};
+ghost use Rattle.terms.specs.Values.Replacing.{Replaces, ValueFound, pairs-left};
 
 // How many bytes were written, or that they are more than the output holds.
 pub enum Sized {
@@ -96,11 +98,12 @@ fn put_numbered(
 }
 
 // Where, among the first i pairs of a table, the last one stands that binds v.
-fn find_pair(event: &[u8], places: &[usize], i: usize, v: usize) -> Found
+fn find_pair(event: &[u8], places: &[usize], links: &[u16], i: usize, v: usize) -> Found
     requires { ⌜ i ≤ length (now places) ⌝ }
+    requires { ⌜ Linked (now event) (now places) i (now links) ⌝ }
     ensures { λ r. ⌜ ((firsts : List ℕ) (p : PairTable (now (event .entry)) (now (places .entry)) firsts i) → FoundPair (p .bets) i v r) ⌝ }
 {
-    let mut k = i;
+    let mut k = look_from(links, i, v);
     while 0 < k {
         k = k - 1;
         let at = places[k];
@@ -121,14 +124,22 @@ pub enum Bound {
 }
 
 // What the first i pairs bind v to, along those that bind it to a variable in their turn. So a chain of variables costs no stack.
-fn find_value(event: &[u8], table: &[usize], firsts: &[usize], i: usize, v: usize) -> Bound
+fn find_value(
+    event: &[u8],
+    table: &[usize],
+    firsts: &[usize],
+    links: &[u16],
+    i: usize,
+    v: usize,
+) -> Bound
     requires { ⌜ PairTable (now event) (now table) (now firsts) i ⌝ }
+    requires { ⌜ Linked (now event) (now table) i (now links) ⌝ }
     ensures { λ r. ⌜ ((p : PairTable (now (event .entry)) (now (table .entry)) (now (firsts .entry)) i) → ValueFound (now (event .entry)) (now (table .entry)) (now (firsts .entry)) i (apply (p .bets) (var v)) r) ⌝ }
 {
     let mut n = i;
     let mut x = v;
     loop {
-        let Found::At(k) = find_pair(event, table, n, x) else {
+        let Found::At(k) = find_pair(event, table, links, n, x) else {
             return Bound::Free(x);
         };
         let at = table[k] + 2;
@@ -145,17 +156,18 @@ fn put_variable(
     event: &[u8],
     table: &[usize],
     firsts: &[usize],
+    links: &[u16],
     by: Replacing,
     v: usize,
     out: &mut [u8],
 ) -> Sized
-    requires { ⌜ ((θ : Substitution) × Replaces (now event) (now table) (now firsts) by θ) ⌝ }
+    requires { ⌜ ((θ : Substitution) × Replaces (now event) (now table) (now firsts) by θ × Linked (now event) (now table) (pairs-left by) (now links)) ⌝ }
     requires { ⌜ v < 65536 ⌝ }
     ensures { λ r. ⌜ ((θ : Substitution) → Replaces (now (event .entry)) (now (table .entry)) (now (firsts .entry)) by θ → Fitted (now (out .entry)) (term-bytes (θ v)) (now (out .exit)) r) ⌝ }
 {
     match by {
         Replacing::Numbered(k, m) => put_numbered(out, event, table, k, m, v),
-        Replacing::Pairs(i) => match find_value(event, table, firsts, i, v) {
+        Replacing::Pairs(i) => match find_value(event, table, firsts, links, i, v) {
             Bound::Free(x) => put_itself(out, x),
             Bound::To(k) => {
                 let at = table[k] + 2;
@@ -169,6 +181,7 @@ fn put_variable(
                     event,
                     table,
                     firsts,
+                    links,
                     Replacing::Pairs(above),
                     event,
                     term,
@@ -184,12 +197,13 @@ pub fn put_nodes(
     event: &[u8],
     table: &[usize],
     firsts: &[usize],
+    links: &[u16],
     by: Replacing,
     s: &[u8],
     start: Cursor,
     out: &mut [u8],
 ) -> Sized
-    requires { ⌜ ((θ : Substitution) × Replaces (now event) (now table) (now firsts) by θ) ⌝ }
+    requires { ⌜ ((θ : Substitution) × Replaces (now event) (now table) (now firsts) by θ × Linked (now event) (now table) (pairs-left by) (now links)) ⌝ }
     requires { ⌜ On (traverse (now s) (start .pos) (start .terms) (start .goals)) ⌝ }
     ensures { λ r. ⌜ ((θ : Substitution) → Replaces (now (event .entry)) (now (table .entry)) (now (firsts .entry)) by θ → Fitted (now (out .entry)) (traversal-bytes θ (traverse (now (s .entry)) (start .pos) (start .terms) (start .goals))) (now (out .exit)) r) ⌝ }
 {
@@ -199,8 +213,15 @@ pub fn put_nodes(
         let pos = c.pos;
         match next_node(s, c) {
             NodeStep::Variable(v, d) => {
-                let Sized::Fits(m) = put_variable(event, table, firsts, by, v, &mut out[len..])
-                else {
+                let Sized::Fits(m) = put_variable(
+                    event,
+                    table,
+                    firsts,
+                    links,
+                    by,
+                    v,
+                    &mut out[len..],
+                ) else {
                     return Sized::TooLarge;
                 };
                 len += m;

@@ -12,6 +12,9 @@ pub const SHORT_PAIRS: usize = 410;
 
 pub const MOST_PAIRS: usize = 6554;
 
+// One link for each variable.
+pub const LINKS: usize = 65536;
+
 // Two values of at most SHORT_VALUES bytes together have at most SHORT_NODES nodes, any two at most MOST_NODES: a node has three bytes or more.
 pub const SHORT_VALUES: usize = 384;
 

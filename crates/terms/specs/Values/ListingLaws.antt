@@ -4,8 +4,9 @@ use mathlib.Core.Bool.{true}
 use mathlib.Core.List.{List, [], _∷_, _++_, append-assoc, append-nil}
 use native.Mathlib.Omega.{arith}
 use Prim.Native.Nat.{ℕ, _+_, _-_, _*_, _≤_, _<_}
-use lib.ListN.{length, set, length-append, length-set}
+use lib.ListN.{length, set, drop, length-append, length-set, length-drop}
 use lib.Seq.{getD-set-same, getD-set-other}
+use Rattle.records.specs.Format.Encode.{each, bet-bytes}
 use Rattle.records.specs.Format.Formed.{All, BetFormed}
 use Rattle.records.specs.Format.Syntax.{Binding, Bet}
 use Rattle.records.specs.Format.Syntax.Binding.{bind}
@@ -170,3 +171,14 @@ module _ {s : List ℕ} {bets : List Bet} {places firsts : List ℕ} {at n k : �
           few = omega (arith, u .few, a .number, b .stands .end);
           held = omega (arith, bets-room l, a .number, a .same-places, head-pairs-are b);
         })
+
+-- a pair has five bytes or more, so that there are few of them
+entries-few : (above bets : List Bet) → 5 * length (pair-entries above bets) ≤ length (each bet-bytes bets)
+unfolding pair-entries
+entries-few above [] = omega arith
+entries-few above (b ∷ bets) =
+    omega (arith, entries-few (above ++ (b ∷ [])) bets, bet-pairs-long b, own-length above (bet-pairs b), length-append (own above (bet-pairs b)) (pair-entries (above ++ (b ∷ [])) bets), length-append (bet-bytes b) (each bet-bytes bets))
+
+pub pairs-few : {s : List ℕ} {at n : ℕ} (b : BetsAt s at n) {places firsts : List ℕ} {k : ℕ} → PairsListed (b .items) s places firsts k → 5 * k ≤ length s
+pairs-few {s} {at} b l =
+    omega (arith, entries-few [] (b .items), ap (λ (x : List Bet). length (pair-entries [] x)) (l .are), l .table .count, ap length (b .stands .bytes), length-append (each bet-bytes (b .items)) (drop (b .end) s), length-drop at s)

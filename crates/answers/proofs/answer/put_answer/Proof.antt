@@ -1,82 +1,44 @@
-use mathlib.Core.Path.{sym, _∙_, ap}
-use native.Mathlib.Omega.{arith}
-use lib.ListN.{length}
-use Rattle.answers.specs.Writing.SolvedLaws.{measured-small, solution-large, solution-long, solution-put, solution-fits}
-use Rattle.answers.specs.Writing.UsedLaws.{used-short}
+-- `put_answer` lists the pairs, and goes on by their number.
+use mathlib.Core.Path.{refl}
+use Rattle.terms.specs.Values.LinksLaws.{linked-none}
 use borrow.Author.Needs.{needs}
 use Rattle.answers.proofs.answer.put_answer.Statement.{statement}
 use Rattle.answers.proofs.answer.put_answer.Tie as tie
 
-values-length-requires : tie.Need-values-length-requires
-values-length-requires c κs =
-    let pre = c .before .before .before .before .before .before .before .before .before .before .before .before .before .before .before .before .pre in
-    ((_, c .before .before .before .before .before .before .before .list-bets .ensures (pre .0)), (pre .1 .1 .1 .0, (omega (arith, pre .1 .1 .1 .1), search needs)))
+answer-by-requires : tie.Need-answer-by-requires
+answer-by-requires c κs =
+    let pre = c .before .before .before .before .before .before .before .before .before .before .before .before .before .before .before .before .before .before .before .pre in
+    ((pre .0, c .before .before .before .before .before .before .before .before .before .before .list-bets .ensures (pre .0)), (linked-none refl, ((pre .1 .1 .0, pre .1 .0 .limit), pre .1 .1 .1)))
 
 returns : tie.Need-returns
-returns c =
-    λ p. solution-large (c .before .before .before .before .before .before .before .before .before .before .before .before .before .before .before .before .before .before .before .before .before .args .variables .now) (p .row .items) (sym (c .before .before .before .before .values-length .ensures _ (c .before .before .before .before .before .before .before .before .before .before .before .before .list-bets .ensures p)) ∙ c .enum-told .given .1)
+returns c = λ p. c .before .before .before .before .answer-by .ensures p (c .before .before .before .before .before .before .before .before .before .before .before .before .before .before .before .list-bets .ensures p)
 
-used-size-requires : tie.Need-used-size-requires
-used-size-requires c κs = let pre = c .before .before .before .before .before .before .before .before .before .before .before .before .before .before .before .before .before .before .before .before .before .before .pre in (pre .0 .row, pre .1 .1 .0)
-
-add-if1 : tie.Need-add-if1
-add-if1 c =
-    let start = c .before .before .before .before .before .before .before .before .before .before .before .before .before .before .before .before .before .before .before .before .before .before .before in
-    let told = sym (c .before .before .before .before .before .before .values-length .ensures _ (c .before .before .before .before .before .before .before .before .before .before .before .before .before .before .list-bets .ensures (start .pre .0))) ∙ c .before .before .pairs .given .1 in
-    omega (arith, measured-small (start .args .variables .now) (start .pre .0 .row .items) told (start .pre .1 .1 .1 .1))
-
-add-if1-2 : tie.Need-add-if1-2
-add-if1-2 c =
-    let start = c .before .before .before .before .before .before .before .before .before .before .before .before .before .before .before .before .before .before .before .before .before .before .before .before in
-    let told = sym (c .before .before .before .before .before .before .before .values-length .ensures _ (c .before .before .before .before .before .before .before .before .before .before .before .before .before .before .before .list-bets .ensures (start .pre .0))) ∙ c .before .before .before .pairs .given .1 in
-    let size = ap (λ u. u .length) (c .before .used-size .ensures (start .pre .0 .row)) in
-    omega (arith, measured-small (start .args .variables .now) (start .pre .0 .row .items) told (start .pre .1 .1 .1 .1), size, used-short (start .pre .0 .row), start .pre .1 .1 .0)
+linked-answer-requires : tie.Need-linked-answer-requires
+linked-answer-requires c κs =
+    let pre = c .before .before .before .before .before .before .before .before .before .before .before .before .before .before .before .before .before .before .pre in
+    ((pre .0, c .before .before .before .before .before .before .before .before .before .list-bets .ensures (pre .0)), ((pre .1 .1 .0, pre .1 .0 .limit), pre .1 .1 .1))
 
 returns-2 : tie.Need-returns-2
-returns-2 c =
-    λ p.
-    let told = sym (c .before .before .before .before .before .before .before .before .values-length .ensures _ (c .before .before .before .before .before .before .before .before .before .before .before .before .before .before .before .before .list-bets .ensures p)) ∙ c .before .before .before .before .pairs .given .1 in
-    solution-long (c .before .before .before .before .before .before .before .before .before .before .before .before .before .before .before .before .before .before .before .before .before .before .before .before .before .args .variables .now) (p .row .items) told (c .before .before .used-size .ensures (p .row)) (omega arith)
-
-write-answer-requires : tie.Need-write-answer-requires
-write-answer-requires c κs =
-    let start = c .before .before .before .before .before .before .before .before .before .before .before .before .before .before .before .before .before .before .before .before .before .before .before .before .before .before .before .before .before in
-    let p = start .pre .0 in
-    let listed = c .before .before .before .before .before .before .before .before .before .before .before .before .before .before .before .before .before .before .before .before .list-bets .ensures p in
-    let told = sym (c .before .before .before .before .before .before .before .before .before .before .before .before .values-length .ensures _ listed) ∙ c .before .before .before .before .before .before .before .before .pairs .given .1 in
-    ((p, listed, solution-fits (start .args .variables .now) (p .row .items) told (c .before .before .before .before .before .before .used-size .ensures (p .row)) (omega arith)), (start .pre .1 .1 .1 .0, search needs))
-
-returns-3 : tie.Need-returns-3
-returns-3 c =
-    λ p.
-    let start = c .before .before .before .before .before .before .before .before .before .before .before .before .before .before .before .before .before .before .before .before .before .before .before .before .before .before .before .before .before .before .before .before .before .before in
-    let listed = c .before .before .before .before .before .before .before .before .before .before .before .before .before .before .before .before .before .before .before .before .before .before .before .before .before .list-bets .ensures p in
-    let told = sym (c .before .before .before .before .before .before .before .before .before .before .before .before .before .before .before .before .before .values-length .ensures _ listed) ∙ c .before .before .before .before .before .before .before .before .before .before .before .before .before .pairs .given .1 in
-    let fits = solution-fits (start .args .variables .now) (p .row .items) {room = length (start .args .out .now)} told (c .before .before .before .before .before .before .before .before .before .before .before .used-size .ensures (p .row)) (omega arith) in
-    solution-put (start .args .variables .now) (p .row .items) fits (c .before .before .before .before .write-answer .ensures p listed fits)
+returns-2 c = λ p. c .before .before .before .before .linked-answer .ensures p (c .before .before .before .before .before .before .before .before .before .before .before .before .before .before .list-bets .ensures p)
 
 pub put-answer-spec : {M : Type 1} → statement M
 put-answer-spec =
     tie.close
     (tie.spec
     (λ c κs. search needs)
-    values-length-requires
     (λ c. search needs)
+    (λ c. search needs)
+    (λ c. search needs)
+    (λ c. search needs)
+    answer-by-requires
     (λ c. search needs)
     (λ c. search needs)
     (λ c. search needs)
     (λ c. search needs)
     returns
-    used-size-requires
-    add-if1
-    add-if1-2
-    (λ c. search needs)
-    (λ c. search needs)
-    (λ c. search needs)
-    returns-2
-    write-answer-requires
+    linked-answer-requires
     (λ c. search needs)
     (λ c. search needs)
     (λ c. search needs)
     (λ c. search needs)
-    returns-3)
+    returns-2)

@@ -8,12 +8,12 @@ use Rattle.answers.proofs.answer.write_answer.Tie as tie
 
 put-value-pairs-requires : tie.Need-put-value-pairs-requires
 put-value-pairs-requires c κs =
-    let pre = c .before .before .before .before .before .before .before .before .before .before .before .before .pre in
-    ((pre .0 .0 .row .items, pre .0 .1, pairs-fit-at (pre .0 .2) (c .before .before .before .before .put-word .ensures) refl), (pre .1 .0, search needs))
+    let pre = c .before .before .before .before .before .before .before .before .before .before .before .before .before .pre in
+    ((pre .0 .0 .row .items, pre .0 .1, pairs-fit-at (pre .0 .2) (c .before .before .before .before .put-word .ensures) refl), (pre .1 .0, (search needs, pre .1 .1 .1)))
 
 put-word-requires-2 : tie.Need-put-word-requires-2
 put-word-requires-2 c κs =
-    let start = c .before .before .before .before .before .before .before .before .before .before .before .before .before .before .before .before .before .before in
+    let start = c .before .before .before .before .before .before .before .before .before .before .before .before .before .before .before .before .before .before .before in
     let f = start .pre .0 .2 in
     let count = c .before .before .before .before .before .before .before .before .before .before .put-word .ensures in
     let pairs = c .before .before .before .before .before .put-value-pairs .ensures (start .pre .0 .0 .row .items) (start .pre .0 .1) (pairs-fit-at f count refl) in
@@ -21,7 +21,7 @@ put-word-requires-2 c κs =
 
 add-end : tie.Need-add-end
 add-end c =
-    let start = c .before .before .before .before .before .before .before .before .before .before .before .before .before .before .before .before .before .before .before .before .before .before in
+    let start = c .before .before .before .before .before .before .before .before .before .before .before .before .before .before .before .before .before .before .before .before .before .before .before in
     let f = start .pre .0 .2 in
     let count = c .before .before .before .before .before .before .before .before .before .before .before .before .before .before .put-word .ensures in
     let pairs = c .before .before .before .before .before .before .before .before .before .put-value-pairs .ensures (start .pre .0 .0 .row .items) (start .pre .0 .1) (pairs-fit-at f count refl) in
@@ -29,7 +29,7 @@ add-end c =
 
 put-used-requires : tie.Need-put-used-requires
 put-used-requires c κs =
-    let start = c .before .before .before .before .before .before .before .before .before .before .before .before .before .before .before .before .before .before .before .before .before .before .before in
+    let start = c .before .before .before .before .before .before .before .before .before .before .before .before .before .before .before .before .before .before .before .before .before .before .before .before in
     let f = start .pre .0 .2 in
     let count = c .before .before .before .before .before .before .before .before .before .before .before .before .before .before .before .put-word .ensures in
     let pairs = c .before .before .before .before .before .before .before .before .before .before .put-value-pairs .ensures (start .pre .0 .0 .row .items) (start .pre .0 .1) (pairs-fit-at f count refl) in

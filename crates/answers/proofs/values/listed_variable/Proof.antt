@@ -4,11 +4,11 @@ use borrow.Author.Needs.{needs}
 use Rattle.answers.proofs.values.listed_variable.Statement.{statement}
 use Rattle.answers.proofs.values.listed_variable.Tie as tie
 
-listed-value-requires : tie.Need-listed-value-requires
-listed-value-requires c κs = let pre = c .before .before .before .before .before .before .pre in (pre .0, ((3, variable-at _ (omega arith)), pre .1 .1))
+linked-value-requires : tie.Need-linked-value-requires
+linked-value-requires c κs = let pre = c .before .before .before .before .before .before .before .pre in (pre .0, (pre .1 .1 .1, ((3, variable-at _ (omega arith)), pre .1 .1 .0)))
 
 returns : tie.Need-returns
-returns c = λ bets l. c .before .before .listed-value .ensures bets l 3 (variable-at _ (omega arith))
+returns c = λ bets l. c .before .before .linked-value .ensures bets l 3 (variable-at _ (omega arith))
 
 pub listed-variable-spec : {M : Type 1} → statement M
 listed-variable-spec =
@@ -17,6 +17,6 @@ listed-variable-spec =
     (λ c. search needs)
     (λ c. search needs)
     (λ c. search needs)
-    listed-value-requires
+    linked-value-requires
     (λ c. search needs)
     returns)

@@ -12,7 +12,7 @@ put-range-requires : tie.Need-put-range-requires
 put-range-requires c κs =
     let value = c .before .before .before .before .before .before .before in
     let word = value .before .before .before .before in
-    let pre = word .before .before .before .before .before .before .before .pre .0 in
+    let pre = word .before .before .before .before .before .before .before .before .pre .0 in
     let a = value .listed-variable .ensures (pre .0) (pre .1) in
     let e = c .before .before .before .m .given .1 in
     let put = word .put-word .ensures in

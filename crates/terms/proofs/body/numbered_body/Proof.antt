@@ -4,6 +4,7 @@ use Rattle.terms.specs.Body.AnswerLaws.{written-answer, long-answer}
 use Rattle.terms.specs.Body.TopLaws.{goal-on}
 use Rattle.terms.specs.Body.BodyLengthLaws.{numbered-bytes}
 use Rattle.terms.specs.Values.FittedLaws.{fitted-put}
+use Rattle.terms.specs.Values.LinksLaws.{linked-start}
 use Rattle.terms.specs.Values.ReplacingLaws.{replaces-numbers}
 use borrow.Author.Needs.{needs}
 use Rattle.terms.proofs.body.numbered_body.Statement.{statement}
@@ -17,14 +18,14 @@ returns c = λ g a. long-answer _ (c .before .body-length .ensures g (a .listed)
 
 put-nodes-requires : tie.Need-put-nodes-requires
 put-nodes-requires c κs =
-    let start = c .before .before .before .before .before .before .before in
-    ((_, replaces-numbers (start .pre .1 .0) (start .pre .1 .1)), goal-on (start .pre .0))
+    let start = c .before .before .before .before .before .before .before .before in
+    ((_, replaces-numbers (start .pre .1 .0) (start .pre .1 .1), linked-start), goal-on (start .pre .0))
 
 returns-2 : tie.Need-returns-2
 returns-2 c = λ g a.
-    let start = c .before .before .before .before .before .before .before .before .before .before in
-    let long = c .before .before .before .before .before .body-length .ensures g (a .listed) (start .args .m) in
-    let left = c .before .before .before .before .if1 .left in
+    let start = c .before .before .before .before .before .before .before .before .before .before .before in
+    let long = c .before .before .before .before .before .before .body-length .ensures g (a .listed) (start .args .m) in
+    let left = c .before .before .before .before .before .if1 .left in
     let w = rw (numbered-bytes g (a .listed .terms) _) at (c .before .before .put-nodes .ensures _ (replaces-numbers a (start .pre .1 .1))) in
     written-answer _ long left (fitted-put w (omega (arith, left, long)))
 
@@ -34,6 +35,7 @@ numbered-body-spec =
     (tie.spec
     body-length-requires
     returns
+    (λ c. search needs)
     put-nodes-requires
     (λ c. search needs)
     returns-2)

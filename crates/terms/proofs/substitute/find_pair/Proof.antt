@@ -1,5 +1,6 @@
 use Rattle.terms.specs.Values.Entries.{PairTable, pair-entries}
-use Rattle.terms.specs.Values.EntryLaws.{Searching, find-start, find-none, find-number, find-found, find-next}
+use Rattle.terms.specs.Values.EntryLaws.{Searching, find-none, find-number, find-found, find-next}
+use Rattle.terms.specs.Values.LinksLaws.{searching-from}
 use mathlib.Core.List.{List, []}
 use Prim.Native.Nat.{ℕ, _≤_}
 use native.Mathlib.Omega.{arith}
@@ -8,16 +9,18 @@ use Rattle.terms.proofs.substitute.find_pair.Statement.{statement}
 use Rattle.terms.proofs.substitute.find_pair.Tie as tie
 
 abbrev Inv-loop : tie.InvT-loop
-Inv-loop event places i v k₀ k = (k ≤ i) × ((firsts : List ℕ) (p : PairTable event places firsts i) → Searching (pair-entries [] (p .bets)) v k)
+Inv-loop event places links i v k₀ k = (k ≤ i) × ((firsts : List ℕ) (p : PairTable event places firsts i) → Searching (pair-entries [] (p .bets)) v k)
 
 abbrev μ-loop : tie.MeasureT-loop
-μ-loop event places i v k₀ k = k
+μ-loop event places links i v k₀ k = k
 
 loop-holds : tie.Need-loop-holds Inv-loop μ-loop
-loop-holds c = (omega arith, λ firsts p. find-start p _)
+loop-holds c =
+    let from = c .look-from .ensures in
+    (from .within, λ firsts p. searching-from p (c .before .before .before .before .pre .1) from)
 
 shared-slice-read-at : tie.Need-shared-slice-read-at Inv-loop μ-loop
-shared-slice-read-at c = omega (arith, c .before .before .loop .inv .0, c .before .before .before .before .before .pre)
+shared-slice-read-at c = omega (arith, c .before .before .loop .inv .0, c .before .before .before .before .before .before .before .pre .0)
 
 enum-told : tie.Need-enum-told Inv-loop μ-loop
 enum-told c = search needs
@@ -42,6 +45,7 @@ find-pair-spec =
     (tie.spec
     Inv-loop
     μ-loop
+    (λ c κs. search needs)
     loop-holds
     (λ c. search needs)
     (λ c. search needs)

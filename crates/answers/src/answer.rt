@@ -23,7 +23,7 @@ ghost use Rattle.terms.specs.Standing.BetRow.{RuledBets};
 ghost use Rattle.terms.specs.Theory.Outcome.{value-limit};
 ghost use Rattle.terms.specs.Values.Answered.{Buffers};
 ghost use Rattle.terms.specs.Values.Entries.{PairsListed};
-ghost use Rattle.terms.specs.Values.Links.{Linked};
+ghost use Rattle.terms.specs.Values.Links.{PairsLinked};
 ghost use Rattle.answers.specs.Form.Answer.{solution-for, solution-into, solution-bytes};
 ghost use Rattle.answers.specs.Writing.Solved.{solution-of, SolutionFits};
 
@@ -47,7 +47,7 @@ fn write_answer(
     requires { ⌜ ((p : RuledBets (now event) at n) × PairsListed (p .row .items) (now event) (now places) (now firsts) k × SolutionFits (now variables) (p .row .items) used (length (now out))) ⌝ }
     requires { ⌜ All (λ v. v < 65536) (now variables) ⌝ }
     requires { ⌜ length (now value) ≡ value-limit ⌝ }
-    requires { ⌜ Linked (now event) (now places) k (now links) ⌝ }
+    requires { ⌜ PairsLinked (now event) (now places) k (now links) ⌝ }
     ensures { λ r. ⌜ ((p : RuledBets (now (event .entry)) at n) → PairsListed (p .row .items) (now (event .entry)) (now (places .entry)) (now (firsts .entry)) k → SolutionFits (now (variables .entry)) (p .row .items) used (length (now (out .entry))) → Put (now (out .entry)) 0 (solution-bytes (solution-of (now (variables .entry)) (p .row .items))) (now (out .exit)) r) ⌝ }
 {
     let pairs_at = put_word(out, 0, variables.len());
@@ -82,7 +82,7 @@ fn answer_by(
     out: &mut [u8],
 ) -> Receipt
     requires { ⌜ ((p : RuledBets (now event) at n) × PairsListed (p .row .items) (now event) (now places) (now firsts) k) ⌝ }
-    requires { ⌜ Linked (now event) (now places) k (now links) ⌝ }
+    requires { ⌜ PairsLinked (now event) (now places) k (now links) ⌝ }
     requires { ⌜ (length (now event) ≤ 32768) × (length (now value) ≡ value-limit) ⌝ }
     requires { ⌜ All (λ v. v < 65536) (now variables) ⌝ }
     requires { ⌜ length (now variables) ≤ 65535 ⌝ }

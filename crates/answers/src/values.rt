@@ -17,7 +17,7 @@ ghost use Rattle.records.specs.Writing.Patched.{Put};
 ghost use Rattle.terms.specs.Theory.Outcome.{value-limit};
 ghost use Rattle.terms.specs.Values.Answered.{Answered};
 ghost use Rattle.terms.specs.Values.Entries.{PairsListed};
-ghost use Rattle.terms.specs.Values.Links.{Linked};
+ghost use Rattle.terms.specs.Values.Links.{PairsLinked};
 ghost use Rattle.answers.specs.Form.Answer.{values-of};
 ghost use Rattle.answers.specs.Writing.Values.{value-pair, value-pairs, pairs-sized, ValuePairFits, ValuePairsFit};
 
@@ -34,7 +34,7 @@ fn listed_variable(
     requires { ⌜ ((bets : List Bet) × PairsListed bets (now event) (now places) (now firsts) k) ⌝ }
     requires { ⌜ v < 65536 ⌝ }
     requires { ⌜ length (now value) ≡ value-limit ⌝ }
-    requires { ⌜ Linked (now event) (now places) k (now links) ⌝ }
+    requires { ⌜ PairsLinked (now event) (now places) k (now links) ⌝ }
     ensures { λ r. ⌜ ((bets : List Bet) → PairsListed bets (now (event .entry)) (now (places .entry)) (now (firsts .entry)) k → Answered bets (var v) (now (value .exit)) r) ⌝ }
 {
     let term: [u8; 3] = [VARIABLE, (v / 256) as u8, (v % 256) as u8];
@@ -55,7 +55,7 @@ pub fn values_length(
     requires { ⌜ All (λ v. v < 65536) (now variables) ⌝ }
     requires { ⌜ length (now variables) ≤ 65536 ⌝ }
     requires { ⌜ length (now value) ≡ value-limit ⌝ }
-    requires { ⌜ Linked (now event) (now places) k (now links) ⌝ }
+    requires { ⌜ PairsLinked (now event) (now places) k (now links) ⌝ }
     ensures { λ r. ⌜ ((bets : List Bet) → PairsListed bets (now (event .entry)) (now (places .entry)) (now (firsts .entry)) k → r ≡ pairs-sized (values-of bets (now (variables .entry)))) ⌝ }
 {
     let mut i = 0;
@@ -86,7 +86,7 @@ fn put_value_pair(
     requires { ⌜ ((bets : List Bet) × PairsListed bets (now event) (now places) (now firsts) k × ValuePairFits bets v at (length (now out))) ⌝ }
     requires { ⌜ v < 65536 ⌝ }
     requires { ⌜ length (now value) ≡ value-limit ⌝ }
-    requires { ⌜ Linked (now event) (now places) k (now links) ⌝ }
+    requires { ⌜ PairsLinked (now event) (now places) k (now links) ⌝ }
     ensures { λ r. ⌜ ((bets : List Bet) → PairsListed bets (now (event .entry)) (now (places .entry)) (now (firsts .entry)) k → ValuePairFits bets v at (length (now (out .entry))) → Put (now (out .entry)) at (binding-bytes (value-pair bets v)) (now (out .exit)) r) ⌝ }
 {
     let term_at = put_word(out, at, v);
@@ -111,7 +111,7 @@ pub fn put_value_pairs(
     requires { ⌜ ((bets : List Bet) × PairsListed bets (now event) (now places) (now firsts) k × ValuePairsFit bets (now variables) at (length (now out))) ⌝ }
     requires { ⌜ All (λ v. v < 65536) (now variables) ⌝ }
     requires { ⌜ length (now value) ≡ value-limit ⌝ }
-    requires { ⌜ Linked (now event) (now places) k (now links) ⌝ }
+    requires { ⌜ PairsLinked (now event) (now places) k (now links) ⌝ }
     ensures { λ r. ⌜ ((bets : List Bet) → PairsListed bets (now (event .entry)) (now (places .entry)) (now (firsts .entry)) k → ValuePairsFit bets (now (variables .entry)) at (length (now (out .entry))) → Put (now (out .entry)) at (each binding-bytes (value-pairs bets (now (variables .entry)))) (now (out .exit)) r) ⌝ }
 {
     let mut i = 0;

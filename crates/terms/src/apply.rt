@@ -11,7 +11,7 @@ ghost use lib.ListN.{length};
 ghost use Rattle.records.specs.Format.Syntax.{Bet};
 ghost use Rattle.terms.specs.Theory.Outcome.{value-limit};
 ghost use Rattle.terms.specs.Values.Entries.{PairsListed};
-ghost use Rattle.terms.specs.Values.Links.{Linked};
+ghost use Rattle.terms.specs.Values.Links.{PairsLinked};
 ghost use Rattle.terms.specs.Values.Answered.{Answered, Buffers};
 ghost use Rattle.terms.specs.Values.Applied.{TermAt};
 ghost use Rattle.terms.specs.Standing.BetRow.{RuledBets};
@@ -28,7 +28,7 @@ pub fn linked_value(
     out: &mut [u8],
 ) -> Sized
     requires { ⌜ ((bets : List Bet) × PairsListed bets (now event) (now places) (now firsts) k) ⌝ }
-    requires { ⌜ Linked (now event) (now places) k (now links) ⌝ }
+    requires { ⌜ PairsLinked (now event) (now places) k (now links) ⌝ }
     requires { ⌜ ((to : ℕ) × TermAt (now src) from to) ⌝ }
     requires { ⌜ length (now out) ≡ value-limit ⌝ }
     ensures { λ r. ⌜ ((bets : List Bet) → PairsListed bets (now (event .entry)) (now (places .entry)) (now (firsts .entry)) k → (to : ℕ) (q : TermAt (now (src .entry)) from to) → Answered bets (q .term) (now (out .exit)) r) ⌝ }

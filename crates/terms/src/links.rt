@@ -5,7 +5,7 @@ use records::heads::word_at;
 ghost use mathlib.Core.Path.{_≡_};
 ghost use Prim.Native.Nat.{_≤_, _<_};
 ghost use lib.ListN.{length};
-ghost use Rattle.terms.specs.Values.Links.{Linked, PairLinked, LookFrom};
+ghost use Rattle.terms.specs.Values.Links.{PairsLinked, PairLinked, LookFrom};
 
 fn wide(n: u16) -> usize
     ensures { λ r. ⌜ r ≡ n ⌝ }
@@ -39,7 +39,7 @@ fn link_pair(event: &[u8], at: usize, n: u16, links: &mut [u16])
 // Links for the first k entries.
 pub fn link_pairs(event: &[u8], places: &[usize], k: usize, links: &mut [u16])
     requires { ⌜ (k ≤ length (now places)) × (k < 65536) ⌝ }
-    ensures { λ _. ⌜ Linked (now (event .entry)) (now (places .entry)) k (now (links .exit)) ⌝ }
+    ensures { λ _. ⌜ PairsLinked (now (event .entry)) (now (places .entry)) k (now (links .exit)) ⌝ }
 {
     let mut j = 0;
     while j < k {

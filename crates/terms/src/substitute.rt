@@ -29,7 +29,7 @@ ghost use Rattle.terms.specs.Theory.Substitution.{Substitution, apply};
 ghost use Rattle.terms.specs.Values.Fitted.{Fitted};
 ghost use Rattle.terms.specs.Values.NodeBytes.{traversal-bytes};
 ghost use Rattle.terms.specs.Values.Entries.{PairTable, FoundPair};
-ghost use Rattle.terms.specs.Values.Links.{Linked};
+ghost use Rattle.terms.specs.Values.Links.{PairsLinked};
 ghost use Rattle.terms.specs.Values.Replacing.{Replaces, ValueFound, pairs-left};
 
 // How many bytes were written, or that they are more than the output holds.
@@ -100,7 +100,7 @@ fn put_numbered(
 // Where, among the first i pairs of a table, the last one stands that binds v.
 fn find_pair(event: &[u8], places: &[usize], links: &[u16], i: usize, v: usize) -> Found
     requires { ⌜ i ≤ length (now places) ⌝ }
-    requires { ⌜ Linked (now event) (now places) i (now links) ⌝ }
+    requires { ⌜ PairsLinked (now event) (now places) i (now links) ⌝ }
     ensures { λ r. ⌜ ((firsts : List ℕ) (p : PairTable (now (event .entry)) (now (places .entry)) firsts i) → FoundPair (p .bets) i v r) ⌝ }
 {
     let mut k = look_from(links, i, v);
@@ -133,7 +133,7 @@ fn find_value(
     v: usize,
 ) -> Bound
     requires { ⌜ PairTable (now event) (now table) (now firsts) i ⌝ }
-    requires { ⌜ Linked (now event) (now table) i (now links) ⌝ }
+    requires { ⌜ PairsLinked (now event) (now table) i (now links) ⌝ }
     ensures { λ r. ⌜ ((p : PairTable (now (event .entry)) (now (table .entry)) (now (firsts .entry)) i) → ValueFound (now (event .entry)) (now (table .entry)) (now (firsts .entry)) i (apply (p .bets) (var v)) r) ⌝ }
 {
     let mut n = i;
@@ -161,7 +161,7 @@ fn put_variable(
     v: usize,
     out: &mut [u8],
 ) -> Sized
-    requires { ⌜ ((θ : Substitution) × Replaces (now event) (now table) (now firsts) by θ × Linked (now event) (now table) (pairs-left by) (now links)) ⌝ }
+    requires { ⌜ ((θ : Substitution) × Replaces (now event) (now table) (now firsts) by θ × PairsLinked (now event) (now table) (pairs-left by) (now links)) ⌝ }
     requires { ⌜ v < 65536 ⌝ }
     ensures { λ r. ⌜ ((θ : Substitution) → Replaces (now (event .entry)) (now (table .entry)) (now (firsts .entry)) by θ → Fitted (now (out .entry)) (term-bytes (θ v)) (now (out .exit)) r) ⌝ }
 {
@@ -203,7 +203,7 @@ pub fn put_nodes(
     start: Cursor,
     out: &mut [u8],
 ) -> Sized
-    requires { ⌜ ((θ : Substitution) × Replaces (now event) (now table) (now firsts) by θ × Linked (now event) (now table) (pairs-left by) (now links)) ⌝ }
+    requires { ⌜ ((θ : Substitution) × Replaces (now event) (now table) (now firsts) by θ × PairsLinked (now event) (now table) (pairs-left by) (now links)) ⌝ }
     requires { ⌜ On (traverse (now s) (start .pos) (start .terms) (start .goals)) ⌝ }
     ensures { λ r. ⌜ ((θ : Substitution) → Replaces (now (event .entry)) (now (table .entry)) (now (firsts .entry)) by θ → Fitted (now (out .entry)) (traversal-bytes θ (traverse (now (s .entry)) (start .pos) (start .terms) (start .goals))) (now (out .exit)) r) ⌝ }
 {

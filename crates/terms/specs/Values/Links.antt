@@ -8,7 +8,7 @@ use Rattle.records.specs.Format.Heads.{word-at}
 use Rattle.records.specs.declared.heads.Word.the-variants.{Number}
 
 -- of the first i entries those that bind v are below its link
-pub record Linked (s places : List ℕ) (i : ℕ) (links : List ℕ) : Type 0 where
+pub record PairsLinked (s places : List ℕ) (i : ℕ) (links : List ℕ) : Type 0 where
   pub below : (j v : ℕ) → j < i → v < length links → word-at s (getD places j 0) ≡ Number v → j < getD links v 0
 
 -- one entry more: n is the link of its variable, and what was below a link still is

@@ -12,18 +12,18 @@ use Rattle.records.specs.declared.heads.Word.{Word}
 use Rattle.records.specs.declared.heads.Word.the-variants.{Number, Short}
 use Rattle.terms.specs.Values.Entries.{PairTable, pair-entries}
 use Rattle.terms.specs.Values.EntryLaws.{Searching, searched, searching-next, find-start, entry-entered}
-use Rattle.terms.specs.Values.Links.{Linked, PairLinked, LookFrom}
+use Rattle.terms.specs.Values.Links.{PairsLinked, PairLinked, LookFrom}
 
-pub linked-none : {s places : List ℕ} {i : ℕ} {links : List ℕ} → length links ≡ 0 → Linked s places i links
+pub linked-none : {s places : List ℕ} {i : ℕ} {links : List ℕ} → length links ≡ 0 → PairsLinked s places i links
 linked-none e = record { below = λ j v h l w. absurd (omega arith) }
 
-pub linked-fewer : {s places : List ℕ} {i n : ℕ} {links : List ℕ} → Linked s places i links → n ≤ i → Linked s places n links
+pub linked-fewer : {s places : List ℕ} {i n : ℕ} {links : List ℕ} → PairsLinked s places i links → n ≤ i → PairsLinked s places n links
 linked-fewer u m = record { below = λ j v h l w. u .below j v (omega arith) l w }
 
-pub linked-start : {s places links : List ℕ} → Linked s places 0 links
+pub linked-start : {s places links : List ℕ} → PairsLinked s places 0 links
 linked-start = record { below = λ j v h l w. absurd (omega arith) }
 
-pub linked-next : {s places : List ℕ} {k : ℕ} {links₀ links : List ℕ} → Linked s places k links₀ → PairLinked s (getD places k 0) (k + 1) links₀ links → Linked s places (k + 1) links
+pub linked-next : {s places : List ℕ} {k : ℕ} {links₀ links : List ℕ} → PairsLinked s places k links₀ → PairLinked s (getD places k 0) (k + 1) links₀ links → PairsLinked s places (k + 1) links
 linked-next {s} {places} {k} {links₀} {links} u q = record { below = λ j v h l w. go j v h l w (ℕ-discrete j k) }
   where
     go : (j v : ℕ) → j < k + 1 → v < length links → word-at s (getD places j 0) ≡ Number v → Dec (j ≡ k) → j < getD links v 0
@@ -56,7 +56,7 @@ pub look-linked : {links : List ℕ} {i v r : ℕ} → v < length links → r �
 look-linked h e l = record { within = l; beyond = λ j m n. (h, omega arith) }
 
 -- a look that begins by the links
-pub searching-from : {s places firsts : List ℕ} {i : ℕ} (p : PairTable s places firsts i) {links : List ℕ} → Linked s places i links → {v r : ℕ} → LookFrom links i v r
+pub searching-from : {s places firsts : List ℕ} {i : ℕ} (p : PairTable s places firsts i) {links : List ℕ} → PairsLinked s places i links → {v r : ℕ} → LookFrom links i v r
     → Searching (pair-entries [] (p .bets)) v r
 searching-from {s} {places} {firsts} {i} p {links} u {v} {r} f = down (i - r) i (omega (arith, f .within)) (omega arith) (find-start p v)
   where

@@ -3,14 +3,14 @@ use mathlib.Core.Path.{_≡_, refl, _∙_}
 use native.Mathlib.Omega.{arith}
 use Prim.Native.Nat.{_-_, _≤_}
 use lib.ListN.{length}
-use Rattle.terms.specs.Values.Links.{Linked}
+use Rattle.terms.specs.Values.Links.{PairsLinked}
 use Rattle.terms.specs.Values.LinksLaws.{linked-start, linked-fewer, linked-next}
 use borrow.Author.Needs.{needs}
 use Rattle.terms.proofs.links.link_pairs.Statement.{statement}
 use Rattle.terms.proofs.links.link_pairs.Tie as tie
 
 abbrev Inv-loop : tie.InvT-loop
-Inv-loop event places k links₀ j₀ links j = Linked event places j links × (j ≤ k) × (length links ≡ length links₀)
+Inv-loop event places k links₀ j₀ links j = PairsLinked event places j links × (j ≤ k) × (length links ≡ length links₀)
 
 abbrev μ-loop : tie.MeasureT-loop
 μ-loop event places k links₀ j₀ links j = k - j

@@ -22,8 +22,9 @@
  *    8  has each value at most 8,192 bytes?
  *    9  has each local of the body a number of at most 65,535? In a canonical program: has every definition at most 255 locals?
  *   10  does the result fit FOURPORT_RECORD bytes? Of an answer of a query: does it fit what is left of the output?
+ *   32  on the way back to a door: is a step left within the limit?
  *
- * The questions are put in this order: 1 to 4, 11 to 14, 5, and then 6 to 10; the second part of 7 is put last.
+ * The questions are put in this order: 1 to 4, 11 to 14, 5, and then 6 to 10; the second part of 7 is put behind 10, and 32 last.
  *
  * Duties of a caller, which nothing here can test:
  *  - A pointer is not null and points to as many readable bytes as the length beside it says, `out` to as many writable and initialised ones; where
@@ -79,6 +80,16 @@ uint32_t fourport_back(const uint8_t *program, size_t program_length, const uint
  * 1 to 5, 11 to 14: `out` is untouched, and `taken` is 0. */
 uint32_t fourport_run(const uint8_t *program, size_t program_length, const uint8_t *event, size_t event_length, uint32_t steps, uint8_t back,
                       uint8_t *out, size_t out_length, uint32_t *taken);
+
+/* Back to the door of an event: the nearest event, itself included, that calls the same goal with the same ancestors, tags too, whatever the bets
+ * are. It is found by single steps back, and no such call is passed on the way.
+ * 0: the door is found. 7 to 10: the number that refused the next step back; from an event that a walk reaches none does. 32: `limit` steps were
+ * taken, the door is not met, and the next step would not be refused. In all these cases the record of the event come to, the given one if no step
+ * was taken, stands at the start of `out`, whose bytes after it are untouched, and `taken` is the number of steps taken: as many steps forward lead
+ * from it to the given event again.
+ * 1 to 5, 11 to 14: `out` is untouched, and `taken` is 0. */
+uint32_t fourport_door(const uint8_t *program, size_t program_length, const uint8_t *event, size_t event_length, uint32_t limit,
+                       uint8_t *out, size_t out_length, uint32_t *taken);
 
 /* Every answer of the query Q: the walk of 'Q, fail', at most `steps` steps forward, and an answer at each exit of Q whose only ancestor is 1/Q,fail.
  * An answer has two bytes that count the variables of Q, each variable by rising number (two bytes) with its value (a term), and then two bytes that

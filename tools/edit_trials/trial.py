@@ -11,6 +11,7 @@ PROGRAMS = {
     'terms': ['terms_cases'],
     'stepper': ['stepper_cases'],
     'answers': ['answers_cases'],
+    'goal_door': ['goal_door_cases'],
     'canonical': ['canonical_cases'],
     'walk_text': ['walk_cases'],
 }

@@ -31,3 +31,11 @@ class Chance(random.Random):
             local_count = self.randint(0, most_locals)
             made.append(Definition(n, arity, local_count, self.goal(arity + local_count, keys[n + 1:])))
         return made, keys
+
+    def event(self, keys):
+        """with at most one ancestor and one bet; few walks reach it"""
+        goals = [self.goal(2, keys, 1) for _ in range(2)]
+        ancestor = self.choice([Half(self.choice([CONJUNCTION, DISJUNCTION]), self.randint(1, 2), *goals), Atom(0, (Var(1),) * keys[0][1])])
+        bet = self.choice([Unifier(()), Unifier((Pair(0, Sym(0, ())),)), Or(1), Or(2), By(goals[0])])
+        goal = self.choice([*goals, self.goal(2, keys, 1)])
+        return Event(self.randint(1, 4), goal, stack([ancestor] * self.randint(0, 1)), stack([bet] * self.randint(0, 1)))

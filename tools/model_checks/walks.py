@@ -62,11 +62,7 @@ def events_by_chance():
     chance, met = Chance(4), 0
     for _ in range(20000):
         program, keys = chance.program(1)
-        goals = [chance.goal(2, keys, 1) for _ in range(2)]
-        ancestor = chance.choice([Half(chance.choice([CONJUNCTION, DISJUNCTION]), chance.randint(1, 2), *goals), Atom(0, (Var(1),) * keys[0][1])])
-        bet = chance.choice([Unifier(()), Unifier((Pair(0, Sym(0, ())),)), Or(1), Or(2), By(goals[0])])
-        goal = chance.choice([*goals, chance.goal(2, keys, 1)])
-        event = Event(chance.randint(1, 4), goal, stack([ancestor] * chance.randint(0, 1)), stack([bet] * chance.randint(0, 1)))
+        event = chance.event(keys)
         source = stepped(step_back, program, event)
         if source is not None:
             met += 1

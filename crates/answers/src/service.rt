@@ -9,32 +9,30 @@ use records::kinds::RECORD_LIMIT;
 use records::kinds::VALUE_LIMIT;
 use records::places::places_by;
 use records::put::Receipt;
-use records::put::put_part;
 use records::questions::DONE;
 use records::questions::FITS;
 use records::questions::OUTPUT;
 use stepper::run::RunAim;
 use stepper::run::RunAnswer;
 use stepper::run::RunOrder;
-use stepper::run::RunStop;
-use stepper::run::run_from;
+use stepper::run::is_met;
+use stepper::run::run_here;
 use terms::tables::MOST_PAIRS;
 ghost use mathlib.Core.Bool.{true};
 ghost use mathlib.Core.List.{List};
 ghost use mathlib.Core.Path.{_≡_};
-ghost use Prim.Native.Nat.{ℕ, _+_, _≤_, _<_, _^_};
-ghost use lib.ListN.{length, take};
+ghost use Prim.Native.Nat.{ℕ, _+_, _<_, _^_};
+ghost use lib.ListN.{length};
 ghost use Rattle.records.specs.Format.Syntax.{Goal, Definition};
-ghost use Rattle.records.specs.Gate.Door.{Trees, BothPassed};
+ghost use Rattle.records.specs.Gate.Door.{Trees};
 ghost use Rattle.records.specs.Gate.Gate.{read-program, read-query};
 ghost use Rattle.records.specs.Gate.Reply.{gives, answer-number};
-ghost use Rattle.stepper.specs.Run.Run.{run};
 ghost use Rattle.stepper.specs.Services.Desk.{layers};
 ghost use Rattle.stepper.specs.Services.Services.{machine};
 ghost use Rattle.answers.specs.Form.Answers.{answers};
-ghost use Rattle.answers.specs.Form.NextExit.{exit-order, to-next-exit};
+ghost use Rattle.answers.specs.Form.NextExit.{exit-order};
 ghost use Rattle.answers.specs.Form.Service.{begin-answer, answers-record, AnswersReplied};
-ghost use Rattle.answers.specs.Writing.Listing.{met-case, first-listing, stopped-listing, answered-listing, RanHere, AnswerTables, ListStands, Listed, Turned};
+ghost use Rattle.answers.specs.Writing.Listing.{first-listing, stopped-listing, answered-listing, AnswerTables, ListStands, Listed, Turned};
 
 // A query has at most so many variables: each has three bytes.
 const MOST_VARIABLES: usize = 10923;
@@ -65,40 +63,6 @@ fn exit_order() -> RunOrder
         },
         logged: false,
     }
-}
-
-// Whether a run met its aim.
-fn is_met(stop: RunStop) -> bool
-    ensures { λ r. ⌜ r ≡ met-case stop ⌝ }
-{
-    match stop {
-        RunStop::Spent => false,
-        RunStop::Met => true,
-        RunStop::Full => false,
-        RunStop::Refused => false,
-    }
-}
-
-// The run to the next exit, from the event whose record has the first bytes of `here`. The record of the event reached is left there.
-fn run_to_exit(program: &[u8], here: &mut [u8], len: usize, steps: u32) -> RunAnswer
-    requires { ⌜ len ≤ length (now here) ⌝ }
-    requires { ⌜ 32768 ≤ length (now here) ⌝ }
-    requires { ⌜ BothPassed (now program) (take len (now here)) ⌝ }
-    ensures { λ r. ⌜ ((w : BothPassed (now (program .entry)) (take len (now (here .entry)))) → RanHere (run (machine layers (w .definitions)) to-next-exit steps (w .event)) r (now (here .entry)) (now (here .exit))) ⌝ }
-{
-    let mut there: [u8; RECORD_LIMIT] = [0; RECORD_LIMIT];
-    let mut no_log: [usize; 1] = [0; 1];
-    let r = run_from(
-        program,
-        &here[..len],
-        exit_order(),
-        steps,
-        &mut no_log,
-        &mut there,
-    );
-    let n = r.length;
-    put_part(here, 0, &there[..n]);
-    r
 }
 
 // The list where the walk stops before another exit.
@@ -145,7 +109,8 @@ fn next_answer(
     requires { ⌜ AnswerTables (now here) (now places) (now firsts) (now value) ⌝ }
     ensures { λ r. ⌜ ((ds : List Definition) (q : Goal) (before : List ℕ) → ListStands (now (program .entry)) ds q (now (variables .entry)) steps before last (now (here .entry)) (now (out .entry)) → Turned (now (program .entry)) ds q (now (variables .entry)) steps before last r (now (here .exit)) (now (out .exit))) ⌝ }
 {
-    let r = run_to_exit(program, here, last.length, steps - last.taken);
+    let left = steps - last.taken;
+    let r = run_here(program, here, last.length, exit_order(), left);
     let stop = r.stop;
     if !is_met(stop) {
         return stopped_listing(last, r);

@@ -5,3 +5,4 @@ pub mod step; // step.rt: single steps, and runs
 pub mod count; // count.rt: the port counts of a walk
 pub mod look; // look.rt: a variable's value, the definition that an atom names, an event's greatest variable
 pub mod list; // list.rt: every answer of a query
+pub mod door; // door.rt: back to the door of a goal

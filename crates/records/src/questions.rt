@@ -1,4 +1,4 @@
-// The numbers by which questions 5 to 10 refuse (SPECIFICATION 7.3 to 7.6), named as in the definitions; 0 is done.
+// The numbers by which questions 5 to 10 and 32 refuse (SPECIFICATION 7.3 to 7.6, 8.13), named as in the definitions; 0 is done.
 // Questions 1 to 4 have theirs in `program_number` and `event_number`.
 pub const DONE: u8 = 0;
 
@@ -13,3 +13,5 @@ pub const VALUES: u8 = 8;
 pub const LOCALS: u8 = 9;
 
 pub const FITS: u8 = 10;
+
+pub const ALLOWED: u8 = 32;

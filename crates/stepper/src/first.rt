@@ -7,7 +7,6 @@ use records::plan::Plan;
 use records::plan::Stack;
 use records::plan::emit_plan;
 use records::put::Range;
-use records::put::Receipt;
 use records::questions::DONE;
 ghost use mathlib.Core.Path.{_≡_};
 ghost use Rattle.records.specs.Gate.Reply.{Replied};

@@ -16,7 +16,8 @@ use records::questions::DONE;
 ghost use mathlib.Core.Path.{_≡_};
 ghost use mathlib.Core.Bool.{false};
 ghost use Prim.Native.Nat.{_+_, _≤_, _<_};
-ghost use lib.ListN.{length};
+ghost use mathlib.Core.List.{[]};
+ghost use lib.ListN.{length, take};
 ghost use Rattle.records.specs.Format.Syntax.{Event};
 ghost use Rattle.records.specs.Gate.Gate.{Accepted, tree, read-event};
 ghost use Rattle.records.specs.Writing.Patched.{Put};
@@ -27,7 +28,7 @@ ghost use Rattle.records.specs.Ends.Places.{EndsOf};
 ghost use Rattle.stepper.specs.Step.Stepped.{Stepped, BothPassed};
 ghost use Rattle.stepper.specs.Run.Run.{mark, is-full, less-room, run};
 ghost use Rattle.stepper.specs.Run.RunService.{run-record, RunReplied};
-ghost use Rattle.stepper.specs.Run.RunLoop.{RunStands, RunHolds, direction, told-mark, mark-numbers, with-mark, port-flag, aimed-at, stop-at, room-of, stopped-run, stopped-case, asked, plain-order, refused-run, RanTo};
+ghost use Rattle.stepper.specs.Run.RunLoop.{RunStands, RunHolds, direction, told-mark, mark-numbers, with-mark, port-flag, aimed-at, stop-at, room-of, started-run, stopped-run, met-case, stopped-case, asked, plain-order, refused-run, RanTo, RanHere};
 
 // Events of these ports that have so many ancestors.
 pub struct RunAim {
@@ -213,6 +214,18 @@ fn run_turn(
     }
 }
 
+// Whether a run met its aim.
+pub fn is_met(stop: RunStop) -> bool
+    ensures { λ r. ⌜ r ≡ met-case stop ⌝ }
+{
+    match stop {
+        RunStop::Spent => false,
+        RunStop::Met => true,
+        RunStop::Full => false,
+        RunStop::Refused => false,
+    }
+}
+
 // Whether a run has stopped before all its steps were taken.
 fn has_stopped(stop: RunStop) -> bool
     ensures { λ r. ⌜ r ≡ stopped-case stop ⌝ }
@@ -252,6 +265,19 @@ fn run_on(
     last
 }
 
+// A run that has taken no step, at an event whose record has this length and these ends.
+fn started(length: usize, ends: PartEnds) -> RunAnswer
+    ensures { λ r. ⌜ r ≡ started-run length ends ⌝ }
+{
+    RunAnswer {
+        number: DONE,
+        stop: RunStop::Spent,
+        taken: 0,
+        length,
+        ends,
+    }
+}
+
 // The run from an accepted event under an accepted program. Where the order wants a log, its slice is lent as one, else it is left alone.
 pub fn run_from(
     program: &[u8],
@@ -269,17 +295,31 @@ pub fn run_from(
     let mut there: [u8; RECORD_LIMIT] = [0; RECORD_LIMIT];
     let length = put_part(&mut here, 0, event);
     let ends = part_ends(event);
-    let first = RunAnswer {
-        number: DONE,
-        stop: RunStop::Spent,
-        taken: 0,
-        length,
-        ends,
-    };
+    let first = started(length, ends);
     let r = run_on(program, &mut here, &mut there, order, first, steps, log);
     let reached = r.length;
     put_part(out, 0, &here[..reached]);
     r
+}
+
+// The run with no log from the event whose record has the first bytes of `here`. The record of the event reached is left there.
+pub fn run_here(
+    program: &[u8],
+    here: &mut [u8],
+    len: usize,
+    order: RunOrder,
+    steps: u32,
+) -> RunAnswer
+    requires { ⌜ order .logged ≡ false ⌝ }
+    requires { ⌜ (len ≤ length (now here)) × (32768 ≤ length (now here)) ⌝ }
+    requires { ⌜ BothPassed (now program) (take len (now here)) ⌝ }
+    ensures { λ r. ⌜ ((w : BothPassed (now (program .entry)) (take len (now (here .entry)))) → RanHere (run (machine layers (w .definitions)) (asked order []) steps (w .event)) r (now (here .entry)) (now (here .exit))) ⌝ }
+{
+    let mut there: [u8; RECORD_LIMIT] = [0; RECORD_LIMIT];
+    let mut no_log: [usize; 1] = [0; 1];
+    let ends = part_ends(&here[..len]);
+    let first = started(len, ends);
+    run_on(program, here, &mut there, order, first, steps, &mut no_log)
 }
 
 // Steps alone.

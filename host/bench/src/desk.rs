@@ -11,6 +11,8 @@ pub trait Desk {
     fn back(&self, program: &[u8], event: &[u8], out: &mut [u8]) -> u32;
     /// The number and the steps taken.
     fn run(&self, program: &[u8], event: &[u8], steps: u32, back: bool, out: &mut [u8]) -> (u32, u32);
+    /// The number and the steps taken.
+    fn door(&self, program: &[u8], event: &[u8], limit: u32, out: &mut [u8]) -> (u32, u32);
     fn answers(&self, program: &[u8], query: &[u8], steps: u32, out: &mut [u8]) -> u32;
     fn value(&self, event: &[u8], v: u16, out: &mut [u8]) -> u32;
     /// The length of the definition.
@@ -42,6 +44,11 @@ impl Desk for Fourport {
     fn run(&self, program: &[u8], event: &[u8], steps: u32, back: bool, out: &mut [u8]) -> (u32, u32) {
         let mut taken = 0;
         (raw::run(program, event, steps, u8::from(back), out, &mut taken), taken)
+    }
+
+    fn door(&self, program: &[u8], event: &[u8], limit: u32, out: &mut [u8]) -> (u32, u32) {
+        let mut taken = 0;
+        (raw::door(program, event, limit, out, &mut taken), taken)
     }
 
     fn answers(&self, program: &[u8], query: &[u8], steps: u32, out: &mut [u8]) -> u32 {
@@ -96,6 +103,11 @@ impl Desk for Twin {
     fn run(&self, program: &[u8], event: &[u8], steps: u32, back: bool, out: &mut [u8]) -> (u32, u32) {
         let direction = if back { Direction::Back } else { Direction::Forward };
         let reply = services::run(program, event, steps, direction, out.len());
+        (written(reply.number, &reply.bytes, out), reply.steps)
+    }
+
+    fn door(&self, program: &[u8], event: &[u8], limit: u32, out: &mut [u8]) -> (u32, u32) {
+        let reply = twin::door::door(program, event, limit, out.len());
         (written(reply.number, &reply.bytes, out), reply.steps)
     }
 

@@ -1,10 +1,11 @@
-//! The benchmark: bench FOLDER [TABLE ..] prints the tables walks, sizes and calls, or those named, in Markdown. FOLDER holds what `host/bench/run`
-//! makes: the records of each program and the rates of SWI-Prolog. bench profile LENGTH TIMES steps through
-//! events of that length, for a profiler.
+//! The benchmark: bench FOLDER [TABLE ..] prints the tables walks, sizes, doors and calls, or those named, in Markdown. FOLDER holds what
+//! `host/bench/run` makes: the records of each program and the rates of SWI-Prolog. bench profile LENGTH TIMES steps through events of that length,
+//! for a profiler.
 
 mod calls;
 mod clock;
 mod desk;
+mod doors;
 mod prolog;
 mod sizes;
 mod walks;
@@ -29,6 +30,9 @@ fn main() {
         }
         if wanted("sizes") {
             sizes::table(&Fourport);
+        }
+        if wanted("doors") {
+            doors::table(&Fourport, &Twin);
         }
         if wanted("calls") {
             calls::table(&Fourport, &Twin);

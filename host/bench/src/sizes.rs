@@ -21,7 +21,7 @@ fn halves(v: u16) -> [Bytes; 2] {
 }
 
 /// bay(V) :- V = a ; V = b.
-fn bays() -> Bytes {
+pub fn bays() -> Bytes {
     let [first, second] = halves(0);
     program(&[definition(1, 1, 0, &disjunction(&first, &second))])
 }
@@ -32,14 +32,14 @@ fn search() -> Bytes {
 }
 
 /// What a call of bay leaves among the ancestors, as often as it fits.
-fn ancestors(room: usize) -> Vec<Bytes> {
+pub fn ancestors(room: usize) -> Vec<Bytes> {
     let [first, second] = halves(2);
     let call = atom(1, &[variable(2)]);
     filled(&[half(IN_DISJUNCTION, 2, &first, &second), call.clone(), half(IN_CONJUNCTION, 1, &call, &TRUE)], room)
 }
 
 /// What it leaves among the bets.
-fn bets(room: usize) -> Vec<Bytes> {
+pub fn bets(room: usize) -> Vec<Bytes> {
     let [first, second] = halves(2);
     filled(&[by(&disjunction(&first, &second)), or(1), unifier(&[(2, constant(0))])], room)
 }

@@ -11,7 +11,7 @@ const PROGRAMS: [&str; 4] = ["member", "path", "colouring", "append"];
 
 /// A program record, the first event of its query, the last event of the walk, and the steps between them.
 pub struct Walk {
-    program: Vec<u8>,
+    pub program: Vec<u8>,
     pub first: Vec<u8>,
     pub last: Vec<u8>,
     pub steps: u32,
@@ -47,29 +47,29 @@ impl Walk {
         assert_eq!(desk.run(&self.program, &self.last, self.steps, true, &mut out), (0, self.steps));
     }
 
-    /// Over the whole walk by single steps; the lengths of its events together.
-    fn stepped(&self, desk: &dyn Desk, back: bool) -> usize {
+    /// Over the whole walk by single steps; `meet` is given each event but the one at which it starts.
+    pub fn each(&self, desk: &dyn Desk, back: bool, mut meet: impl FnMut(&[u8])) {
         let (mut here, mut there) = (vec![0; ROOM], vec![0; ROOM]);
         let from = if back { &self.last } else { &self.first };
         here[..from.len()].copy_from_slice(from);
-        let mut bytes = from.len();
         for _ in 0..self.steps {
             let event = record_at(&here);
             let number = if back { desk.back(&self.program, event, &mut there) } else { desk.forward(&self.program, event, &mut there) };
             assert_eq!(number, 0);
             std::mem::swap(&mut here, &mut there);
-            bytes += record_at(&here).len();
+            meet(record_at(&here));
         }
-        bytes
     }
 
     /// Nanoseconds a step where each step crosses the boundary.
     fn single(&self, desk: &dyn Desk, back: bool) -> f64 {
-        nanoseconds(|| _ = self.stepped(desk, back)) / f64::from(self.steps)
+        nanoseconds(|| self.each(desk, back, |_| ())) / f64::from(self.steps)
     }
 
     pub fn mean_length(&self, desk: &dyn Desk) -> f64 {
-        self.stepped(desk, false) as f64 / f64::from(self.steps + 1)
+        let mut bytes = self.first.len();
+        self.each(desk, false, |event| bytes += event.len());
+        bytes as f64 / f64::from(self.steps + 1)
     }
 }
 

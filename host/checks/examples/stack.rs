@@ -9,13 +9,14 @@ use std::{env, thread};
 /// A call with an output of 32,768 bytes.
 type Call = fn(&mut [u8]) -> u32;
 
-const CASES: [(&str, Call); 16] = [
+const CASES: [(&str, Call); 17] = [
     ("nothing", |_| 0),
     ("canonical", |out| raw::canonical(&clauses(&[clause(5, 1, &[nested(8_186, &variable(0))], &TRUE)]), out)),
     ("first", |out| raw::first(&record(&equality(&variable(0), &nested(8_188, &symbol(2, &[])))), out)),
     ("forward", |out| raw::forward(&program(&[]), &event(1, &doubly_nested(1_630), &[], &[]), out)),
     ("back", |out| raw::back(&program(&[]), &event(2, &doubly_nested(2_045), &[], &[unifier(&[])]), out)),
     ("run", |out| raw::run(&program(&[]), &event(2, &doubly_nested(2_045), &[], &[unifier(&[])]), 1, 1, out, &mut 0)),
+    ("door", |out| raw::door(&program(&[]), &event(2, &doubly_nested(2_045), &[], &[unifier(&[])]), 1, out, &mut 0)),
     ("answers", |out| raw::answers(&in_a_body(1_635), &record(&atom(5, &[])), 9, out, &mut 0, &mut 0)),
     ("answers, value", |out| raw::answers(&program(&[]), &record(&equality(&variable(0), &nested(2_047, &symbol(2, &[])))), 9, out, &mut 0, &mut 0)),
     ("value", |out| raw::value(&event(1, &TRUE, &[], &[unifier(&[(0, nested(8_184, &symbol(2, &[])))])]), 0, out, &mut 0)),

@@ -24,6 +24,7 @@ pub enum Service {
     Forward,
     Back,
     Run,
+    Door,
     Answers,
     Value,
     Lookup,
@@ -32,12 +33,13 @@ pub enum Service {
 }
 
 impl Service {
-    pub const ALL: [Service; 10] = [
+    pub const ALL: [Service; 11] = [
         Service::Canonical,
         Service::First,
         Service::Forward,
         Service::Back,
         Service::Run,
+        Service::Door,
         Service::Answers,
         Service::Value,
         Service::Lookup,
@@ -46,12 +48,14 @@ impl Service {
     ];
 
     /// The numbers that the service can give. A query has no question 4, so the first event and the answers never give 14; every event of a walk from
-    /// a query has a rule, so the answers never give 7.
-    pub fn numbers(self) -> &'static [usize] {
+    /// a query has a rule, so the answers never give 7. What steps back to a first event is reached, and so has met its door before: the door never
+    /// gives 6.
+    pub fn numbers(self) -> &'static [u32] {
         match self {
             Service::Canonical => &[0, 1, 2, 3, 4, 5, 9, 10],
             Service::First => &[0, 5, 10, 11, 12, 13],
             Service::Forward | Service::Back | Service::Run => &[0, 1, 2, 3, 4, 5, 6, 7, 8, 9, 10, 11, 12, 13, 14],
+            Service::Door => &[0, 1, 2, 3, 4, 5, 7, 8, 9, 10, 11, 12, 13, 14, 32],
             Service::Answers => &[0, 1, 2, 3, 4, 5, 6, 8, 9, 10, 11, 12, 13],
             Service::Value => &[0, 5, 8, 11, 12, 13, 14],
             Service::Lookup => &[0],
@@ -221,6 +225,21 @@ impl Checker {
         };
         let sides = self.sides(room, desk, twin);
         self.settle(Service::Run, sides, Inputs { records: &[program, event], numbers: format!("steps {steps} back {back} output {room}") })
+    }
+
+    /// The door of an event within so many steps back.
+    pub fn door(&mut self, program: &[u8], event: &[u8], limit: u32, room: usize) -> Checked<Answer> {
+        let desk = |out: &mut [u8]| {
+            let mut taken = 0xDEAD_BEEF;
+            let number = raw::door(program, event, limit, out, &mut taken);
+            (number, vec![u64::from(taken)])
+        };
+        let twin = || {
+            let door = twin::door::door(program, event, limit, room);
+            Answer { number: door.number.into(), beside: vec![door.steps.into()], bytes: door.bytes }
+        };
+        let sides = self.sides(room, desk, twin);
+        self.settle(Service::Door, sides, Inputs { records: &[program, event], numbers: format!("limit {limit} output {room}") })
     }
 
     /// The answers of a query; beside the number, the bytes written and the steps taken.

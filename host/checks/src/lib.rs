@@ -2,6 +2,7 @@
 #![forbid(unsafe_code)]
 
 pub mod compare;
+pub mod doors;
 pub mod generate;
 pub mod holders;
 pub mod kinds;

@@ -1,7 +1,9 @@
 //! What was met: cases by kind, by service and number, steps by rule, bodies by the part that numbers them, events by the parts that hold the
-//! greatest variable, lists of answers by what they were asked for with and what they hold, events of walks by what training material says of them.
+//! greatest variable, lists of answers by what they were asked for with and what they hold, doors by where they were asked for and what lay on the
+//! way, events of walks by what training material says of them.
 
 use crate::compare::Service;
+use crate::doors::{Way, DOORS};
 use crate::holders::HOLDERS;
 use crate::listings::{Sort, LISTINGS};
 use crate::numbering::{Numbered, ENDS, PLACES, WAYS};
@@ -13,9 +15,17 @@ use twin::training::Examined;
 /// The kinds of case that walk from a query's first event.
 const WALKING: [&str; 3] = ["garages", "walks", "moves"];
 
+/// The numbers of all services, each with a column.
+const NUMBERS: [u32; 16] = [0, 1, 2, 3, 4, 5, 6, 7, 8, 9, 10, 11, 12, 13, 14, 32];
+
+fn column(number: u32) -> usize {
+    NUMBERS.iter().position(|&each| each == number).expect("a number of the specification")
+}
+
 #[derive(Clone, Copy, Default)]
 struct Row {
-    numbers: [u64; 15],
+    /// by column
+    numbers: [u64; NUMBERS.len()],
     /// lookups without a definition
     empty: u64,
     desk: Duration,
@@ -45,6 +55,8 @@ pub struct Table {
     holders: [u64; HOLDERS.len()],
     /// lists of answers, by what they were asked for with and what they hold
     listings: [u64; LISTINGS.len()],
+    /// doors, by where they were asked for and what lay on the way
+    doors: [u64; DOORS.len()],
     /// by kind, events of walks from a query
     pub examined: Vec<Examined>,
     /// pairs of lists of steps whose ends are different, and equal
@@ -60,6 +72,7 @@ impl Table {
             numbered: Default::default(),
             holders: Default::default(),
             listings: Default::default(),
+            doors: Default::default(),
             examined: vec![Examined::default(); kinds.len()],
             ends: [0; 2],
         }
@@ -68,7 +81,7 @@ impl Table {
     pub fn add(&mut self, kind: usize, service: Service, met: Met, desk: Duration, twin: Duration) {
         for row in [&mut self.kinds[kind].1, &mut self.services[service as usize]] {
             match met {
-                Met::Number(number) => row.numbers[number as usize] += 1,
+                Met::Number(number) => row.numbers[column(number)] += 1,
                 Met::Empty => row.empty += 1,
             }
             row.desk += desk;
@@ -91,6 +104,10 @@ impl Table {
 
     pub fn add_listing(&mut self, listing: Sort) {
         self.listings[listing as usize] += 1;
+    }
+
+    pub fn add_door(&mut self, way: Way) {
+        self.doors[way as usize] += 1;
     }
 
     fn times(&self, met: Numbered) -> u64 {
@@ -116,7 +133,7 @@ impl Table {
         let mut missed = Vec::new();
         for service in Service::ALL {
             let row = &self.services[service as usize];
-            let unmet = service.numbers().iter().filter(|&&number| row.numbers[number] == 0);
+            let unmet = service.numbers().iter().filter(|&&number| row.numbers[column(number)] == 0);
             missed.extend(unmet.map(|number| format!("{service:?} never gave {number}")));
             if service == Service::Lookup && row.empty == 0 {
                 missed.push("Lookup always found a definition".into());
@@ -135,6 +152,8 @@ impl Table {
         missed.extend(unheld.map(|(parts, _)| format!("the greatest variable never asked for where it is in {parts}")));
         let unlisted = LISTINGS.iter().zip(self.listings).filter(|(_, count)| *count == 0);
         missed.extend(unlisted.map(|(words, _)| format!("no list of answers with {words}")));
+        let unasked = DOORS.iter().zip(self.doors).filter(|(_, count)| *count == 0);
+        missed.extend(unasked.map(|(words, _)| format!("no door asked for: {words}")));
         for (kind, met) in self.walking() {
             let unmet = met.each().into_iter().filter(|(_, count)| *count == 0);
             missed.extend(unmet.map(|(what, _)| format!("no walk of the kind {kind} has a {what}")));
@@ -165,7 +184,7 @@ fn line(f: &mut fmt::Formatter<'_>, name: &str, row: &Row) -> fmt::Result {
 
 fn head(f: &mut fmt::Formatter<'_>, name: &str) -> fmt::Result {
     write!(f, "{name:<12}{:>8}", "cases")?;
-    (0..15).try_for_each(|number| write!(f, "{number:>7}"))?;
+    NUMBERS.iter().try_for_each(|number| write!(f, "{number:>7}"))?;
     writeln!(f, "{:>7}{:>8}{:>8}{:>9}", "empty", "desk s", "twin s", "most ms")
 }
 
@@ -200,6 +219,8 @@ impl fmt::Display for Table {
         HOLDERS.iter().zip(self.holders).try_for_each(|(parts, count)| writeln!(f, "{parts:<34}{:>7}", shown(count)))?;
         writeln!(f, "\nlists of answers")?;
         LISTINGS.iter().zip(self.listings).try_for_each(|(words, count)| writeln!(f, "{words:<34}{:>7}", shown(count)))?;
+        writeln!(f, "\ndoors asked for")?;
+        DOORS.iter().zip(self.doors).try_for_each(|(words, count)| writeln!(f, "{words:<42}{:>7}", shown(count)))?;
         for (kind, met) in self.walking() {
             writeln!(f, "\nevents of {kind}")?;
             met.each().into_iter().try_for_each(|(what, count)| writeln!(f, "{what:<34}{:>7}", shown(count)))?;

@@ -1,6 +1,6 @@
 //! FOURPORT_CASES generated cases (200,000 by default) from FOURPORT_SEED, put to the desk and to the twin. Prints a table of what was met,
 //! or the first difference whole; fails too where a number, a rule, a part that numbers a body, parts that hold the greatest variable, a sort of list
-//! of answers or an event that training material speaks of were never met.
+//! of answers or of door, or an event that training material speaks of were never met.
 
 use checks::check;
 use std::process::ExitCode;

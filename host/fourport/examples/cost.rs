@@ -24,6 +24,7 @@ fn calls() {
     timed("forward", 2_000_000, || _ = black_box(raw::forward(black_box(&program), &call, &mut out)));
     timed("back (refused by 6)", 2_000_000, || _ = black_box(raw::back(black_box(&program), &call, &mut out)));
     timed("run of one step", 500_000, || _ = black_box(raw::run(black_box(&program), &call, 1, 0, &mut out, &mut 0)));
+    timed("door, no step back", 500_000, || _ = black_box(raw::door(black_box(&program), &call, 0, &mut out, &mut 0)));
     timed("answers of true", 100_000, || _ = black_box(raw::answers(black_box(&program), &query, u32::MAX, &mut out, &mut 0, &mut 0)));
     timed("value", 500_000, || _ = black_box(raw::value(black_box(&call), 0, &mut out, &mut 0)));
 }

@@ -5,7 +5,7 @@
 //!
 //! - [`Clauses`], [`Program`], [`Query`] and [`Event`] hold the bytes of a record that passed the gate's questions 1 to 4, so a program cannot be
 //!   lent as an event and what is lent later is never refused as a record.
-//! - [`Walk`] stands at an event and steps forward and back from there.
+//! - [`Walk`] stands at an event and steps forward and back from there, and back to the door of its goal.
 //! - [`Answers`] gives every answer of a query, with the branches and bodies that gave it.
 //! - [`Refusal`] is a no to one of the questions; its [`number`](Refusal::number) is the specification's.
 //! - [`raw`] is the same over byte slices with an output lent by the caller: any bytes, any length, no allocation.

@@ -36,15 +36,32 @@ pub enum Direction {
     Back,
 }
 
-/// Where a run came to.
+/// Where a run, or the way back to a door, came to.
 #[derive(Clone, Debug, PartialEq, Eq, Hash)]
 pub struct Run {
     /// the event reached; where no step was taken it is the given one
     pub event: Event,
     /// the steps taken
     pub taken: u32,
-    /// what refused the next step; nothing where the run ended on its count
+    /// what refused the next step; nothing where the run ended on its count, or at the door
     pub stopped: Option<Refusal>,
+}
+
+/// What a service gives that keeps the event reached where it is stopped on its way; any other number but 0 refuses the whole of it.
+fn ran(desk: impl FnOnce(&mut [u8], &mut u32) -> u32) -> Result<Run, Refusal> {
+    use Refusal::*;
+    let (mut taken, mut stopped) = (0, None);
+    let record = written(|out| {
+        let number = desk(out, &mut taken);
+        match Refusal::from_number(number) {
+            Some(refusal @ (Walk | Match | Value | Locals | Fit | Limit)) => {
+                stopped = Some(refusal);
+                0
+            }
+            _ => number,
+        }
+    })?;
+    Ok(Run { event: Event::written(record), taken, stopped })
 }
 
 /// The definition that an atom names: a part of the program that it was found in.
@@ -110,20 +127,33 @@ impl Program {
     /// # Ok::<(), Refusal>(())
     /// ```
     pub fn run(&self, event: &Event, steps: u32, direction: Direction) -> Result<Run, Refusal> {
-        let (mut taken, mut stopped) = (0, None);
         let back = u8::from(direction == Direction::Back);
-        let record = written(|out| {
-            let number = raw::run(&self.0, event.as_bytes(), steps, back, out, &mut taken);
-            // 6 to 10 stop a run, and the event reached is written; any other number but 0 refuses it
-            match number {
-                6..=10 => {
-                    stopped = Refusal::from_number(number);
-                    0
-                }
-                _ => number,
-            }
-        })?;
-        Ok(Run { event: Event::written(record), taken, stopped })
+        ran(|out, taken| raw::run(&self.0, event.as_bytes(), steps, back, out, taken))
+    }
+
+    /// Back to the door of the event: the nearest one, itself included, that calls the same goal with the same ancestors, tags too, whatever the bets
+    /// are. It is found by single steps back, at most `limit`; where they are too few, the last event reached is kept and [`Run::stopped`] is
+    /// [`Refusal::Limit`]. Of an event that a walk reaches there is always a door; of another one 7 to 10 may stop the way back. As many steps
+    /// forward as were taken lead to the event again. An error occurs only where a record is refused, which a `Program` and an `Event` are not.
+    ///
+    /// ```
+    /// # use fourport::{Direction, Event, Port, Program, Query, Refusal};
+    /// let program = Program::from_bytes([0, 3, 1, 0, 0])?;
+    /// // (true ; fail), fail
+    /// let start = Event::first(&Query::from_bytes([0, 6, 1, 0x13, 0x14, 0x10, 0x11, 0x11])?)?;
+    /// let redo = program.run(&start, 7, Direction::Forward)?.event;
+    /// assert_eq!(redo.port(), Port::Redo);
+    /// let door = program.door(&redo, u32::MAX)?;
+    /// assert_eq!((door.event.port(), door.taken, door.stopped), (Port::Call, 6, None));
+    /// assert_eq!(program.run(&door.event, door.taken, Direction::Forward)?.event, redo);
+    ///
+    /// let short = program.door(&redo, 5)?;
+    /// assert_eq!((short.taken, short.stopped), (5, Some(Refusal::Limit)));
+    /// assert_eq!(program.back(&short.event)?, door.event);
+    /// # Ok::<(), Refusal>(())
+    /// ```
+    pub fn door(&self, event: &Event, limit: u32) -> Result<Run, Refusal> {
+        ran(|out, taken| raw::door(&self.0, event.as_bytes(), limit, out, taken))
     }
 
     /// The definition that the event's goal names; nothing where the goal is no atom or has no definition.

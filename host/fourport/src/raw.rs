@@ -1,8 +1,8 @@
 //! The desk's services over byte slices, with an output lent by the caller: any bytes, any length. Nothing is allocated.
 //!
-//! The result is the number of SPECIFICATION 7, 0 for done. With any other number the output stays as it was, except after a run or a list of answers
-//! that 6 to 10 stopped; so do the bytes behind what is written (SPECIFICATION 7.8). A written record's length is its first two bytes, big-endian,
-//! and 2.
+//! The result is the number of SPECIFICATION 7, 0 for done. With any other number the output stays as it was, except after a run, a way back to a
+//! door or a list of answers that 6 to 10, or 32, stopped; so do the bytes behind what is written (SPECIFICATION 7.8). A written record's length is
+//! its first two bytes, big-endian, and 2.
 
 use crate::{sys, Counts};
 
@@ -65,6 +65,22 @@ pub fn back(program: &[u8], event: &[u8], out: &mut [u8]) -> u32 {
 /// ```
 pub fn run(program: &[u8], event: &[u8], steps: u32, back: u8, out: &mut [u8], taken: &mut u32) -> u32 {
     sys::run(program, event, steps, back, out, taken)
+}
+
+/// Back to the door of an event: 0 to 14, or 32. The event come to is written, also where 6 to 10 or 32 stopped the way back; `taken` becomes the
+/// steps taken, 0 where nothing is written (SPECIFICATION 8.13).
+///
+/// ```
+/// // redo true, the first half of `true, fail`: its call is four steps back, beyond the call of fail
+/// let (program, redo) = ([0, 3, 1, 0, 0], [0, 11, 1, 4, 0x10, 0, 1, 0x30, 1, 0x10, 0x11, 0, 0]);
+/// let (mut out, mut taken) = (vec![7; 32_768], 99);
+/// assert_eq!(fourport::raw::door(&program, &redo, 3, &mut out, &mut taken), 32);
+/// assert_eq!((taken, out[3]), (3, 2));
+/// assert_eq!(fourport::raw::door(&program, &redo, 4, &mut out, &mut taken), 0);
+/// assert_eq!((taken, out[3]), (4, 1));
+/// ```
+pub fn door(program: &[u8], event: &[u8], limit: u32, out: &mut [u8], taken: &mut u32) -> u32 {
+    sys::door(program, event, limit, out, taken)
 }
 
 /// Every answer of a query within so many steps: 0 to 13. The answers (SPECIFICATION 8.12) are written one behind the other, those before a refused

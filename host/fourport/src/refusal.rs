@@ -43,6 +43,8 @@ pub enum Refusal {
     Locals,
     /// 10: has the record of the result at most 32,768 bytes? Of an answer of a query: does it fit what is left of the output?
     Fit,
+    /// 32: on the way back to a door, is a step left within the limit? It is put after all questions of the step back that would be next.
+    Limit,
     /// A number that the specification does not have. The desk gives none; this is here so that nothing has to panic.
     Unknown(u32),
 }
@@ -75,6 +77,7 @@ impl Refusal {
             12 => Version(Which::Event),
             13 => Grammar(Which::Event),
             14 => Rules(Which::Event),
+            32 => Limit,
             other => Unknown(other),
         })
     }
@@ -99,6 +102,7 @@ impl Refusal {
             Refusal::Value => 8,
             Refusal::Locals => 9,
             Refusal::Fit => 10,
+            Refusal::Limit => 32,
             Refusal::Unknown(number) => number,
         }
     }
@@ -135,6 +139,7 @@ impl Refusal {
             Refusal::Value => "has each value at most 8,192 bytes?",
             Refusal::Locals => "has each new local a number of at most 65,535, or in a canonical form each definition at most 255 locals?",
             Refusal::Fit => "has the result at most 32,768 bytes, or an answer room in the output?",
+            Refusal::Limit => "is a step back left within the limit?",
             Refusal::Unknown(_) => "a question that the specification does not have",
         }
     }

@@ -26,6 +26,16 @@ mod archive {
             out_len: usize,
             taken: *mut u32,
         ) -> u32;
+        pub fn fourport_door(
+            program: *const u8,
+            program_len: usize,
+            event: *const u8,
+            event_len: usize,
+            limit: u32,
+            out: *mut u8,
+            out_len: usize,
+            taken: *mut u32,
+        ) -> u32;
         pub fn fourport_answers(
             program: *const u8,
             program_len: usize,
@@ -70,6 +80,12 @@ pub fn run(program: &[u8], event: &[u8], steps: u32, back: u8, out: &mut [u8], t
     let (p, e, o) = (program.as_ptr(), event.as_ptr(), out.as_mut_ptr());
     // SAFETY: as for `forward`, and `taken` is an aligned, initialised number that is borrowed alone, apart from `out`.
     unsafe { archive::fourport_run(p, program.len(), e, event.len(), steps, back, o, out.len(), taken) }
+}
+
+pub fn door(program: &[u8], event: &[u8], limit: u32, out: &mut [u8], taken: &mut u32) -> u32 {
+    let (p, e, o) = (program.as_ptr(), event.as_ptr(), out.as_mut_ptr());
+    // SAFETY: as for `run`: live slices, `out` and `taken` each borrowed alone, `program` and `event` borrowed shared and only read.
+    unsafe { archive::fourport_door(p, program.len(), e, event.len(), limit, o, out.len(), taken) }
 }
 
 pub fn answers(program: &[u8], query: &[u8], steps: u32, out: &mut [u8], written: &mut usize, taken: &mut u32) -> u32 {

@@ -3,7 +3,7 @@
 use crate::{raw, Event, Program, Refusal, RECORD_LIMIT};
 use std::iter::FusedIterator;
 
-/// Stands at an event of a program's walk. A refused step leaves it where it is.
+/// Stands at an event of a program's walk. A refused step leaves it where it is, and one on the way back to a door where that came to.
 ///
 /// ```
 /// use fourport::{Event, Port, Program, Query, Refusal};
@@ -84,6 +84,29 @@ impl<'p> Walk<'p> {
     pub fn back(&mut self) -> Result<&Event, Refusal> {
         let number = raw::back(self.program.as_bytes(), self.event.as_bytes(), &mut self.out);
         self.stepped(number, -1)
+    }
+
+    /// Back to the door of the event: see [`Program::door`]. Where there is none within the limit the walk stands at the last event reached.
+    ///
+    /// ```
+    /// # use fourport::{Event, Port, Program, Query, Refusal};
+    /// let program = Program::from_bytes([0, 3, 1, 0, 0])?;
+    /// // true, true
+    /// let mut walk = program.walk(Event::first(&Query::from_bytes([0, 4, 1, 0x13, 0x10, 0x10])?)?);
+    /// assert_eq!(walk.forwards().count(), 5);
+    /// assert_eq!(walk.door(3), Err(Refusal::Limit));
+    /// assert_eq!((walk.net(), walk.event().port()), (2, Port::Exit));
+    /// // the door of the event where the walk stands now
+    /// assert_eq!(walk.door(3)?.port(), Port::Call);
+    /// assert_eq!(walk.net(), 1);
+    /// # Ok::<(), Refusal>(())
+    /// ```
+    pub fn door(&mut self, limit: u32) -> Result<&Event, Refusal> {
+        let door = self.program.door(&self.event, limit)?;
+        self.event = door.event;
+        self.net = self.net.saturating_sub(i64::from(door.taken));
+        self.stopped = door.stopped;
+        self.stopped.map_or(Ok(&self.event), Err)
     }
 
     /// The events ahead, one step forward for each, up to the first that is refused: see [`Walk::stopped`] then. A walk need not end.

@@ -96,11 +96,11 @@ fn what_passes_as_a_record_may_still_not_fit() {
 
 #[test]
 fn numbers_and_words() {
-    for number in 1..=14 {
+    for number in (1..=14).chain([32]) {
         let refusal = Refusal::from_number(number).expect("a refusal");
         assert_eq!(refusal.number(), number);
         assert!(refusal.to_string().starts_with(&format!("no to question {number}")), "{refusal}");
-        assert_eq!(refusal.record(), if number < 5 { Some(Which::Program) } else { (number > 10).then_some(Which::Event) });
+        assert_eq!(refusal.record(), if number < 5 { Some(Which::Program) } else { (11..=14).contains(&number).then_some(Which::Event) });
     }
     assert_eq!(Refusal::from_number(15).map(Refusal::number), Some(15));
     let error: Box<dyn std::error::Error> = Box::new(Refusal::Fit);

@@ -1,6 +1,6 @@
 //! Where things stand in a record. A byte that is not there is read as 0.
 
-use crate::{ATOM, CONJUNCTION, DISJUNCTION, EQUALITY, SYMBOL, VARIABLE};
+use crate::{ATOM, CONJUNCTION, DISJUNCTION, EQUALITY, IN_CONJUNCTION, IN_DISJUNCTION, OR, SYMBOL, UNIFIER, VARIABLE};
 
 /// An event's port stands here.
 pub const PORT_AT: usize = 3;
@@ -40,6 +40,23 @@ pub fn term_end(bytes: &[u8], at: usize) -> usize {
 /// Where the goal at a place ends; `meet` is given its variables as they occur.
 pub fn goal_end(bytes: &[u8], at: usize, meet: impl FnMut(u16)) -> usize {
     end(bytes, at, 0, 1, meet)
+}
+
+/// Where the ancestor at a place ends.
+pub fn ancestor_end(bytes: &[u8], at: usize) -> usize {
+    match byte_at(bytes, at) {
+        IN_CONJUNCTION | IN_DISJUNCTION => end(bytes, at + 2, 0, 2, |_| ()),
+        _ => goal_end(bytes, at, |_| ()),
+    }
+}
+
+/// Where the bet at a place ends.
+pub fn bet_end(bytes: &[u8], at: usize) -> usize {
+    match byte_at(bytes, at) {
+        UNIFIER => (0..number_at(bytes, at + 1)).fold(at + 3, |at, _| term_end(bytes, at + 2)),
+        OR => at + 2,
+        _ => goal_end(bytes, at + 1, |_| ()),
+    }
 }
 
 /// Where so many terms, and behind them so many goals, end. Terms are read first, since no goal stands within a term.

@@ -30,6 +30,8 @@ pub enum Question {
     Locals = 9,
     /// has the record of the result at most 32,768 bytes?
     Fit = 10,
+    /// on the way back to a door: is a step left within the limit?
+    Limit = 32,
 }
 
 /// The number of the question whose answer was no.

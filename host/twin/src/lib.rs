@@ -7,6 +7,7 @@
 
 pub mod answers;
 pub mod canonical;
+pub mod door;
 pub mod gate;
 pub mod records;
 pub mod rules;

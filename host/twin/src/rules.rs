@@ -17,8 +17,8 @@ pub enum Direction {
     Back,
 }
 
-/// One step: the event becomes the next one, or stays as it is and the refusing number is given.
-pub fn step(direction: Direction, program: &Program, event: &mut Event) -> Result<(), Refusal> {
+/// What a step would do to the event, or the number that refuses it.
+pub fn asked(direction: Direction, program: &Program, event: &Event) -> Result<Change, Refusal> {
     let change = match direction {
         Direction::Forward => forward(program, event)?,
         Direction::Back => back(program, event)?,
@@ -26,6 +26,12 @@ pub fn step(direction: Direction, program: &Program, event: &mut Event) -> Resul
     if event.length_after(&change) > RECORD_LIMIT as u64 {
         return Err(Question::Fit.into());
     }
+    Ok(change)
+}
+
+/// One step: the event becomes the next one, or stays as it is and the refusing number is given.
+pub fn step(direction: Direction, program: &Program, event: &mut Event) -> Result<(), Refusal> {
+    let change = asked(direction, program, event)?;
     event.apply(change);
     Ok(())
 }

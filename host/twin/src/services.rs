@@ -14,7 +14,8 @@ pub struct Reply {
     pub bytes: Vec<u8>,
 }
 
-/// A run's number, the steps made, and the record of the event it came to: no bytes where 1 to 5 or 11 to 14 refuse (SPECIFICATION 8.5).
+/// A run's number, the steps made, and the record of the event it came to: no bytes where 1 to 5 or 11 to 14 refuse (SPECIFICATION 8.5). The way
+/// back to a door is answered alike (SPECIFICATION 8.13).
 #[derive(Clone, Debug, PartialEq, Eq)]
 pub struct RunReply {
     pub number: u8,
@@ -56,7 +57,7 @@ pub(crate) fn first_event(query: &[u8], out_len: usize) -> Result<Event, Refusal
 }
 
 /// The questions that stand before a step: 1 to 4, 11 to 14, 5.
-fn lent(program: &[u8], event: &[u8], out_len: usize) -> Result<(Program, Event), Refusal> {
+pub(crate) fn lent(program: &[u8], event: &[u8], out_len: usize) -> Result<(Program, Event), Refusal> {
     let program = reader::program(program)?;
     let event = second(reader::event(event))?;
     room(out_len)?;

@@ -3,6 +3,7 @@
 use layout::*;
 use std::thread;
 use twin::answers::answers;
+use twin::door::door;
 use twin::gate::RECORD_LIMIT as ROOM;
 use twin::records::{Term, TermRef};
 use twin::rules::Direction::{Back, Forward};
@@ -47,6 +48,19 @@ fn nested_answers() {
         let found = answers(&program(&[]), &record(&[vec![DISJUNCTION; joins], vec![TRUTH; joins + 1]].concat()), u32::MAX, 1 << 20);
         // the first answer is 100 first halves deep, and each later one comes from a disjunction further out
         assert_eq!((found.number, found.bytes.len()), (6, 4 * 101 + 2 * (100 + 100 * 101 / 2)));
+    });
+}
+
+#[test]
+fn nested_doors() {
+    on_a_small_stack(|| {
+        let joins = [vec![CONJUNCTION; 5_000], vec![TRUTH; 5_001]].concat();
+        for goal in [equality(&variable(0), &nested(1_000, &symbol(2, &[]))), TRUE.to_vec()] {
+            let call = event(port::CALL, &goal, &[half(IN_CONJUNCTION, 1, &goal, &joins)], &[]);
+            let exit = run(&program(&[]), &call, 1, Forward, ROOM);
+            let found = door(&program(&[]), &exit.bytes, 9, ROOM);
+            assert_eq!((found.number, found.steps, found.bytes), (0, 1, call));
+        }
     });
 }
 

@@ -5,10 +5,10 @@ use mathlib.Core.Bool.{Bool, true, false, cond}
 use mathlib.Core.List.{List, [], _∷_}
 use mathlib.Core.Logic.{ite}
 use mathlib.Core.Option.{Option, none, some}
-use native.Mathlib.Nat.{add-zero, add-suc, suc-add}
+use native.Mathlib.Nat.{add-suc}
 use native.Mathlib.Numerals.{add-one}
 use native.Mathlib.Omega.{arith}
-use Prim.Native.Nat.{ℕ, zero, suc, _+_, _-_, _<_}
+use Prim.Native.Nat.{ℕ, zero, suc, _+_, _-_}
 use lib.Dec.{eqb}
 use lib.ListN.{length}
 use borrow.Author.Tests.{eqb-true}
@@ -158,30 +158,3 @@ module _ (M : Machine) (q : Goal) where
   pub answers-of-run : (n room : ℕ) (e : Event) (i : ℕ) → Reached M (all-of q) i e
       → answers-from M q n room e ≡ steps-before (run M to-next-exit n e .taken) (at-stop (run M to-next-exit n e .why) (n - run M to-next-exit n e .taken) room (run M to-next-exit n e .event))
   answers-of-run n room e i h = answers-go (course M to-next-exit n e) refl refl refl i h room
-
-  course-reached : {o : Order} {n : ℕ} {e : Event} {r : RunEnd} → Course M o n e r → o .direction ≡ forward → (i : ℕ) → Reached M (all-of q) i e
-      → Reached M (all-of q) (i + r .taken) (r .event)
-  unfolding past step Reach
-  course-reached no-count d i k = rw add-zero k
-  course-reached (no-room f) d i k = rw add-zero k
-  course-reached (no-step p f h) d i k = rw add-zero k
-  course-reached (last-step {e = e} c f h m) d i k = rw add-one (e, k, gives-accepted _ c (rw d at h))
-  course-reached (one-step {e = e} {r = r} c f h m y) d i k =
-      subst (λ n. Reached M (all-of q) n (r .event)) (suc-add i (r .taken) ∙ sym (add-suc i (r .taken))) (course-reached y d (suc i) (e, k, gives-accepted _ c (rw d at h)))
-
-  -- the event that a run from one of the walk comes to is one of the walk
-  pub run-reached : (o : Order) → o .direction ≡ forward → (n i : ℕ) (e : Event) → Reached M (all-of q) i e
-      → Reached M (all-of q) (i + run M o n e .taken) (run M o n e .event)
-  run-reached o d n i e h = course-reached (course M o n e) d i h
-
-  course-met : {o : Order} {n : ℕ} {e : Event} {r : RunEnd} → Course M o n e r → r .why ≡ met → 0 < r .taken
-  unfolding past
-  course-met no-count w = never cc
-  course-met (no-room f) w = never cc
-  course-met (no-step p f h) w = never cc
-  course-met (last-step c f h m) w = omega arith
-  course-met (one-step c f h m y) w = omega arith
-
-  -- a run that meets its aim makes a step
-  pub met-steps : (o : Order) (n : ℕ) (e : Event) → run M o n e .why ≡ met → 0 < run M o n e .taken
-  met-steps o n e = course-met (course M o n e)

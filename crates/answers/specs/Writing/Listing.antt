@@ -1,7 +1,7 @@
 -- The list of answers in code: the run to the next exit, and what holds between two answers. As many as are written stand at the front of the output, the
 -- walk of 'Q, fail' stands at an event whose record is at the front of a buffer, and what is still to be written is what is written from there on.
 use mathlib.Core.Path.{_≡_}
-use mathlib.Core.Bool.{Bool, true, false, cond}
+use mathlib.Core.Bool.{true, false, cond}
 use mathlib.Core.List.{List, _++_}
 use Prim.Native.Nat.{ℕ, suc, _+_, _-_, _*_, _≤_, _<_}
 use lib.Dec.{eqb}
@@ -12,23 +12,13 @@ use Rattle.records.specs.Gate.Gate.{tree, read-program, read-event}
 use Rattle.records.specs.Writing.Patched.{Put}
 use Rattle.records.specs.declared.put.Receipt.{Receipt}
 use Rattle.terms.specs.Theory.Outcome.{value-limit}
-use Rattle.stepper.specs.Run.Run.{RunEnd}
-use Rattle.stepper.specs.Run.RunLoop.{Tells}
 use Rattle.stepper.specs.Services.Desk.{layers}
 use Rattle.stepper.specs.Services.Services.{machine}
 use Rattle.stepper.specs.Walks.Reached.{Reached}
 use Rattle.stepper.specs.declared.run.RunAnswer.{RunAnswer}
-use Rattle.stepper.specs.declared.run.RunStop.{RunStop}
-use Rattle.stepper.specs.declared.run.RunStop.the-variants.{Spent, Met, Full, Refused}
 use Rattle.answers.specs.Form.Answer.{query-variables}
 use Rattle.answers.specs.Form.Answers.{all-of, Written, answers-from, answers}
 use Rattle.answers.specs.declared.service.Listing.{Listing}
-
-abbrev pub met-case : RunStop → Bool
-met-case Spent = false
-met-case Met = true
-met-case Full = false
-met-case Refused = false
 
 -- the list before the first answer
 abbrev pub first-listing : ℕ → Listing
@@ -46,13 +36,6 @@ answered-listing last r x = record {
   length = r .length;
   going = eqb (x .number) 0;
 }
-
--- a run's end whose record is left at the front of a buffer
-pub record RanHere (end : RunEnd) (r : RunAnswer) (before here : List ℕ) : Type 0 where
-  pub tells : Tells end r
-  pub reads : read-event (take (r .length) here) ≡ tree (end .event)
-  pub inside : r .length ≤ length here
-  pub same-length : length here ≡ length before
 
 -- the tables and the buffer that an answer needs, for the event in `here`
 pub record AnswerTables (here places firsts value : List ℕ) : Type 0 where

@@ -2,80 +2,37 @@
 -- where the answer is refused.
 use mathlib.Core.Path.{_≡_, refl, sym, _∙_, ap}
 use mathlib.Core.Bool.{Bool, true, false, cond}
-use mathlib.Core.List.{List, [], _∷_, _++_, append-nil, append-assoc}
-use native.Mathlib.Nat.{zero-add, add-zero}
+use mathlib.Core.List.{List, [], _++_, append-nil, append-assoc}
+use native.Mathlib.Nat.{add-zero}
 use native.Mathlib.Omega.{arith}
-use Prim.Native.Nat.{ℕ, zero, suc, _+_, _-_, _≤_, _<_}
+use Prim.Native.Nat.{ℕ, suc, _+_, _-_, _≤_, _<_}
 use lib.Dec.{eqb}
 use lib.ListN.{length, take, drop, length-append, length-take, length-drop}
-use lib.Seq.{length-take-le}
 use borrow.Author.Tests.{eqb-true, eq-eqb}
 use Rattle.records.specs.Format.Never.{never}
 use Rattle.records.specs.Format.Syntax.{Goal, Bet, Definition}
-use Rattle.records.specs.Format.Encode.{event-record}
-use Rattle.records.specs.Format.HeadLaws.{Known, bytes-all}
-use Rattle.records.specs.Gate.Gate.{read-event}
 use Rattle.records.specs.Gate.Door.{BothPassed}
 use Rattle.records.specs.Gate.Question.{Question, question-number}
 use Rattle.records.specs.Gate.Reply.{Answer, refused, gives, through, answer-number, answer-length, reply-with, Receipted}
 use Rattle.records.specs.Gate.ReplyLaws.{number-positive, reply-put}
 use Rattle.records.specs.Writing.Patched.{Put}
-use Rattle.records.specs.Writing.PatchedLaws.{patched-nil, part-patched, put-none, put-then, put-tail, put-length}
+use Rattle.records.specs.Writing.PatchedLaws.{patched-nil, put-none, put-then, put-tail, put-length}
 use Rattle.records.specs.declared.put.Receipt.{Receipt}
 use Rattle.terms.specs.Values.ValueService.{bets-of}
 use Rattle.stepper.specs.Rules.Machine.{Machine}
-use Rattle.stepper.specs.Run.Run.{Order, Stop, spent, met, full, by, RunEnd, run, stop-number}
-use Rattle.stepper.specs.Run.RunLoop.{RanTo}
-use Rattle.stepper.specs.Run.RunLaws.{run-within}
-use Rattle.stepper.specs.Run.RunServiceLaws.{run-recordable}
+use Rattle.stepper.specs.Run.Run.{Stop, spent, met, full, by, RunEnd, run, stop-number}
+use Rattle.stepper.specs.Run.RunLoop.{met-case, RanHere}
+use Rattle.stepper.specs.Run.RunLaws.{run-within, run-met-steps, run-reached}
 use Rattle.stepper.specs.Services.Desk.{layers}
-use Rattle.stepper.specs.Services.DeskLaws.{lawful}
-use Rattle.stepper.specs.Services.ServiceLaws.{limit-fits, read-recordable}
-use Rattle.stepper.specs.Services.Services.{Program, machine}
+use Rattle.stepper.specs.Services.Services.{machine}
 use Rattle.stepper.specs.declared.run.RunAnswer.{RunAnswer}
 use Rattle.answers.specs.Form.Answer.{query-variables, solution-for, solution-into}
-use Rattle.answers.specs.Form.Answers.{Written, no-more, an-answer, settled, from-event, answers-from, answers}
+use Rattle.answers.specs.Form.Answers.{all-of, Written, no-more, an-answer, settled, from-event, answers-from, answers}
 use Rattle.answers.specs.Form.FrontLaws.{into-more}
 use Rattle.answers.specs.Form.NextExit.{to-next-exit}
-use Rattle.answers.specs.Form.AnswersLaws.{steps-before, at-stop, answers-of-run, run-reached, met-steps}
-use Rattle.answers.specs.Writing.Listing.{met-case, stopped-listing, answered-listing, RanHere, behind, ListStands, Listed, Turned, turns-left}
+use Rattle.answers.specs.Form.AnswersLaws.{steps-before, at-stop, answers-of-run}
+use Rattle.answers.specs.Writing.Listing.{stopped-listing, answered-listing, behind, ListStands, Listed, Turned, turns-left}
 use Rattle.answers.specs.declared.service.Listing.{Listing}
-
--- the front of a slice is known as the slice is
-pub front-known : (n : ℕ) (l : List ℕ) → Known l → Known (take n l)
-front-known zero l h i = record { fits = omega arith }
-front-known (suc n) [] h i = h i
-front-known (suc n) (b ∷ l) h zero = h 0
-front-known (suc n) (b ∷ l) h (suc i) = front-known n l (λ i. h (suc i)) i
-
--- what is put at the front of a buffer
-pub front-put : {before bytes after : List ℕ} {n : ℕ} → Put before 0 bytes after n → length bytes ≤ length before → take n after ≡ bytes
-front-put {before} {bytes} p h = rw (p .place, zero-add, p .output) (part-patched before 0 bytes (omega arith))
-
--- the record of the event that a run comes to is short enough
-module _ {program s : List ℕ} (byte : Known program) (known : Known s) (w : BothPassed program s) (o : Order) (n : ℕ) where
-  abbrev end : RunEnd
-  end = run (machine layers (w .definitions)) o n (w .event)
-
-  pub end-short : length (event-record (end .event)) ≤ 32768
-  end-short =
-      let P : Program layers = record { program = program; bytes = bytes-all program byte; definitions = w .definitions; reads = w .program-reads } in
-      limit-fits (end .event) (run-recordable layers lawful P o n (w .event) (read-recordable layers lawful s (bytes-all s known) (w .event) (w .reads)) .1)
-
-  -- what a run leaves in its output, put at the front of a buffer
-  pub ran-here : {log log′ out out′ here here′ : List ℕ} {next : ℕ} {r : RunAnswer} → RanTo end false log out r log′ out′ → length out′ ≡ 32768 → 32768 ≤ length here
-      → Put here 0 (take (r .length) out′) here′ next → RanHere end r here here′
-  ran-here {out′ = out′} {here} {here′} {next} {r} ran size room p =
-      let short : r .length ≤ 32768 = rw (ran .tells .length-is) end-short in
-      let n : length (take (r .length) out′) ≡ r .length = length-take-le (r .length) out′ (omega arith) in
-      let same : next ≡ r .length = p .place ∙ zero-add _ ∙ n in
-      let front = front-put p (omega arith) in
-      record {
-        tells = ran .tells;
-        reads = ap read-event (rw same at front) ∙ ran .reads;
-        inside = omega (arith, put-length p);
-        same-length = put-length p;
-      }
 
 -- nothing in front
 pub behind-nothing : (w : Written) → w ≡ behind [] 0 w
@@ -253,7 +210,7 @@ module _ {program : List ℕ} {ds : List Definition} {q : Goal} {variables : Lis
                   variables-few = g .variables-few;
                   variables-small = g .variables-small;
                   event = ahead .event;
-                  reached = rw steps-is (run-reached M q to-next-exit refl left (last .taken) (g .event) (g .reached));
+                  reached = rw steps-is (run-reached M (all-of q) to-next-exit refl left (last .taken) (g .event) (g .reached));
                   reads = ran .reads;
                   inside = ran .inside;
                   within = taken-small;
@@ -264,7 +221,7 @@ module _ {program : List ℕ} {ds : List Definition} {q : Goal} {variables : Lis
                 } in
                 record {
                   state = (λ t. stands, λ t. never (sym (eq-eqb (receipt .number) 0 number) ∙ t));
-                  later = λ t. omega (arith, steps-is, met-steps M q to-next-exit left (g .event) is-met);
+                  later = λ t. omega (arith, steps-is, run-met-steps M to-next-exit left (g .event) is-met);
                 }
 
         pub turned : {p : Listing} → p ≡ answered-listing last r receipt → Turned program ds q variables steps before last p here′ after

@@ -16,7 +16,7 @@ use Rattle.records.specs.Gate.Reply.{gives, through, answer-number, reply-with}
 use Rattle.records.specs.Gate.ReplyLaws.{number-refuses, number-gives}
 use Rattle.records.specs.Gate.RecordRules.{event-rules}
 use Rattle.records.specs.Writing.Patched.{Put}
-use Rattle.records.specs.Writing.PatchedLaws.{put-none, put-length, put-front}
+use Rattle.records.specs.Writing.PatchedLaws.{put-none, put-length, put-front, front-put}
 use Rattle.stepper.specs.Rules.Rules.{first-event}
 use Rattle.stepper.specs.Services.Desk.{layers}
 use Rattle.stepper.specs.Services.Services.{machine}
@@ -28,7 +28,7 @@ use Rattle.answers.specs.Form.ServiceLaws.{begin-long, begin-given, begi
 use Rattle.answers.specs.Writing.BegunLaws.{begin-length}
 use Rattle.answers.specs.Writing.MarkedLaws.{variables-formed, listed-few}
 use Rattle.answers.specs.Writing.Listing.{first-listing, ListStands, Listed}
-use Rattle.answers.specs.Writing.ListingLaws.{front-put, behind-nothing}
+use Rattle.answers.specs.Writing.ListingLaws.{behind-nothing}
 use Rattle.answers.specs.declared.service.Listing.{Listing}
 
 -- the door's number where the records pass and the output is long enough

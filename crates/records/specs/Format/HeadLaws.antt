@@ -7,7 +7,7 @@ use mathlib.Core.List.{List, [], _∷_, _++_}
 use mir.Syntax.{w8}
 use mir.Val.{Fits}
 use lib.Dec.{eqb, leb}
-use lib.ListN.{drop, getD}
+use lib.ListN.{take, drop, getD}
 use borrow.Author.Tests.{eqb-true, leb-true}
 use Rattle.records.specs.Format.Encode.{word}
 use Rattle.records.specs.Format.Heads.{pick, joined, term-head, symbol-head, goal-head, atom-head, ancestor-head, half-head, called-or, is-tag, word-head, bet-head, unifier-head, or-head, definition-head, clause-head, clause-of}
@@ -36,6 +36,13 @@ Known l = (i : ℕ) → Fits w8 (getD l i 0)
 pub bytes-all : (l : List ℕ) → Known l → Bytes l
 bytes-all [] h = tt
 bytes-all (b ∷ l) h = (h 0 .fits, bytes-all l (λ i. h (suc i)))
+
+-- the front of a slice is known as the slice is
+pub front-known : (n : ℕ) (l : List ℕ) → Known l → Known (take n l)
+front-known zero l h i = record { fits = omega arith }
+front-known (suc n) [] h i = h i
+front-known (suc n) (b ∷ l) h zero = h 0
+front-known (suc n) (b ∷ l) h (suc i) = front-known n l (λ i. h (suc i)) i
 
 pub bytes-drop : (n : ℕ) (l : List ℕ) → Bytes l → Bytes (drop n l)
 bytes-drop zero l h = h

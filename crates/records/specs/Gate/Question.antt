@@ -35,6 +35,8 @@ pub data Question : Type 0 where
   locals : Question
   -- 10: is what would be written no longer than a record may be?
   fits : Question
+  -- 32: may one step more be made?
+  allowed : Question
   deriving Discrete as Question-discrete
 
 unfoldable pub question-number : Question → ℕ
@@ -46,3 +48,4 @@ question-number matches = 7
 question-number values = 8
 question-number locals = 9
 question-number fits = 10
+question-number allowed = 32

@@ -148,3 +148,7 @@ put-room {before} {at} {bytes} {after} {next} more p h = omega (arith, p .place,
 pub put-front : {before bytes after : List ℕ} {next : ℕ} → Put before 0 bytes after next → length bytes ≤ length before
     → after ≡ bytes ++ drop (length bytes) before
 put-front {before} {bytes} p h = p .output ∙ patched-front before bytes h
+
+-- what then stands there
+pub front-put : {before bytes after : List ℕ} {n : ℕ} → Put before 0 bytes after n → length bytes ≤ length before → take n after ≡ bytes
+front-put {before} {bytes} p h = rw (p .place, zero-add, p .output) (part-patched before 0 bytes (omega arith))

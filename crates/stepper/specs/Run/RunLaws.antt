@@ -1,11 +1,13 @@
 -- Laws of a run: it is so many single steps, its log has the marks of the events passed, none but the last of them meets the aim, it tells why it
--- stopped, a longer one goes on where a shorter one stopped, and from a query's first event it comes to the events that are reached.
+-- stopped, a longer one goes on where a shorter one stopped, steps back are undone by as many forward, and from a query's first event it comes to the
+-- events that are reached.
 use mathlib.Core.Path.{_≡_, refl, sym, _∙_, ap, subst}
 use mathlib.Core.Bool.{Bool, true, false, cond}
-use mathlib.Core.List.{_++_}
+use mathlib.Core.List.{List, [], _∷_, _++_}
 use mathlib.Core.Option.{Option, none, some, Option·none-ne-some, Option·some-injective}
 use Prim.Native.Nat.{ℕ, zero, suc, _+_, _-_, _<_, _≤_}
 use native.Mathlib.Nat.{zero-add, add-zero, add-suc, suc-add}
+use native.Mathlib.Numerals.{add-one}
 use native.Mathlib.Omega.{arith}
 use lib.ListN.{length, getD, replicate}
 use borrow.Author.Tests.{eqb-true, eqb-false}
@@ -14,7 +16,8 @@ use Rattle.records.specs.Format.Syntax.{Goal, Event}
 use Rattle.records.specs.Gate.Question.{Question}
 use Rattle.stepper.specs.Rules.Machine.{Machine, StepOutcome, refused, gives}
 use Rattle.stepper.specs.Rules.Rules.{first-event, step, accepted}
-use Rattle.stepper.specs.Rules.AnswerLaws.{accepted-gives}
+use Rattle.stepper.specs.Rules.AnswerLaws.{accepted-gives, gives-accepted}
+use Rattle.stepper.specs.Rules.ListedLaws.{back-steps-forward}
 use Rattle.stepper.specs.Walks.Reached.{accepted-step, Reached}
 use Rattle.stepper.specs.Walks.Walk.{Direction, forward, back, Tally, at-start, after, moves, walk, Reach}
 use Rattle.stepper.specs.Run.Run.{Mark, mark, meets, Order, plain, is-full, less-room, with-marks, Stop, spent, met, full, by, RunEnd, ended, past, on-answer, run}
@@ -185,6 +188,35 @@ module _ (M : Machine) where
   course-over k (last-step c f h m) z = rw suc-add (last-step c f h m)
   course-over k (one-step c f h m l) z = rw suc-add (one-step c f h m (course-over k l z))
 
+  -- One that meets its aim makes a step.
+  course-met : {o : Order} {n : ℕ} {e : Event} {r : RunEnd} → Course o n e r → r .why ≡ met → 0 < r .taken
+  unfolding past
+  course-met no-count w = never cc
+  course-met (no-room f) w = never cc
+  course-met (no-step p f h) w = never cc
+  course-met (last-step c f h m) w = omega arith
+  course-met (one-step c f h m y) w = omega arith
+
+  -- Steps back are undone by as many forward, since a step back is one only where its event steps forward to the one that it came from.
+  pub record Undone (n : ℕ) (d e : Event) : Type 0 where
+    pub marks : List Mark
+    pub again : Course (plain forward) n d (record { event = e; taken = n; why = spent; log = marks })
+
+  course-undone : {n : ℕ} {e : Event} {r : RunEnd} → Course (plain back) n e r → r .why ≡ spent → Undone n (r .event) e
+  unfolding past step is-full less-room meets then
+  course-undone no-count w = record { marks = []; again = no-count }
+  course-undone (no-room f) w = never cc
+  course-undone (no-step q f h) w = never cc
+  course-undone (last-step c f h m) w = never cc
+  course-undone {e = e} (one-step {n = n} {r = r} c f h m k) w = go (course-undone k w)
+    where
+      go : Undone n (r .event) c → Undone (suc n) (r .event) e
+      go u = record {
+        marks = u .marks ++ (mark e ∷ []);
+        again = subst (λ i. Course (plain forward) i (r .event) (record { event = e; taken = i; why = spent; log = u .marks ++ (mark e ∷ []) })) (add-one n)
+            (course-then (u .again) refl (one-step {o = plain forward} e refl (back-steps-forward M e c h) refl no-count));
+      }
+
   -- The laws of runs.
   module _ (o : Order) (n : ℕ) (e : Event) where
     pub run-is-plain : run M (plain (o .direction)) (run M o n e .taken) e
@@ -210,11 +242,36 @@ module _ (M : Machine) where
     pub run-told : StopTold o n (run M o n e) (run M o n e .why)
     run-told = told (course o n e)
 
+    pub run-met-steps : run M o n e .why ≡ met → 0 < run M o n e .taken
+    run-met-steps = course-met (course o n e)
+
     pub run-on : (m : ℕ) → run M o n e .why ≡ spent → run M o (n + m) e ≡ then (run M o n e) (run M (with-marks n o) m (run M o n e .event))
     run-on m y = course-run (course-then (course o n e) y (course (with-marks n o) m _))
 
     pub run-over : (m : ℕ) → (run M o n e .why ≡ spent → ⊥) → run M o (n + m) e ≡ run M o n e
     run-over m z = course-run (course-over m (course o n e) z)
+
+  -- The event that a run forward from one of a walk comes to is one of the walk.
+  course-reached : (q : Goal) {o : Order} {n : ℕ} {e : Event} {r : RunEnd} → Course o n e r → o .direction ≡ forward → (i : ℕ) → Reached M q i e
+      → Reached M q (i + r .taken) (r .event)
+  unfolding past step Reach
+  course-reached q no-count d i k = rw add-zero k
+  course-reached q (no-room f) d i k = rw add-zero k
+  course-reached q (no-step p f h) d i k = rw add-zero k
+  course-reached q (last-step {e = e} c f h m) d i k = rw add-one (e, k, gives-accepted _ c (rw d at h))
+  course-reached q (one-step {e = e} {r = r} c f h m y) d i k =
+      subst (λ n. Reached M q n (r .event)) (suc-add i (r .taken) ∙ sym (add-suc i (r .taken))) (course-reached q y d (suc i) (e, k, gives-accepted _ c (rw d at h)))
+
+  pub run-reached : (q : Goal) (o : Order) → o .direction ≡ forward → (n i : ℕ) (e : Event) → Reached M q i e
+      → Reached M q (i + run M o n e .taken) (run M o n e .event)
+  run-reached q o d n i e h = course-reached q (course o n e) d i h
+
+  -- From where n steps back lead, n steps forward lead back.
+  pub run-undone : (n : ℕ) (e : Event) → run M (plain back) n e .why ≡ spent
+      → (run M (plain forward) n (run M (plain back) n e .event) .event ≡ e)
+      × (run M (plain forward) n (run M (plain back) n e .event) .taken ≡ n)
+      × (run M (plain forward) n (run M (plain back) n e .event) .why ≡ spent)
+  run-undone n e h = let all = course-run (course-undone (course (plain back) n e) h .again) in (ap (λ r. r .event) all, ap (λ r. r .taken) all, ap (λ r. r .why) all)
 
 -- a run of n steps forward from a query's first event
 abbrev first-run : Machine → Goal → ℕ → RunEnd

@@ -19,6 +19,7 @@ use Rattle.stepper.specs.Walks.Walk.{Direction, forward, back}
 use Rattle.stepper.specs.Services.ServiceLaws.{Recordable}
 use Rattle.stepper.specs.Services.Desk.{layers}
 use Rattle.stepper.specs.Run.Run.{Mark, Order, Stop, spent, met, full, by, RunEnd, run, stop-number, Aim}
+use Rattle.records.specs.declared.places.PartEnds.{PartEnds}
 use Rattle.stepper.specs.declared.run.RunMark.{RunMark}
 use Rattle.stepper.specs.declared.run.RunAim.{RunAim}
 use Rattle.stepper.specs.declared.run.RunOrder.{RunOrder}
@@ -73,6 +74,13 @@ stop-case met = Met
 stop-case full = Full
 stop-case (by q) = Refused
 
+-- has a run met its aim?
+abbrev pub met-case : RunStop → Bool
+met-case Spent = false
+met-case Met = true
+met-case Full = false
+met-case Refused = false
+
 -- has a run stopped before all its steps were taken?
 abbrev pub stopped-case : RunStop → Bool
 stopped-case Spent = false
@@ -92,6 +100,10 @@ with-log logged log l = cond logged (patched log 0 (log-numbers l)) log
 -- steps alone, in code
 abbrev pub plain-order : (back : Bool) → RunOrder
 plain-order b = record { back = b; aimed = false; aim = record { call = false; exit = false; fail = false; redo = false; ancestors = 0 }; logged = false }
+
+-- a run that has taken no step
+abbrev pub started-run : (length : ℕ) → PartEnds → RunAnswer
+started-run n ends = record { number = 0; stop = Spent; taken = 0; length = n; ends = ends }
 
 -- the same event, where the run stops
 abbrev pub stopped-run : RunAnswer → RunStop → ℕ → RunAnswer
@@ -116,6 +128,14 @@ pub record RanTo (end : RunEnd) (logged : Bool) (log out : List ℕ) (r : RunAns
   pub output-is : out′ ≡ reply out (gives (end .event)) .output
   pub reads : read-event (take (r .length) out′) ≡ tree (end .event)
   pub log-is : log′ ≡ with-log logged log (end .log)
+
+-- the same where the record of the event reached is left at the front of the buffer that the run started from
+pub record RanHere (end : RunEnd) (r : RunAnswer) (before here : List ℕ) : Type 0 where
+  pub tells : Tells end r
+  pub front : take (r .length) here ≡ event-record (end .event)
+  pub reads : read-event (take (r .length) here) ≡ tree (end .event)
+  pub inside : r .length ≤ length here
+  pub same-length : length here ≡ length before
 
 -- the end of a run in the loop's hands: the answer tells it, a buffer starts with the record of the event reached, and the marks are logged
 pub record Held (logged : Bool) (before : List ℕ) (end : RunEnd) (r : RunAnswer) (here log : List ℕ) : Type 0 where

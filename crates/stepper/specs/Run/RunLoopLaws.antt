@@ -5,12 +5,12 @@ use mathlib.Core.Bool.{Bool, true, false, cond}
 use mathlib.Core.List.{List, [], _∷_, _++_, append-nil}
 use mathlib.Core.Option.{none, some}
 use Prim.Native.Nat.{ℕ, _+_, _-_, _*_, _/_, _≤_, _<_}
-use native.Mathlib.Nat.{zero-add, add-zero}
+use native.Mathlib.Nat.{add-zero}
 use native.Mathlib.Omega.{arith}
 use native.Mathlib.Decide.{decLe}
 use lib.Dec.{eqb, leb}
 use lib.ListN.{length, take, drop, set, length-take}
-use lib.Seq.{take-append-seam}
+use lib.Seq.{take-append-seam, length-take-le}
 use borrow.Author.Tests.{eqb-false, eq-eqb, ne-eqb, le-leb, lt-leb}
 use Rattle.records.specs.Format.Never.{never}
 use Rattle.records.specs.Format.Syntax.{Event, event}
@@ -19,7 +19,7 @@ use Rattle.records.specs.Format.HeadLaws.{Known, bytes-all}
 use Rattle.records.specs.Gate.Gate.{tree, read-event}
 use Rattle.records.specs.Ends.Places.{event-places, EndsOf}
 use Rattle.records.specs.Writing.Patched.{Put}
-use Rattle.records.specs.Writing.PatchedLaws.{put-set, put-then, put-front, put-length, patched-nil, patched-append, length-patched}
+use Rattle.records.specs.Writing.PatchedLaws.{put-set, put-then, put-front, put-length, front-put, patched-nil, patched-append, length-patched}
 use Rattle.records.specs.declared.places.Places.{Places}
 use Rattle.records.specs.declared.places.PartEnds.{PartEnds}
 use Rattle.stepper.specs.declared.emit.StepAnswer.{StepAnswer}
@@ -34,7 +34,7 @@ use Rattle.records.specs.Gate.Reply.{reply-with, answer-length}
 use Rattle.stepper.specs.Plans.ViewLaws.{ends-known}
 use Rattle.stepper.specs.Step.Stepped.{Stepped, BothPassed}
 use Rattle.stepper.specs.Run.Run.{Mark, mark, meets, Order, is-full, less-room, with-marks, Stop, spent, met, full, by, RunEnd, ended, past, run, stop-number}
-use Rattle.stepper.specs.Run.RunLoop.{direction, told-mark, mark-numbers, with-mark, room-of, aim-of, asked, aimed-at, stop-at, stop-case, stopped-case, log-numbers, with-log, RanTo, Held, RunStands, run-so-far, RunHolds, Keeps}
+use Rattle.stepper.specs.Run.RunLoop.{direction, told-mark, mark-numbers, with-mark, room-of, aim-of, asked, aimed-at, stop-at, stop-case, stopped-case, log-numbers, with-log, started-run, RanTo, RanHere, Held, RunStands, run-so-far, RunHolds, Keeps}
 use Rattle.stepper.specs.Run.RunLaws.{then, Course, no-count, no-room, no-step, last-step, one-step, course, course-run, course-then, StopTold, run-log-length, run-told, run-over}
 use Rattle.stepper.specs.Run.RunServiceLaws.{run-recordable}
 use Rattle.stepper.specs.declared.run.RunOrder.{RunOrder}
@@ -268,45 +268,49 @@ module _ {program : List ℕ} {order : RunOrder} {first : RunAnswer} {here₀ lo
   pub keeps-all : {r : RunAnswer} {here log : List ℕ} (steps : ℕ) → Keeps g r here log → r .taken ≡ steps → RunHolds g steps r here log
   keeps-all {r} {here} {log} steps k e = subst (λ n. RunHolds g n r here log) e (k .1)
 
+-- an order that wants no log asks the same of every slice
+asked-alike : (o : RunOrder) → o .logged ≡ false → (log : List ℕ) → asked o log ≡ asked o []
+asked-alike o h log = rw h refl
+
 -- an empty log
 log-none : (logged : Bool) (log : List ℕ) → log ≡ with-log logged log []
 unfolding log-numbers
 log-none true log = sym (patched-nil log 0)
 log-none false log = refl
 
--- the start of a run: the event is in the buffer, and no step is taken
-module _ {program s here : List ℕ} (order : RunOrder) {n : ℕ} {ends : PartEnds} (zeros log : List ℕ) (known : Known s) (w : BothPassed program s) (room : length s ≤ length zeros)
-    (p : Put zeros 0 s here n) (k : EndsOf s ends) where
-  abbrev pub start-run : RunEnd
-  start-run = run (machine layers (w .definitions)) (asked order log) 0 (w .event)
+pub start-going : {n : ℕ} {ends : PartEnds} {first : RunAnswer} (M : Machine) (o : Order) (e : Event) → first ≡ started-run n ends → run M o (first .taken) e .why ≡ spent
+unfolding run
+start-going M o e is = rw is refl
 
-  pub start-going : start-run .why ≡ spent
-  unfolding run
-  start-going = refl
-
-  pub start-held : Held (order .logged) log start-run (record { number = 0; stop = Spent; taken = 0; length = n; ends = ends }) here log
+-- the start of a run: the event's record is at the front of the buffer, and no step is taken
+module _ {program s here : List ℕ} (order : RunOrder) {n : ℕ} {ends : PartEnds} {first : RunAnswer} (log : List ℕ) (known : Known s) (w : BothPassed program s) (inside : n ≤ length here)
+    (f : take n here ≡ s) (k : EndsOf s ends) (is : first ≡ started-run n ends) where
+  pub start-held : Held (order .logged) log (run (machine layers (w .definitions)) (asked order log) (first .taken) (w .event)) first here log
   unfolding run stop-number
   start-held =
       let r = lawful .event-read s (bytes-all s known) (w .event) (w .reads) in
-      let size : n ≡ length s = p .place ∙ zero-add (length s) in
-      let whole : here ≡ s ++ drop (length s) zeros = put-front p room in
-      record {
-        tells = record { number-is = refl; stop-is = refl; taken-is = refl; length-is = size ∙ ap length (r .0); ends-are = k (w .event) (w .reads) };
-        front = rw (whole, size, take-append-seam) (r .0);
-        inside = omega (arith, put-length p);
+      rw is (record {
+        tells = record { number-is = refl; stop-is = refl; taken-is = refl; length-is = sym (length-take-le n here inside) ∙ ap length (f ∙ r .0); ends-are = k (w .event) (w .reads) };
+        front = f ∙ r .0;
+        inside = inside;
         log-is = log-none (order .logged) log;
-      }
+      })
 
-  abbrev pub standing-first : RunStands program order (record { number = 0; stop = Spent; taken = 0; length = n; ends = ends }) here log
+  abbrev pub standing-first : RunStands program order first here log
   standing-first = record {
     definitions = w .definitions;
     program-reads = w .program-reads;
     start = w .event;
     recordable = read-recordable layers lawful s (bytes-all s known) (w .event) (w .reads);
     before = log;
-    going = start-going;
+    going = start-going (machine layers (w .definitions)) (asked order log) (w .event) is;
     held = start-held;
   }
+
+-- so it is where the record was put there
+abbrev pub standing-put : {program s zeros here : List ℕ} (order : RunOrder) {n : ℕ} {ends : PartEnds} {first : RunAnswer} (log : List ℕ) → Known s → BothPassed program s → length s ≤ length zeros
+    → Put zeros 0 s here n → EndsOf s ends → first ≡ started-run n ends → RunStands program order first here log
+standing-put order log known w room p k is = standing-first order log known w (omega (arith, p .place, put-length p)) (front-put p room) k is
 
 -- its end: the record reached is put into the output
 module _ {program s here log log′ : List ℕ} (byte : Known program) (known : Known s) (w : BothPassed program s) (order : RunOrder) (steps : ℕ) {r : RunAnswer}
@@ -318,6 +322,9 @@ module _ {program s here log log′ : List ℕ} (byte : Known program) (known : 
   end-recordable =
       run-recordable layers lawful (record { program = program; bytes = bytes-all program byte; definitions = w .definitions; reads = w .program-reads }) (asked order log) steps (w .event)
       (read-recordable layers lawful s (bytes-all s known) (w .event) (w .reads))
+
+  end-reads : read-event (event-record (end .event)) ≡ tree (end .event)
+  end-reads = lawful .event-back (end .event) (end-recordable .0) (limit-fits (end .event) (end-recordable .1))
 
   pub end-short : r .length ≤ 32768
   end-short = omega (arith, h .tells .length-is, limit-fits (end .event) (end-recordable .1))
@@ -334,6 +341,12 @@ module _ {program s here log log′ : List ℕ} (byte : Known program) (known : 
       record {
         tells = h .tells;
         output-is = whole;
-        reads = rw (whole, size, take-append-seam) (lawful .event-back (end .event) (end-recordable .0) (limit-fits (end .event) (end-recordable .1)));
+        reads = rw (whole, size, take-append-seam) end-reads;
         log-is = h .log-is;
       }
+
+  -- or it is left where it is, and there is no log
+  pub ran-held : {before : List ℕ} → order .logged ≡ false → length here ≡ length before → RanHere (run (machine layers (w .definitions)) (asked order []) steps (w .event)) r before here
+  ran-held {before} unlogged same =
+      subst (λ o. RanHere (run (machine layers (w .definitions)) o steps (w .event)) r before here) (asked-alike order unlogged log)
+      (record { tells = h .tells; front = h .front; reads = rw (h .front) end-reads; inside = h .inside; same-length = same })

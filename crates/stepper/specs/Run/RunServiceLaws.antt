@@ -76,7 +76,7 @@ module _ (L : Layers) (laws : Lawful L) (c : Program L) where
   run-recordable o n e = course-recordable (course (rules-of c) o n e)
 
   -- the run service on an event that passes questions 11 to 14, with an output that passes 5
-  run-of-tree : (d : Direction) (n : ℕ) (s : List ℕ) (e : Event) (out : List ℕ) → L .read-event s ≡ tree e → 32768 ≤ length out
+  pub run-of-tree : (d : Direction) (n : ℕ) (s : List ℕ) (e : Event) (out : List ℕ) → L .read-event s ≡ tree e → 32768 ≤ length out
       → run-record L d n (c .program) s out ≡ run-reply out (gives (run (rules-of c) (plain d) n e))
   unfolding run-record run-answer through
   run-of-tree d n s e out h k = rw (gate-both (L .read-program (c .program)) (L .read-event s) (c .reads) h k)

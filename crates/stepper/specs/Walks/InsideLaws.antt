@@ -17,7 +17,7 @@ use Rattle.stepper.specs.Walks.Reached.{Reached}
 use Rattle.stepper.specs.Walks.ReachedLaws.{one-event, reached-by-rule}
 use Rattle.stepper.specs.Walks.Crossing.{ancestor-goal, Entry, call-entry, End, Crossing, goes-in, goes-through, goes-across, goes-out}
 use Rattle.stepper.specs.Walks.CrossingLaws.{rule-crosses, crosses-back, Sides, end-under, end-same, entry-not-end, entry-to-end, end-to-entry, end-is-final, final-is-end, end-is-last}
-use Rattle.stepper.specs.Walks.Inside.{AboveGoal, InsideGoal, WalkInside, EndsBy, StillOrEnded}
+use Rattle.stepper.specs.Walks.Inside.{AboveGoal, InsideGoal, WalkInside, StillOrEnded}
 
 -- a stack with one ancestor more
 above-more : {g : Goal} {u v : List Ancestor} (b : Ancestor) → AboveGoal g u v → AboveGoal g u (b ∷ v)

@@ -4,7 +4,7 @@ use super::goals::{atom, goal, goal_bytes, Goal};
 use super::sized::{bet_of, term_of};
 use super::terms::{term_bytes, Names};
 use super::Dice;
-use layout::{IN_CONJUNCTION, IN_DISJUNCTION};
+use layout::{ancestor_end, bet_end, goal_end, number_at, EVENT_GOAL_AT, IN_CONJUNCTION, IN_DISJUNCTION, PORT_AT};
 
 /// A unifier bet that keeps the pair rules: the bound variables are some of the names', the terms are over others.
 pub fn unifier(dice: &mut Dice, names: Names) -> Vec<u8> {
@@ -60,15 +60,38 @@ fn bet_for(dice: &mut Dice, goal: &Goal, names: Names) -> Vec<u8> {
 }
 
 /// What an event record is laid out from.
-struct Parts {
-    port: u8,
-    goal: Vec<u8>,
-    ancestors: Vec<Vec<u8>>,
-    bets: Vec<Vec<u8>>,
+pub struct Parts {
+    pub port: u8,
+    pub goal: Vec<u8>,
+    pub ancestors: Vec<Vec<u8>>,
+    pub bets: Vec<Vec<u8>>,
 }
 
 impl Parts {
-    fn record(&self) -> Vec<u8> {
+    /// The parts of a record that passes.
+    pub fn of(record: &[u8]) -> Parts {
+        let mut at = goal_end(record, EVENT_GOAL_AT, |_| ());
+        let goal = record[EVENT_GOAL_AT..at].to_vec();
+        let mut stack = |end: fn(&[u8], usize) -> usize| -> Vec<Vec<u8>> {
+            let count = number_at(record, at);
+            at += 2;
+            let mut part = || {
+                let from = at;
+                at = end(record, from);
+                record[from..at].to_vec()
+            };
+            (0..count).map(|_| part()).collect()
+        };
+        let (ancestors, bets) = (stack(ancestor_end), stack(bet_end));
+        Parts { port: record[PORT_AT], goal, ancestors, bets }
+    }
+
+    /// Whether an ancestor has a tag, in its byte 1.
+    pub fn is_half(ancestor: &[u8]) -> bool {
+        [IN_CONJUNCTION, IN_DISJUNCTION].contains(&ancestor[0])
+    }
+
+    pub fn record(&self) -> Vec<u8> {
         layout::event(self.port, &self.goal, &self.ancestors, &self.bets)
     }
 }

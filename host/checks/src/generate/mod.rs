@@ -4,6 +4,7 @@ pub mod answers;
 pub mod clauses;
 pub mod damage;
 pub mod dice;
+pub mod doors;
 pub mod events;
 pub mod families;
 pub mod goals;

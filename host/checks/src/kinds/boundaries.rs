@@ -1,6 +1,6 @@
 //! Each limit of SPECIFICATION 10 on both sides, and empty things.
 
-use super::{answers, numbering};
+use super::{answers, doors, numbering};
 use crate::compare::{Checked, Checker};
 use crate::generate::clauses::fact_of;
 use crate::generate::families::{chain, doubling, ladder, system};
@@ -26,6 +26,7 @@ pub fn round(checker: &mut Checker, dice: &mut Dice) -> Checked<()> {
     doublings(checker)?;
     orders(checker)?;
     answers::boundaries(checker)?;
+    doors::boundaries(checker, dice)?;
     counts(checker)
 }
 
@@ -47,6 +48,7 @@ fn outputs(checker: &mut Checker) -> Checked<()> {
             for steps in [0, 1, u32::MAX] {
                 checker.run(&none(), event, steps, 0, room)?;
                 checker.run(&none(), event, steps, 1, room)?;
+                checker.door(&none(), event, steps, room)?;
             }
             checker.value(event, 0, room)?;
         }
@@ -71,6 +73,7 @@ fn record_lengths(checker: &mut Checker) -> Checked<()> {
                 checker.back(program, event, ROOM)?;
                 checker.run(program, event, 0, 0, ROOM)?;
                 checker.run(program, event, 9, 0, ROOM)?;
+                checker.door(program, event, 9, ROOM)?;
                 checker.lookup(program, event)?;
             }
             checker.value(event, 1, ROOM)?;
@@ -98,6 +101,7 @@ fn results(checker: &mut Checker) -> Checked<()> {
                 checker.back(&definitions, &event, ROOM)?;
                 checker.run(&definitions, &event, 3, 0, ROOM)?;
                 checker.run(&definitions, &event, 3, 1, ROOM)?;
+                checker.door(&definitions, &event, 3, ROOM)?;
             }
         }
     }
@@ -114,6 +118,7 @@ fn values(checker: &mut Checker) -> Checked<()> {
                 for event in [bare, betted] {
                     checker.forward(&none(), &event, ROOM)?;
                     checker.back(&none(), &event, ROOM)?;
+                    checker.door(&none(), &event, 1, ROOM)?;
                 }
             }
         }
@@ -221,6 +226,8 @@ fn short_slices(checker: &mut Checker) -> Checked<()> {
             checker.back(program, event, ROOM)?;
             checker.run(program, event, 1, 0, ROOM)?;
             checker.run(program, event, 1, 0, 0)?;
+            checker.door(program, event, 1, ROOM)?;
+            checker.door(program, event, 1, 0)?;
             checker.answers(program, event, 9, ROOM)?;
             checker.lookup(program, event)?;
         }

@@ -35,6 +35,7 @@ pub fn round(checker: &mut Checker, dice: &mut Dice) -> Checked<()> {
     checker.forward(&program, &event, room(dice))?;
     checker.back(&program, &event, room(dice))?;
     checker.run(&program, &event, dice.below(4) as u32, dice.below(2) as u8, room(dice))?;
+    checker.door(&program, &event, dice.below(4) as u32, room(dice))?;
     checker.answers(&program, &query, dice.below(40) as u32, room(dice))?;
     checker.value(&event, dice.below(8) as u16, room(dice))?;
     checker.lookup(&program, &event)?;

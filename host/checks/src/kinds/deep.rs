@@ -37,6 +37,7 @@ fn everywhere(checker: &mut Checker, dice: &mut Dice, program: &[u8], event: &[u
     let there = checker.run(program, event, dice.below(40) as u32, 0, 32_768)?;
     if !there.bytes.is_empty() {
         checker.run(program, &there.bytes, 40, 1, 32_768)?;
+        checker.door(program, &there.bytes, 40, 32_768)?;
     }
     Ok(())
 }

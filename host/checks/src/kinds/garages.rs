@@ -24,6 +24,7 @@ pub fn round(checker: &mut Checker, dice: &mut Dice) -> Checked<()> {
             checker.lookup(program, event)?;
             checker.greatest(event)?;
             checker.count(event, [dice.long(); 4])?;
+            checker.door(program, event, u32::MAX, 32_768)?;
             let next = checker.forward(program, event, 32_768)?;
             if next.number != 0 {
                 break;

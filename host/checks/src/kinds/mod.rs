@@ -6,6 +6,7 @@ mod clauses;
 mod counts;
 mod damaged;
 mod deep;
+mod doors;
 mod garages;
 mod lookups;
 mod moves;
@@ -27,7 +28,7 @@ pub struct Kind {
     pub round: fn(&mut Checker, &mut Dice) -> Checked<()>,
 }
 
-pub const KINDS: [Kind; 16] = [
+pub const KINDS: [Kind; 17] = [
     Kind { name: "boundaries", share: 0, round: boundaries::round },
     Kind { name: "garages", share: 0, round: garages::round },
     Kind { name: "walks", share: 200, round: walks::round },
@@ -44,4 +45,5 @@ pub const KINDS: [Kind; 16] = [
     Kind { name: "numbering", share: 30, round: numbering::round },
     Kind { name: "parts", share: 20, round: parts::round },
     Kind { name: "answers", share: 60, round: answers::round },
+    Kind { name: "doors", share: 60, round: doors::round },
 ];

@@ -58,6 +58,7 @@ pub fn each_way(checker: &mut Checker, program: &[u8], called: &Called) -> Check
     }
     let fail = called.at(3);
     checker.forward(program, &fail, ROOM)?;
+    checker.door(program, &fail, 2, ROOM)?;
     let source = checker.back(program, &fail, ROOM)?;
     if source.number == 0 && checker.forward(program, &source.bytes, ROOM)?.bytes != fail {
         return Err(Difference("the fail of the body did not lead to the atom's".into()));

@@ -1,5 +1,5 @@
 -- `answer_by` measures, refuses, and then writes.
-use mathlib.Core.Path.{_≡_, refl, sym, _∙_, ap}
+use mathlib.Core.Path.{sym, _∙_, ap}
 use native.Mathlib.Omega.{arith}
 use lib.ListN.{length}
 use Rattle.answers.specs.Writing.SolvedLaws.{measured-small, solution-large, solution-long, solution-put, solution-fits}

@@ -1,72 +1,73 @@
-use mathlib.Core.Path.{sym, _∙_}
+use mathlib.Core.Path.{refl, sym, _∙_}
 use native.Mathlib.Omega.{arith}
 use lib.ListN.{length}
 use lib.Seq.{length-take-le}
 use borrow.Author.Tests.{not-true, not-false}
+use Rattle.records.specs.Format.HeadLaws.{front-known}
 use Rattle.records.specs.Gate.GateLaws.{tree-injective}
 use Rattle.terms.specs.Values.ValueLaws.{event-bets}
-use Rattle.answers.specs.Writing.ListingLaws.{front-known, list-passed, written-inside, taken-small, turned-stop, here-told, answer-inside, turned}
+use Rattle.answers.specs.Writing.ListingLaws.{list-passed, written-inside, taken-small, turned-stop, here-told, answer-inside, turned}
 use borrow.Author.Needs.{needs}
 use Rattle.answers.proofs.service.next_answer.Statement.{statement}
 use Rattle.answers.proofs.service.next_answer.Tie as tie
 
-run-to-exit-requires : tie.Need-run-to-exit-requires
-run-to-exit-requires c κs = let pre = c .before .before .before .before .before .before .before .before .before .pre in (pre .0 .3 .inside, (omega (arith, pre .1 .room), list-passed (pre .0 .3)))
+run-here-requires : tie.Need-run-here-requires
+run-here-requires c κs = let pre = c .before .before .before .before .before .before .before .before .before .before .pre in (rw (c .exit-order .ensures) refl, ((pre .0 .3 .inside, omega (arith, pre .1 .room)), list-passed (pre .0 .3)))
 
 stopped-listing-requires : tie.Need-stopped-listing-requires
-stopped-listing-requires c κs = let g = c .before .before .before .before .before .before .before .before .before .before .before .before .before .before .pre .0 .3 in omega (arith, taken-small g (c .before .before .before .before .run-to-exit .ensures (list-passed g)))
+stopped-listing-requires c κs = let g = c .before .before .before .before .before .before .before .before .before .before .before .before .before .before .before .pre .0 .3 in omega (arith, taken-small g ((rw (c .before .before .before .before .before .exit-order .ensures) at (c .before .before .before .before .run-here .ensures (list-passed g)))))
 
 returns : tie.Need-returns
 returns c =
     λ ds q before g.
-    turned-stop g (c .before .before .before .before .before .run-to-exit .ensures (list-passed g)) (c .stopped-listing .ensures) (sym (c .before .before .is-met .ensures) ∙ not-true _ (c .before .if1 .taken))
+    turned-stop g ((rw (c .before .before .before .before .before .before .exit-order .ensures) at (c .before .before .before .before .before .run-here .ensures (list-passed g)))) (c .stopped-listing .ensures) (sym (c .before .before .is-met .ensures) ∙ not-true _ (c .before .if1 .taken))
 
 slice-reshare-prefix-places-by : tie.Need-slice-reshare-prefix-places-by
-slice-reshare-prefix-places-by c = c .before .before .before .before .run-to-exit .ensures (list-passed (c .before .before .before .before .before .before .before .before .before .before .before .before .before .before .pre .0 .3)) .inside
+slice-reshare-prefix-places-by c = (rw (c .before .before .before .before .before .exit-order .ensures) at (c .before .before .before .before .run-here .ensures (list-passed (c .before .before .before .before .before .before .before .before .before .before .before .before .before .before .before .pre .0 .3)))) .inside
 
 slice-aggregate-places-by : tie.Need-slice-aggregate-places-by
 slice-aggregate-places-by c = sym (length-take-le _ _ (slice-reshare-prefix-places-by (c .before)))
 
 places-by-requires : tie.Need-places-by-requires
 places-by-requires c κs =
-    let ran = c .before .before .before .before .before .run-to-exit .ensures (list-passed (c .before .before .before .before .before .before .before .before .before .before .before .before .before .before .before .pre .0 .3)) in
+    let ran = (rw (c .before .before .before .before .before .before .exit-order .ensures) at (c .before .before .before .before .before .run-here .ensures (list-passed (c .before .before .before .before .before .before .before .before .before .before .before .before .before .before .before .before .pre .0 .3)))) in
     (rw (ran .reads) tt, λ e h. rw (← (tree-injective (sym (ran .reads) ∙ h))) (ran .tells .ends-are))
 
 slice-reshare-prefix-put-answer : tie.Need-slice-reshare-prefix-put-answer
-slice-reshare-prefix-put-answer c = c .before .before .before .before .before .before .before .run-to-exit .ensures (list-passed (c .before .before .before .before .before .before .before .before .before .before .before .before .before .before .before .before .before .pre .0 .3)) .inside
+slice-reshare-prefix-put-answer c = (rw (c .before .before .before .before .before .before .before .before .exit-order .ensures) at (c .before .before .before .before .before .before .before .run-here .ensures (list-passed (c .before .before .before .before .before .before .before .before .before .before .before .before .before .before .before .before .before .before .pre .0 .3)))) .inside
 
 slice-aggregate-put-answer : tie.Need-slice-aggregate-put-answer
 slice-aggregate-put-answer c = sym (length-take-le _ _ (slice-reshare-prefix-put-answer (c .before)))
 
 sub-put-answer : tie.Need-sub-put-answer
-sub-put-answer c = written-inside (c .before .before .before .before .before .before .before .before .before .before .before .before .before .before .before .before .before .before .before .before .before .pre .0 .3)
+sub-put-answer c = written-inside (c .before .before .before .before .before .before .before .before .before .before .before .before .before .before .before .before .before .before .before .before .before .before .pre .0 .3)
 
 part-put-answer-start : tie.Need-part-put-answer-start
-part-put-answer-start c = written-inside (c .before .before .before .before .before .before .before .before .before .before .before .before .before .before .before .before .before .before .before .before .before .pre .0 .3)
+part-put-answer-start c = written-inside (c .before .before .before .before .before .before .before .before .before .before .before .before .before .before .before .before .before .before .before .before .before .before .pre .0 .3)
 
 put-answer-requires : tie.Need-put-answer-requires
 put-answer-requires c κs =
-    let pre = c .before .before .before .before .before .before .before .before .before .before .before .before .before .before .before .before .before .before .before .before .before .before .pre in
+    let pre = c .before .before .before .before .before .before .before .before .before .before .before .before .before .before .before .before .before .before .before .before .before .before .before .pre in
     let g = pre .0 .3 in
-    let ran = c .before .before .before .before .before .before .before .before .before .before .before .before .run-to-exit .ensures (list-passed g) in
-    let known = front-known (c .before .before .before .before .before .before .before .before .before .before .before .before .run-to-exit .result .length) (c .before .before .before .before .before .before .before .before .before .before .before .before .run-to-exit .last .1 .0) (c .before .before .before .before .before .before .before .before .before .before .slice-known6 .given) in
+    let ran = (rw (c .before .before .before .before .before .before .before .before .before .before .before .before .before .exit-order .ensures) at (c .before .before .before .before .before .before .before .before .before .before .before .before .run-here .ensures (list-passed g))) in
+    let known = front-known (c .before .before .before .before .before .before .before .before .before .before .before .before .run-here .result .length) (c .before .before .before .before .before .before .before .before .before .before .before .before .run-here .last .1 .0) (c .before .before .before .before .before .before .before .before .before .before .slice-known6 .given) in
     let b = event-bets _ known _ (ran .reads) (c .before .before .before .before .before .before .places-by .ensures _ (ran .reads)) in
     (b .bets, (record { entries = omega (arith, b .short, pre .1 .entries); same = pre .1 .same; limit = pre .1 .limit }, (b .short, (g .variables-small, g .variables-few))))
 
 answered-listing-requires : tie.Need-answered-listing-requires
 answered-listing-requires c κs =
-    let g = c .before .before .before .before .before .before .before .before .before .before .before .before .before .before .before .before .before .before .before .before .before .before .before .before .before .before .before .before .before .before .before .pre .0 .3 in
-    let ran = c .before .before .before .before .before .before .before .before .before .before .before .before .before .before .before .before .before .before .before .before .before .run-to-exit .ensures (list-passed g) in
-    let known = front-known (c .before .before .before .before .before .before .before .before .before .before .before .before .before .before .before .before .before .before .before .before .before .run-to-exit .result .length) (c .before .before .before .before .before .before .before .before .before .before .before .before .before .before .before .before .before .before .before .before .before .run-to-exit .last .1 .0) (c .before .before .before .before .before .before .before .before .before .before .before .before .before .before .before .before .before .before .before .slice-known6 .given) in
+    let g = c .before .before .before .before .before .before .before .before .before .before .before .before .before .before .before .before .before .before .before .before .before .before .before .before .before .before .before .before .before .before .before .before .pre .0 .3 in
+    let ran = (rw (c .before .before .before .before .before .before .before .before .before .before .before .before .before .before .before .before .before .before .before .before .before .before .exit-order .ensures) at (c .before .before .before .before .before .before .before .before .before .before .before .before .before .before .before .before .before .before .before .before .before .run-here .ensures (list-passed g))) in
+    let known = front-known (c .before .before .before .before .before .before .before .before .before .before .before .before .before .before .before .before .before .before .before .before .before .run-here .result .length) (c .before .before .before .before .before .before .before .before .before .before .before .before .before .before .before .before .before .before .before .before .before .run-here .last .1 .0) (c .before .before .before .before .before .before .before .before .before .before .before .before .before .before .before .before .before .before .before .slice-known6 .given) in
     let b = event-bets _ known _ (ran .reads) (c .before .before .before .before .before .before .before .before .before .before .before .before .before .before .before .places-by .ensures _ (ran .reads)) in
     let is = sym (c .before .before .before .before .before .before .before .before .before .before .before .before .before .before .before .before .before .before .is-met .ensures) ∙ not-false _ (c .before .before .before .before .before .before .before .before .before .before .before .before .before .before .before .before .before .if1 .left) in
-    (omega (arith, c .before .before .before .before .before .before .before .before .before .before .before .before .before .before .before .before .before .before .before .before .before .before .before .before .before .before .before .before .before .before .before .fits, taken-small g ran), omega (arith, c .before .before .before .before .before .before .before .before .before .before .before .before .before .before .before .before .before .before .before .before .before .before .before .before .before .before .before .before .before .before .before .good, answer-inside g ran is (here-told g ran is (b .are)) (c .before .before .before .before .before .before .before .before .put-answer .ensures (b .bets))))
+    (omega (arith, c .before .before .before .before .before .before .before .before .before .before .before .before .before .before .before .before .before .before .before .before .before .before .before .before .before .before .before .before .before .before .before .before .fits, taken-small g ran), omega (arith, c .before .before .before .before .before .before .before .before .before .before .before .before .before .before .before .before .before .before .before .before .before .before .before .before .before .before .before .before .before .before .before .before .good, answer-inside g ran is (here-told g ran is (b .are)) (c .before .before .before .before .before .before .before .before .put-answer .ensures (b .bets))))
 
 returns-2 : tie.Need-returns-2
 returns-2 c =
     λ ds q before g.
-    let ran = c .before .before .before .before .before .before .before .before .before .before .before .before .before .before .before .before .before .before .before .before .before .before .run-to-exit .ensures (list-passed g) in
-    let known = front-known (c .before .before .before .before .before .before .before .before .before .before .before .before .before .before .before .before .before .before .before .before .before .before .run-to-exit .result .length) (c .before .before .before .before .before .before .before .before .before .before .before .before .before .before .before .before .before .before .before .before .before .before .run-to-exit .last .1 .0) (c .before .before .before .before .before .before .before .before .before .before .before .before .before .before .before .before .before .before .before .before .slice-known6 .given) in
+    let ran = (rw (c .before .before .before .before .before .before .before .before .before .before .before .before .before .before .before .before .before .before .before .before .before .before .before .exit-order .ensures) at (c .before .before .before .before .before .before .before .before .before .before .before .before .before .before .before .before .before .before .before .before .before .before .run-here .ensures (list-passed g))) in
+    let known = front-known (c .before .before .before .before .before .before .before .before .before .before .before .before .before .before .before .before .before .before .before .before .before .before .run-here .result .length) (c .before .before .before .before .before .before .before .before .before .before .before .before .before .before .before .before .before .before .before .before .before .before .run-here .last .1 .0) (c .before .before .before .before .before .before .before .before .before .before .before .before .before .before .before .before .before .before .before .before .slice-known6 .given) in
     let b = event-bets _ known _ (ran .reads) (c .before .before .before .before .before .before .before .before .before .before .before .before .before .before .before .before .places-by .ensures _ (ran .reads)) in
     let is = sym (c .before .before .before .before .before .before .before .before .before .before .before .before .before .before .before .before .before .before .before .is-met .ensures) ∙ not-false _ (c .before .before .before .before .before .before .before .before .before .before .before .before .before .before .before .before .before .before .if1 .left) in
     turned g ran is (here-told g ran is (b .are)) (c .before .before .before .before .before .before .before .before .before .put-answer .ensures (b .bets)) (c .answered-listing .ensures)
@@ -76,7 +77,8 @@ next-answer-spec =
     tie.close
     (tie.spec
     (λ c. search needs)
-    run-to-exit-requires
+    (λ c κs. search needs)
+    run-here-requires
     (λ c κs. search needs)
     stopped-listing-requires
     (λ c. search needs)

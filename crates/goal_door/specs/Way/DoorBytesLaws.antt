@@ -31,7 +31,7 @@ abbrev pub called-bytes : Goal → List Ancestor → List ℕ
 called-bytes g u = goal-bytes g ++ counted ancestor-bytes u
 
 -- are those of no other
-pub called-injective : (g h : Goal) (u v : List Ancestor) → GoalFormed g × Counted AncestorFormed u → GoalFormed h × Counted AncestorFormed v
+called-injective : (g h : Goal) (u v : List Ancestor) → GoalFormed g × Counted AncestorFormed u → GoalFormed h × Counted AncestorFormed v
     → called-bytes g u ≡ called-bytes h v → (g ≡ h) × (u ≡ v)
 called-injective g h u v f k e =
     let (i, rest) = unique-front goal-exact g h (f .0) (k .0) _ _ e in

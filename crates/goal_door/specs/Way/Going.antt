@@ -64,6 +64,6 @@ module _ (program s : List ℕ) (ds : List Definition) (e : Event) (limit : ℕ)
     pub state : WayState p here
     pub later : p .going ≡ true → last .taken < p .taken
 
--- how many turns are left at most
-abbrev pub turns-left : ℕ → WayBack → ℕ
-turns-left limit p = cond (p .going) (suc (limit - p .taken)) 0
+-- how many calls are still to be looked at, at most, and the end
+abbrev pub calls-left : ℕ → WayBack → ℕ
+calls-left limit p = cond (p .going) (suc (limit - p .taken)) 0

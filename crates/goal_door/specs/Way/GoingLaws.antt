@@ -25,7 +25,7 @@ use Rattle.stepper.specs.declared.run.RunAnswer.{RunAnswer}
 use Rattle.goal_door.specs.Form.GoalDoor.{is-door, way-back, to-door}
 use Rattle.goal_door.specs.Form.GoalDoorLaws.{then-then, way-ends, way-refused, way-spent, way-follows, run-passes}
 use Rattle.goal_door.specs.Form.NextCall.{to-next-call}
-use Rattle.goal_door.specs.Way.Going.{next-number, way-at, WayStands, WayTurned, turns-left}
+use Rattle.goal_door.specs.Way.Going.{next-number, way-at, WayStands, WayTurned, calls-left}
 use Rattle.goal_door.specs.declared.way.WayBack.{WayBack}
 
 -- the number of a step that is made, and of one that is refused, where the limit is spent
@@ -166,10 +166,10 @@ module _ {program s : List ℕ} {ds : List Definition} {e : Event} {limit : ℕ}
           go full i t = absurd (Option·none-ne-some _ t)
           go (by k) i t = absurd (number-positive k (sym (ap stop-number i) ∙ sym (ran .tells .number-is) ∙ z))
 
--- a turn later fewer are left
-pub turned-less : {program s : List ℕ} {ds : List Definition} {e : Event} {limit : ℕ} {last p : WayBack} {here : List ℕ} → last .going ≡ true → WayTurned program s ds e limit last p here
-    → turns-left limit p < turns-left limit last
-turned-less {limit = limit} {last} {p} {here} h t = rw h (go (p .going) refl)
+-- a turn later they are fewer
+pub calls-fewer : {program s : List ℕ} {ds : List Definition} {e : Event} {limit : ℕ} {last p : WayBack} {here : List ℕ} → last .going ≡ true → WayTurned program s ds e limit last p here
+    → calls-left limit p < calls-left limit last
+calls-fewer {limit = limit} {last} {p} {here} h t = rw h (go (p .going) refl)
   where
     go : (b : Bool) → p .going ≡ b → cond b (suc (limit - p .taken)) 0 < suc (limit - last .taken)
     go true k = let w = t .state .0 k in omega (arith, w .within, t .later k)

@@ -31,7 +31,7 @@
  *    the length is 0 too it is not null. The other pointers point to one writable, initialised and aligned value of their type.
  *  - What is written (`out`, `taken`, `written`, `at`, `part`, `greatest`, `counts`) overlaps nothing else that the call is given. What is only read may overlap.
  *  - Nobody else writes any of it during the call, or reads what the call writes.
- *  - The thread has the stack, of which nothing is proved: the deepest calls we know of need 1,680 KiB, so give
+ *  - The thread has the stack, of which nothing is proved: the deepest calls we know of need 1,616 KiB, so give
  *    4 MiB. Linux gives a main thread 8.
  *
  * There is no state between calls, no heap and no input or output: calls on different data may run at the same time in any number of threads.

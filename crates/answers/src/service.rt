@@ -7,6 +7,7 @@ use records::door::program_door;
 use records::door::query_door;
 use records::kinds::RECORD_LIMIT;
 use records::kinds::VALUE_LIMIT;
+use records::places::part_ends;
 use records::places::places_by;
 use records::put::Receipt;
 use records::questions::DONE;
@@ -110,7 +111,9 @@ fn next_answer(
     ensures { λ r. ⌜ ((ds : List Definition) (q : Goal) (before : List ℕ) → ListStands (now (program .entry)) ds q (now (variables .entry)) steps before last (now (here .entry)) (now (out .entry)) → Turned (now (program .entry)) ds q (now (variables .entry)) steps before last r (now (here .exit)) (now (out .exit))) ⌝ }
 {
     let left = steps - last.taken;
-    let r = run_here(program, here, last.length, exit_order(), left);
+    let len = last.length;
+    let ends = part_ends(&here[..len]);
+    let r = run_here(program, here, len, ends, exit_order(), left);
     let stop = r.stop;
     if !is_met(stop) {
         return stopped_listing(last, r);

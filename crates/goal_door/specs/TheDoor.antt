@@ -19,7 +19,7 @@ use Rattle.stepper.specs.Training.{EndsAt}
 use Rattle.stepper.specs.Walks.Walk.{forward, back}
 use Rattle.goal_door.specs.Form.Service.{goal-door-record}
 use Rattle.goal_door.specs.Form.Told.{DoorOf, EndsSo, DoorBack}
-use Rattle.goal_door.specs.Form.ServiceLaws.{written-reads, run-there, run-again, none-between, number-told, number-not-six, door-back}
+use Rattle.goal_door.specs.Form.ServiceLaws.{written-reads, told-within, run-there, run-again, none-between, number-told, number-not-six, door-back}
 
 module _ (c : Program layers) where
   module _ (s : List ℕ) (b : Bytes s) (e : Event) (h : read-event s ≡ tree e) (n : ℕ) (out : List ℕ) (room : 32768 ≤ length out) where
@@ -28,6 +28,10 @@ module _ (c : Program layers) where
 
     abbrev pub written : List ℕ
     written = front-record (answer .output)
+
+    -- The limit is kept.
+    pub within-limit : answer .taken ≤ n
+    within-limit = told-within c s b e h n out room
 
     -- As many single steps back are accepted and leave the same output.
     pub found-by-steps-back : run-record layers back (answer .taken) (c .program) s out ≡ record { number = 0; taken = answer .taken; output = answer .output }
@@ -38,16 +42,16 @@ module _ (c : Program layers) where
         → run-record layers forward (answer .taken) (c .program) written o ≡ record { number = 0; taken = answer .taken; output = s ++ drop (length s) o }
     forward-leads-back = run-again c s b e h n out room
 
-    -- No event before it is the door.
-    pub none-in-between : (j : ℕ) → j < answer .taken → (d : Event) → read-event (front-record (run-record layers back j (c .program) s out .output)) ≡ tree d
-        → DoorOf e d → ⊥
+    -- None of the events passed on the way, from the given one on, is a door.
+    pub none-in-between : (j : ℕ) → j < answer .taken
+        → (d : Event) × (read-event (front-record (run-record layers back j (c .program) s out .output)) ≡ tree d) × (DoorOf e d → ⊥)
     none-in-between = none-between c s b e h n out room
 
     -- What is written is an event, and the number says why the way ends there.
     pub the-number-says : (d : Event) × (read-event written ≡ tree d) × EndsSo e d n (answer .taken) (answer .number) (step-record layers back (c .program) written out .number)
     the-number-says = (_, written-reads c s b e h n out room, number-told c s b e h n out room)
 
-    -- It is never 6: an event from which steps back lead to a query's first event is reached, and has its door before that.
+    -- It is never 6: an event from which steps back lead to a query's first event is reached, so its door is that event or was met before.
     pub never-6 : answer .number ≡ 6 → ⊥
     never-6 = number-not-six c s b e h n out room
 

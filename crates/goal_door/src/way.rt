@@ -2,6 +2,7 @@
 use crate::door::is_door;
 use records::kinds::RECORD_LIMIT;
 use records::places::PartEnds;
+use records::places::Places;
 use records::places::part_ends;
 use records::places::places_by;
 use records::put::put_part;
@@ -21,30 +22,27 @@ ghost use lib.ListN.{length};
 ghost use Rattle.records.specs.Ends.Places.{EndsOf};
 ghost use Rattle.records.specs.Format.Syntax.{Event, Definition};
 ghost use Rattle.records.specs.Gate.Door.{BothPassed};
-ghost use Rattle.records.specs.Gate.Gate.{Accepted, tree, read-event};
 ghost use Rattle.stepper.specs.Rules.Rules.{step-back};
 ghost use Rattle.stepper.specs.Services.Desk.{layers};
 ghost use Rattle.stepper.specs.Services.Services.{machine};
-ghost use Rattle.stepper.specs.Walks.Crossing.{ancestors-of};
 ghost use Rattle.goal_door.specs.Form.GoalDoor.{to-door};
 ghost use Rattle.goal_door.specs.Form.NextCall.{call-order};
-ghost use Rattle.goal_door.specs.Way.Going.{way-at, next-number, WayStands, WayState, WayTurned, WayEnded};
+ghost use Rattle.goal_door.specs.Way.Going.{way-at, next-number, PlacesOf, WayStands, WayState, WayTurned, WayEnded};
 
-// Where the way back stands: 0 or the number that ended it, the steps made, the length of the record of the event reached, and whether it goes on.
-pub struct WayBack {
+// Where the way stands: 0 or the number that ended it, the steps made, of the record of the event reached the length and where its parts end, and whether
+// it goes on.
+pub struct Standing {
     pub number: u8,
     pub taken: u32,
     pub length: usize,
+    pub ends: PartEnds,
     pub going: bool,
 }
 
-// Back to the next call with as many ancestors as an event has, with no log.
-fn call_order(event: &[u8], ends: PartEnds) -> RunOrder
-    requires { ⌜ Accepted (read-event (now event)) ⌝ }
-    requires { ⌜ EndsOf (now event) ends ⌝ }
-    ensures { λ r. ⌜ ((e : Event) → read-event (now (event .entry)) ≡ tree e → r ≡ call-order (length (ancestors-of e))) ⌝ }
+// Back to the next call with so many ancestors, with no log.
+fn call_order(ancestors: usize) -> RunOrder
+    ensures { λ r. ⌜ r ≡ call-order ancestors ⌝ }
 {
-    let ancestors = places_by(event, ends).ancestors;
     RunOrder {
         back: true,
         aimed: true,
@@ -53,7 +51,7 @@ fn call_order(event: &[u8], ends: PartEnds) -> RunOrder
             exit: false,
             fail: false,
             redo: false,
-            ancestors: ancestors.count,
+            ancestors,
         },
         logged: false,
     }
@@ -75,14 +73,16 @@ fn next_number(program: &[u8], event: &[u8], ends: PartEnds) -> u8
 }
 
 // The way behind a run.
-fn way_at(last: WayBack, r: RunAnswer, number: u8, going: bool) -> WayBack
+fn way_at(last: Standing, r: RunAnswer, number: u8, going: bool) -> Standing
     requires { ⌜ last .taken + r .taken < 2 ^ 32 ⌝ }
     ensures { λ x. ⌜ x ≡ way-at last r number going ⌝ }
 {
-    WayBack {
+    let ends = r.ends;
+    Standing {
         number,
         taken: last.taken + r.taken,
         length: r.length,
+        ends,
         going,
     }
 }
@@ -92,23 +92,26 @@ fn way_at(last: WayBack, r: RunAnswer, number: u8, going: bool) -> WayBack
 fn next_call(
     program: &[u8],
     event: &[u8],
-    ends: PartEnds,
+    sought: Places,
     limit: u32,
-    last: WayBack,
+    last: Standing,
     here: &mut [u8],
-) -> WayBack
+) -> Standing
     requires { ⌜ ((ds : List Definition) × (e : Event) × WayStands (now program) (now event) ds e limit last (now here)) ⌝ }
-    requires { ⌜ EndsOf (now event) ends ⌝ }
+    requires { ⌜ PlacesOf (now event) sought ⌝ }
     requires { ⌜ length (now here) ≡ 32768 ⌝ }
     ensures { λ r. ⌜ ((ds : List Definition) (e : Event) → WayStands (now (program .entry)) (now (event .entry)) ds e limit last (now (here .entry)) → WayTurned (now (program .entry)) (now (event .entry)) ds e limit last r (now (here .exit))) ⌝ }
 {
     let left = limit - last.taken;
-    let r = run_here(program, here, last.length, call_order(event, ends), left);
+    let ancestors = sought.ancestors;
+    let order = call_order(ancestors.count);
+    let r = run_here(program, here, last.length, last.ends, order, left);
     let n = r.length;
     let stop = r.stop;
     if is_met(stop) {
-        let found = is_door(event, ends, &here[..n], r.ends);
-        return way_at(last, r, DONE, !found);
+        let found = places_by(&here[..n], r.ends);
+        let met = is_door(event, sought, &here[..n], found);
+        return way_at(last, r, DONE, !met);
     }
     if r.number != DONE {
         return way_at(last, r, r.number, false);
@@ -121,37 +124,39 @@ fn next_call(
 fn go_back(
     program: &[u8],
     event: &[u8],
-    ends: PartEnds,
+    sought: Places,
     limit: u32,
-    first: WayBack,
+    first: Standing,
     here: &mut [u8],
-) -> WayBack
+) -> Standing
     requires { ⌜ ((ds : List Definition) × (e : Event) × WayState (now program) (now event) ds e limit first (now here)) ⌝ }
-    requires { ⌜ EndsOf (now event) ends ⌝ }
+    requires { ⌜ PlacesOf (now event) sought ⌝ }
     requires { ⌜ length (now here) ≡ 32768 ⌝ }
     ensures { λ r. ⌜ ((ds : List Definition) (e : Event) → WayState (now (program .entry)) (now (event .entry)) ds e limit first (now (here .entry)) → WayEnded (to-door (machine layers ds) limit e) r (now (here .exit))) ⌝ }
 {
     let mut last = first;
     while last.going {
-        last = next_call(program, event, ends, limit, last, here);
+        last = next_call(program, event, sought, limit, last, here);
     }
     last
 }
 
 // The way from an accepted event to its door under an accepted program. The record of the event reached is left at the front of `here`.
-pub fn way_back(program: &[u8], event: &[u8], limit: u32, here: &mut [u8]) -> WayBack
+pub fn way_back(program: &[u8], event: &[u8], limit: u32, here: &mut [u8]) -> Standing
     requires { ⌜ BothPassed (now program) (now event) ⌝ }
     requires { ⌜ length (now here) ≡ 32768 ⌝ }
     ensures { λ r. ⌜ ((w : BothPassed (now (program .entry)) (now (event .entry))) → WayEnded (to-door (machine layers (w .definitions)) limit (w .event)) r (now (here .exit))) ⌝ }
 {
     let length = put_part(here, 0, event);
     let ends = part_ends(event);
-    let found = is_door(event, ends, event, ends);
-    let first = WayBack {
+    let sought = places_by(event, ends);
+    let met = is_door(event, sought, event, sought);
+    let first = Standing {
         number: DONE,
         taken: 0,
         length,
-        going: !found,
+        ends,
+        going: !met,
     };
-    go_back(program, event, ends, limit, first, here)
+    go_back(program, event, sought, limit, first, here)
 }

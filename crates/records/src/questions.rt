@@ -1,4 +1,4 @@
-// The numbers by which questions 5 to 10 and 32 refuse (SPECIFICATION 7.3 to 7.6, 8.13), named as in the definitions; 0 is done.
+// The numbers by which questions 5 to 10 and 32 refuse (SPECIFICATION 7.3 to 7.7), named as in the definitions; 0 is done.
 // Questions 1 to 4 have theirs in `program_number` and `event_number`.
 pub const DONE: u8 = 0;
 

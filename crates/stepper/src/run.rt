@@ -302,22 +302,23 @@ pub fn run_from(
     r
 }
 
-// The run with no log from the event whose record has the first bytes of `here`. The record of the event reached is left there.
+// The run with no log from the event whose record has the first bytes of `here`, its parts ending there. The record of the event reached is left there.
 pub fn run_here(
     program: &[u8],
     here: &mut [u8],
     len: usize,
+    ends: PartEnds,
     order: RunOrder,
     steps: u32,
 ) -> RunAnswer
     requires { ⌜ order .logged ≡ false ⌝ }
     requires { ⌜ (len ≤ length (now here)) × (32768 ≤ length (now here)) ⌝ }
     requires { ⌜ BothPassed (now program) (take len (now here)) ⌝ }
+    requires { ⌜ EndsOf (take len (now here)) ends ⌝ }
     ensures { λ r. ⌜ ((w : BothPassed (now (program .entry)) (take len (now (here .entry)))) → RanHere (run (machine layers (w .definitions)) (asked order []) steps (w .event)) r (now (here .entry)) (now (here .exit))) ⌝ }
 {
     let mut there: [u8; RECORD_LIMIT] = [0; RECORD_LIMIT];
     let mut no_log: [usize; 1] = [0; 1];
-    let ends = part_ends(&here[..len]);
     let first = started(len, ends);
     run_on(program, here, &mut there, order, first, steps, &mut no_log)
 }

@@ -48,7 +48,7 @@ impl Service {
     ];
 
     /// The numbers that the service can give. A query has no question 4, so the first event and the answers never give 14; every event of a walk from
-    /// a query has a rule, so the answers never give 7. What steps back to a first event is reached, and so has met its door before: the door never
+    /// a query has a rule, so the answers never give 7. What steps back to a first event is reached, and has met its door by then: the door never
     /// gives 6.
     pub fn numbers(self) -> &'static [u32] {
         match self {

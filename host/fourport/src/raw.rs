@@ -67,7 +67,7 @@ pub fn run(program: &[u8], event: &[u8], steps: u32, back: u8, out: &mut [u8], t
     sys::run(program, event, steps, back, out, taken)
 }
 
-/// Back to the door of an event: 0 to 14, or 32. The event come to is written, also where 6 to 10 or 32 stopped the way back; `taken` becomes the
+/// Back to the door of an event: 0 to 14, or 32. The event come to is written, also where 7 to 10 or 32 stopped the way back; `taken` becomes the
 /// steps taken, 0 where nothing is written (SPECIFICATION 8.13).
 ///
 /// ```

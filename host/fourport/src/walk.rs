@@ -3,7 +3,8 @@
 use crate::{raw, Event, Program, Refusal, RECORD_LIMIT};
 use std::iter::FusedIterator;
 
-/// Stands at an event of a program's walk. A refused step leaves it where it is, and one on the way back to a door where that came to.
+/// Stands at an event of a program's walk. A refused step leaves it where it is; a way back to the door that is stopped leaves it at the last event
+/// that the way came to.
 ///
 /// ```
 /// use fourport::{Event, Port, Program, Query, Refusal};
@@ -86,7 +87,8 @@ impl<'p> Walk<'p> {
         self.stepped(number, -1)
     }
 
-    /// Back to the door of the event: see [`Program::door`]. Where there is none within the limit the walk stands at the last event reached.
+    /// Back to the door of the event: see [`Program::door`]. Where the way is stopped, by the limit or by a question, this gives what stopped it, and the
+    /// walk has moved: it stands at the last event that the way came to.
     ///
     /// ```
     /// # use fourport::{Event, Port, Program, Query, Refusal};

@@ -1,9 +1,9 @@
 -- The list of answers in code: the run to the next exit, and what holds between two answers. As many as are written stand at the front of the output, the
 -- walk of 'Q, fail' stands at an event whose record is at the front of a buffer, and what is still to be written is what is written from there on.
 use mathlib.Core.Path.{_≡_}
-use mathlib.Core.Bool.{true, false, cond}
+use mathlib.Core.Bool.{true, false}
 use mathlib.Core.List.{List, _++_}
-use Prim.Native.Nat.{ℕ, suc, _+_, _-_, _*_, _≤_, _<_}
+use Prim.Native.Nat.{ℕ, _+_, _-_, _*_, _≤_, _<_}
 use lib.Dec.{eqb}
 use lib.ListN.{length, take}
 use Rattle.records.specs.Format.Syntax.{Goal, Event, Definition}
@@ -83,7 +83,3 @@ ListState program ds q variables steps before p here out =
 pub record Turned (program : List ℕ) (ds : List Definition) (q : Goal) (variables : List ℕ) (steps : ℕ) (before : List ℕ) (last p : Listing) (here out : List ℕ) : Type 0 where
   pub state : ListState program ds q variables steps before p here out
   pub later : p .going ≡ true → last .taken < p .taken
-
--- how many turns are left at most
-abbrev pub turns-left : ℕ → Listing → ℕ
-turns-left steps p = cond (p .going) (suc (steps - p .taken)) 0

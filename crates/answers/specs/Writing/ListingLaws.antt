@@ -1,11 +1,11 @@
 -- Laws of the list of answers: a run to the next exit that stops before one ends the list, and one that comes to an exit adds its answer, or ends the list
 -- where the answer is refused.
 use mathlib.Core.Path.{_≡_, refl, sym, _∙_, ap}
-use mathlib.Core.Bool.{Bool, true, false, cond}
+use mathlib.Core.Bool.{true, false}
 use mathlib.Core.List.{List, [], _++_, append-nil, append-assoc}
 use native.Mathlib.Nat.{add-zero}
 use native.Mathlib.Omega.{arith}
-use Prim.Native.Nat.{ℕ, suc, _+_, _-_, _≤_, _<_}
+use Prim.Native.Nat.{ℕ, _+_, _-_, _≤_}
 use lib.Dec.{eqb}
 use lib.ListN.{length, take, drop, length-append, length-take, length-drop}
 use borrow.Author.Tests.{eqb-true, eq-eqb}
@@ -22,6 +22,7 @@ use Rattle.terms.specs.Values.ValueService.{bets-of}
 use Rattle.stepper.specs.Rules.Machine.{Machine}
 use Rattle.stepper.specs.Run.Run.{Stop, spent, met, full, by, RunEnd, run, stop-number}
 use Rattle.stepper.specs.Run.RunLoop.{met-case, RanHere}
+use Rattle.stepper.specs.Run.RunLoopLaws.{tells-met}
 use Rattle.stepper.specs.Run.RunLaws.{run-within, run-met-steps, run-reached}
 use Rattle.stepper.specs.Services.Desk.{layers}
 use Rattle.stepper.specs.Services.Services.{machine}
@@ -31,7 +32,7 @@ use Rattle.answers.specs.Form.Answers.{all-of, Written, no-more, an-answ
 use Rattle.answers.specs.Form.FrontLaws.{into-more}
 use Rattle.answers.specs.Form.NextExit.{to-next-exit}
 use Rattle.answers.specs.Form.AnswersLaws.{steps-before, at-stop, answers-of-run}
-use Rattle.answers.specs.Writing.Listing.{stopped-listing, answered-listing, behind, ListStands, Listed, Turned, turns-left}
+use Rattle.answers.specs.Writing.Listing.{stopped-listing, answered-listing, behind, ListStands, Listed, Turned}
 use Rattle.answers.specs.declared.service.Listing.{Listing}
 
 -- nothing in front
@@ -121,13 +122,7 @@ module _ {program : List ℕ} {ds : List Definition} {q : Goal} {variables : Lis
 
     module _ (m : met-case (r .stop) ≡ true) where
       is-met : ahead .why ≡ met
-      is-met = go (ahead .why) refl
-        where
-          go : (s : Stop) → ahead .why ≡ s → ahead .why ≡ met
-          go spent e = never (sym (rw (ran .tells .stop-is, e) at m))
-          go met e = e
-          go full e = never (sym (rw (ran .tells .stop-is, e) at m))
-          go (by k) e = never (sym (rw (ran .tells .stop-is, e) at m))
+      is-met = tells-met (ran .tells) m
 
       -- the answer at the exit, for the room that is left
       abbrev pub here-answer : Answer (List ℕ)
@@ -226,12 +221,3 @@ module _ {program : List ℕ} {ds : List Definition} {q : Goal} {variables : Lis
 
         pub turned : {p : Listing} → p ≡ answered-listing last r receipt → Turned program ds q variables steps before last p here′ after
         turned e = rw e answered
-
--- an answer later fewer turns are left
-pub turned-less : {program : List ℕ} {ds : List Definition} {q : Goal} {variables : List ℕ} {steps : ℕ} {before : List ℕ} {last p : Listing} {here out : List ℕ}
-    → last .going ≡ true → Turned program ds q variables steps before last p here out → turns-left steps p < turns-left steps last
-turned-less {steps = steps} {last = last} {p} h t = rw h (go (p .going) refl)
-  where
-    go : (b : Bool) → p .going ≡ b → cond b (suc (steps - p .taken)) 0 < suc (steps - last .taken)
-    go true e = omega (arith, t .later e, t .state .0 e .within)
-    go false e = omega arith

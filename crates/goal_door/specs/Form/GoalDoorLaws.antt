@@ -1,12 +1,10 @@
--- Laws of the way back: what it does at an event, that it goes along every run back to calls with as many ancestors, and what is so of its end: as many
--- steps back lead there, no event before it is the door, and it says why it ends.
+-- Laws of the way back: which event is a door, what the way does at an event, and that it goes along every run back to calls with as many ancestors.
 use mathlib.Core.Path.{_≡_, refl, sym, _∙_, ap}
 use mathlib.Core.Bool.{Bool, true, false}
-use mathlib.Core.List.{List, append-assoc}
+use mathlib.Core.List.{List}
 use mathlib.Core.Logic.{ite}
 use mathlib.Core.Option.{none, some}
 use Prim.Native.Nat.{ℕ, zero, suc, _-_}
-use native.Mathlib.Nat.{zero-add, suc-add, add-assoc}
 use native.Mathlib.Omega.{arith}
 use lib.ListN.{length}
 use borrow.Author.Tests.{eq-eqb}
@@ -19,13 +17,13 @@ use Rattle.stepper.specs.Rules.Machine.{Machine, refused, gives}
 use Rattle.stepper.specs.Rules.Rules.{step, step-back}
 use Rattle.stepper.specs.Walks.Crossing.{ancestors-of}
 use Rattle.stepper.specs.Walks.Walk.{back}
-use Rattle.stepper.specs.Run.Run.{mark, meets, Order, is-full, less-room, Stop, spent, met, by, RunEnd, ended, past, run}
-use Rattle.stepper.specs.Run.RunLaws.{then, Course, no-count, no-room, no-step, last-step, one-step, course}
+use Rattle.stepper.specs.Run.Run.{mark, meets, Order, is-full, less-room, spent, met, by, RunEnd, ended, past, run}
+use Rattle.stepper.specs.Run.RunLaws.{then, then-ended, past-then, Course, no-count, no-room, no-step, last-step, one-step, course}
 use Rattle.goal_door.specs.Form.GoalDoor.{call-of, is-door, from-here, way-back}
 use Rattle.goal_door.specs.Form.NextCall.{call-aim, to-next-call}
 
 module _ (e : Event) where
-  -- the door is a call of the same goal with the same ancestors,
+  -- a door is a call of the same goal with the same ancestors,
   pub door-is : (d : Event) → is-door e d ≡ true → d ≡ call-of e (bets-of d)
   unfolding is-door
   door-is d = go (event? d (call-of e (bets-of d)))
@@ -58,17 +56,8 @@ module _ (e : Event) where
       go false k = k
       go true k = never (sym (aimed e (bets-of d)) ∙ ap (λ d. meets (some (call-aim (length (ancestors-of e)))) (mark d)) (sym (door-is d k)) ∙ h)
 
--- runs one behind the other
-pub then-then : (a b c : RunEnd) → then a (then b c) ≡ then (then a b) c
-unfolding then
-then-then a b c = rw (add-assoc, append-assoc) refl
-
-pub then-ended : (d : Event) (s : Stop) (w : RunEnd) → w ≡ then (ended d s) w
-unfolding then
-then-ended d s w = rw zero-add refl
-
 module _ (M : Machine) (e : Event) (d : Event) where
-  -- At the door the way ends;
+  -- At a door the way ends;
   pub way-ends : (n : ℕ) → is-door e d ≡ true → way-back M e n d ≡ ended d met
   unfolding way-back from-here
   way-ends zero h = rw h
@@ -91,11 +80,6 @@ module _ (M : Machine) (e : Event) (d : Event) where
     unfolding way-back from-here through
     way-on n c k = rw (h, k)
 
--- one step in front
-past-then : (c : Event) (a b : RunEnd) → past (mark c) (then a b) ≡ then (past (mark c) a) b
-unfolding past then
-past-then c a b = rw suc-add refl
-
 module _ (M : Machine) (e : Event) where
   abbrev n-ancestors : ℕ
   n-ancestors = length (ancestors-of e)
@@ -109,11 +93,11 @@ module _ (M : Machine) (e : Event) where
   follows (no-step {n = n} {e = d} q f k) i a z h = let less : suc n - 0 ≡ suc n = omega arith in rw less (then-ended d (by q) (way-back M e (suc n) d))
   follows (last-step {n = n} {e = d} c f k m) i a z h =
       let less : suc n - 1 ≡ n = omega arith in
-      way-on M e d h n c (rw i at k) ∙ rw less (ap (past (mark c)) (then-ended c met (way-back M e n c)) ∙ past-then c (ended c met) (way-back M e n c))
+      way-on M e d h n c (rw i at k) ∙ rw less (ap (past (mark c)) (then-ended c met (way-back M e n c)) ∙ past-then (mark c) (ended c met) (way-back M e n c))
   follows (one-step {n = n} {e = d} {r = r} c f k m y) i a z h =
       let less : suc n - suc (r .taken) ≡ n - r .taken = omega arith in
       way-on M e d h n c (rw i at k)
-      ∙ rw less (ap (past (mark c)) (follows y i a (rw z refl) (unmet-door e c (rw a at m))) ∙ past-then c r (way-back M e (n - r .taken) (r .event)))
+      ∙ rw less (ap (past (mark c)) (follows y i a (rw z refl) (unmet-door e c (rw a at m))) ∙ past-then (mark c) r (way-back M e (n - r .taken) (r .event)))
 
   -- and where that comes to no such call, it stands at no door.
   passes : {o : Order} {n : ℕ} {d : Event} {r : RunEnd} → Course M o n d r → o .aim ≡ some (call-aim n-ancestors) → is-door e d ≡ false → (r .why ≡ met → ⊥) → is-door e (r .event) ≡ false

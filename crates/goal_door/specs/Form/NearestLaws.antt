@@ -1,29 +1,19 @@
--- What is so of the way's end, from any event: as many steps back lead there, and as many forward lead back again; no event before it is the door; and it is
--- the door, or a question refuses the next step back, or the limit is spent.
+-- What is so of the way's end, from any event: as many steps back lead there, no more than the limit, and as many forward lead back again; none of the
+-- events passed on the way is a door; and the last one is a door, or a question refuses the next step back, or the limit is spent.
 use mathlib.Core.Path.{_≡_, refl, _∙_, ap}
 use mathlib.Core.Bool.{Bool, true, false}
 use mathlib.Core.Logic.{_⊎_, inl, inr}
-use Prim.Native.Nat.{ℕ, zero, suc, _<_}
+use Prim.Native.Nat.{ℕ, zero, suc, _<_, _≤_}
 use native.Mathlib.Omega.{arith}
 use Rattle.records.specs.Format.Syntax.{Event}
 use Rattle.records.specs.Gate.Question.{Question, allowed}
 use Rattle.stepper.specs.Rules.Machine.{Machine, StepOutcome, refused, gives}
 use Rattle.stepper.specs.Rules.Rules.{step, step-back}
 use Rattle.stepper.specs.Walks.Walk.{forward, back}
-use Rattle.stepper.specs.Run.Run.{mark, meets, plain, is-full, less-room, Stop, spent, met, full, by, RunEnd, past, on-answer, run}
-use Rattle.stepper.specs.Run.RunLaws.{run-undone}
+use Rattle.stepper.specs.Run.Run.{mark, plain, Stop, spent, met, full, by, RunEnd, past, run}
+use Rattle.stepper.specs.Run.RunLaws.{run-none, run-first, run-undone}
 use Rattle.goal_door.specs.Form.GoalDoor.{is-door, way-back, to-door}
 use Rattle.goal_door.specs.Form.GoalDoorLaws.{way-ends, way-refused, way-spent, way-on}
-
-module _ (M : Machine) where
-  -- a run back, by its first step
-  back-none : (d : Event) → run M (plain back) 0 d .event ≡ d
-  unfolding run
-  back-none d = refl
-
-  back-one : (k : ℕ) (d c : Event) → step-back M d ≡ gives c → run M (plain back) (suc k) d ≡ past (mark c) (run M (plain back) k c)
-  unfolding run is-full on-answer meets less-room step
-  back-one k d c h = rw h
 
 module _ (M : Machine) (e : Event) where
   -- why it ends
@@ -36,6 +26,7 @@ module _ (M : Machine) (e : Event) where
       × ((step-back M (r .event) ≡ refused q) ⊎ ((q ≡ allowed) × (r .taken ≡ n) × ((c : Event) × (step-back M (r .event) ≡ gives c))))
 
   pub record WayTold (n : ℕ) (d : Event) (r : RunEnd) : Type 0 where
+    pub within : r .taken ≤ n
     pub steps : run M (plain back) (r .taken) d ≡ record { event = r .event; taken = r .taken; why = spent; log = r .log }
     pub nearest : (j : ℕ) → j < r .taken → is-door e (run M (plain back) j d .event) ≡ false
     pub end : EndTold n r (r .why)
@@ -51,28 +42,29 @@ module _ (M : Machine) (e : Event) where
   -- where no step is made
   told-door : (n : ℕ) (d : Event) → is-door e d ≡ true → WayTold n d (way-back M e n d)
   unfolding run
-  told-door n d h = rw (way-ends M e d n h) (record { steps = refl; nearest = λ j l. absurd (omega arith); end = h })
+  told-door n d h = rw (way-ends M e d n h) (record { within = omega arith; steps = refl; nearest = λ j l. absurd (omega arith); end = h })
 
   told-refused : (n : ℕ) (d : Event) (q : Question) → is-door e d ≡ false → step-back M d ≡ refused q → WayTold n d (way-back M e n d)
   unfolding run
-  told-refused n d q h k = rw (way-refused M e d h n q k) (record { steps = refl; nearest = λ j l. absurd (omega arith); end = (h, inl k) })
+  told-refused n d q h k = rw (way-refused M e d h n q k) (record { within = omega arith; steps = refl; nearest = λ j l. absurd (omega arith); end = (h, inl k) })
 
   told-spent : (d c : Event) → is-door e d ≡ false → step-back M d ≡ gives c → WayTold zero d (way-back M e zero d)
   unfolding run
-  told-spent d c h k = rw (way-spent M e d h c k) (record { steps = refl; nearest = λ j l. absurd (omega arith); end = (h, inr (refl, refl, (c, k))) })
+  told-spent d c h k = rw (way-spent M e d h c k) (record { within = omega arith; steps = refl; nearest = λ j l. absurd (omega arith); end = (h, inr (refl, refl, (c, k))) })
 
   -- and where one is
   told-on : (n : ℕ) (d c : Event) → is-door e d ≡ false → step-back M d ≡ gives c → WayTold n c (way-back M e n c) → WayTold (suc n) d (way-back M e (suc n) d)
-  unfolding past
+  unfolding past step
   told-on n d c h k t = rw (way-on M e d h n c k) (record {
-    steps = back-one M (way-back M e n c .taken) d c k ∙ ap (past (mark c)) (t .steps);
+    within = omega (arith, t .within);
+    steps = run-first M back (way-back M e n c .taken) d c k ∙ ap (past (mark c)) (t .steps);
     nearest = before;
     end = one-later n c (way-back M e n c) (way-back M e n c .why) (t .end);
   })
     where
       before : (j : ℕ) → j < suc (way-back M e n c .taken) → is-door e (run M (plain back) j d .event) ≡ false
-      before zero l = ap (is-door e) (back-none M d) ∙ h
-      before (suc j) l = ap (λ r. is-door e (r .event)) (back-one M j d c k) ∙ t .nearest j (omega arith)
+      before zero l = ap (λ r. is-door e (r .event)) (run-none M (plain back) d) ∙ h
+      before (suc j) l = ap (λ r. is-door e (r .event)) (run-first M back j d c k) ∙ t .nearest j (omega arith)
 
   pub way-told : (n : ℕ) (d : Event) → WayTold n d (way-back M e n d)
   way-told zero d = go (is-door e d) refl (step-back M d) refl

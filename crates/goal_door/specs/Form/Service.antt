@@ -3,19 +3,15 @@
 use mathlib.Core.List.{List}
 use Prim.Native.Nat.{ℕ}
 use lib.ListN.{length}
-use Rattle.records.specs.Gate.Reply.{Answer, through}
-use Rattle.records.specs.Gate.Door.{gate}
-use Rattle.stepper.specs.Rules.Machine.{refused, gives}
+use Rattle.records.specs.Gate.Reply.{Answer}
 use Rattle.stepper.specs.Services.Layers.{Layers}
-use Rattle.stepper.specs.Services.Services.{machine}
 use Rattle.stepper.specs.Run.Run.{RunEnd}
-use Rattle.stepper.specs.Run.RunService.{RunReply, run-reply}
+use Rattle.stepper.specs.Run.RunService.{RunReply, run-reply, gated}
 use Rattle.goal_door.specs.Form.GoalDoor.{way-back, to-door}
 
 unfoldable pub goal-door-answer : Layers → ℕ → (program s : List ℕ) → (room : ℕ) → Answer RunEnd
-unfolding through gate way-back
-goal-door-answer L n program s room =
-    through refused (gate (L .read-program program) (L .read-event s) room) (λ t. gives (to-door (machine L (t .program)) n (t .event)))
+unfolding gated way-back
+goal-door-answer L n program s room = gated L (λ M. to-door M n) program s room
 
 -- the service: at most n steps back
 unfoldable pub goal-door-record : Layers → ℕ → (program s out : List ℕ) → RunReply

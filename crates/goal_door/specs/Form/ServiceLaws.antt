@@ -10,18 +10,16 @@ use Rattle.records.specs.Format.Encode.{event-record}
 use Rattle.records.specs.Format.HeadLaws.{Bytes}
 use Rattle.records.specs.Format.Never.{never}
 use Rattle.records.specs.Format.Syntax.{Event}
-use Rattle.records.specs.Gate.DoorLaws.{gate-both}
-use Rattle.records.specs.Gate.Gate.{tree, front-record, read-program, read-event}
-use Rattle.records.specs.Gate.GateLaws.{tree-injective}
-use Rattle.records.specs.Gate.Question.{possible, question-number}
+use Rattle.records.specs.Gate.Gate.{tree, front-record, read-event}
+use Rattle.records.specs.Gate.Question.{Question, possible, allowed, question-number}
 use Rattle.records.specs.Gate.Reply.{through, reply-with}
 use Rattle.records.specs.Gate.ReplyLaws.{number-positive, number-injective}
 use Rattle.terms.specs.Values.ValueService.{bets-of}
-use Rattle.stepper.specs.Rules.Machine.{Machine, gives}
+use Rattle.stepper.specs.Rules.Machine.{Machine, refused, gives}
 use Rattle.stepper.specs.Rules.Rules.{step, step-back, Lent}
 use Rattle.stepper.specs.Run.Run.{plain, Stop, spent, met, full, by, RunEnd, run, stop-number}
 use Rattle.stepper.specs.Run.RunService.{RunReply, run-reply, run-record}
-use Rattle.stepper.specs.Run.RunServiceLaws.{run-recordable, run-of-tree}
+use Rattle.stepper.specs.Run.RunServiceLaws.{run-recordable, gated-of-tree, run-of-tree}
 use Rattle.stepper.specs.Services.Desk.{layers}
 use Rattle.stepper.specs.Services.DeskLaws.{lawful}
 use Rattle.stepper.specs.Services.ServiceLaws.{Recordable, limit-fits, front-event, read-recordable, rules-lawful, start-record, step-of-record}
@@ -34,7 +32,7 @@ use Rattle.goal_door.specs.Form.GoalDoor.{is-door, to-door}
 use Rattle.goal_door.specs.Form.ReachedLaws.{reached-door}
 use Rattle.goal_door.specs.Form.Told.{DoorOf, EndsSo, at-door, no-step, no-more, DoorBack}
 use Rattle.goal_door.specs.Form.GoalDoorLaws.{door-is, is-a-door}
-use Rattle.goal_door.specs.Form.NeverSixLaws.{record-not-six, never-six}
+use Rattle.goal_door.specs.Form.NeverSixLaws.{record-is-ten, not-allowed, never-six}
 use Rattle.goal_door.specs.Form.NearestLaws.{EndTold, way-told, forward-again}
 
 -- what is the door, as the definition tells it
@@ -44,8 +42,8 @@ door-here e (s, w) = ap (is-door e) w ∙ is-a-door e s
 module _ (c : Program layers) (s : List ℕ) (e : Event) (h : read-event s ≡ tree e) (n : ℕ) where
   -- the way's reply to an event record that passes questions 11 to 14, with an output that passes 5
   pub door-of-tree : (out : List ℕ) → 32768 ≤ length out → goal-door-record layers n (c .program) s out ≡ run-reply out (gives (to-door (rules-of c) n e))
-  unfolding goal-door-record goal-door-answer through
-  door-of-tree out room = rw (gate-both (read-program (c .program)) (read-event s) (c .reads) h room)
+  unfolding goal-door-record goal-door-answer
+  door-of-tree out room = ap (run-reply out) (gated-of-tree layers lawful c (λ M. to-door M n) s e out h room)
 
 module _ (c : Program layers) (s : List ℕ) (b : Bytes s) (e : Event) (h : read-event s ≡ tree e) (n : ℕ) where
   abbrev M : Machine
@@ -114,11 +112,13 @@ module _ (c : Program layers) (s : List ℕ) (b : Bytes s) (e : Event) (h : read
         ap (λ x. step-record layers back (c .program) x out .number) written-record
         ∙ ap (λ a. reply out a .number) (step-of-record layers lawful c l (way .event) way-recordable ∙ steps-attempt M l (way .event) room)
 
-    -- No event before it is the door,
-    pub none-between : (j : ℕ) → j < told .taken → (d : Event) → read-event (front-record (run-record layers back j (c .program) s out .output)) ≡ tree d → DoorOf e d → ⊥
-    none-between j l d r w =
-        let same : d ≡ run M (plain back) j e .event = tree-injective (sym r ∙ between-reads j) in
-        never (sym (door-here e w) ∙ ap (is-door e) same ∙ way-told M e n e .nearest j (omega (arith, told-taken)))
+    -- The limit is kept,
+    pub told-within : told .taken ≤ n
+    told-within = omega (arith, told-taken, way-told M e n e .within)
+
+    -- none of the events passed on the way is a door,
+    pub none-between : (j : ℕ) → j < told .taken → (d : Event) × (read-event (front-record (run-record layers back j (c .program) s out .output)) ≡ tree d) × (DoorOf e d → ⊥)
+    none-between j l = (_, between-reads j, λ w. never (sym (door-here e w) ∙ way-told M e n e .nearest j (omega (arith, told-taken))))
 
     abbrev next : ℕ
     next = step-record layers back (c .program) (front-record (told .output)) out .number
@@ -128,13 +128,16 @@ module _ (c : Program layers) (s : List ℕ) (b : Bytes s) (e : Event) (h : read
     unfolding stop-number reply-with question-number
     number-told = go (way .why) refl (way-told M e n e .end)
       where
+        not-32 : (q : Question) → step-back M (way .event) ≡ refused q → question-number q ≡ 32 → ⊥
+        not-32 q k y = not-allowed M record-is-ten (way .event) (k ∙ ap refused (number-injective q allowed y))
+
         go : (w : Stop) → way .why ≡ w → EndTold M e n way w → EndsSo e (way .event) n (told .taken) (told .number) next
         go spent i t = absurd t
         go full i t = absurd t
         go met i t = at-door (bets-of (way .event), door-is e (way .event) t) (told-number ∙ ap stop-number i)
         go (by q) i (f, inl k) =
             let z : next ≡ question-number q = next-step ∙ ap (λ a. reply out a .number) k in
-            no-step (λ w. never (sym (door-here e w) ∙ f)) (λ y. number-positive q (sym z ∙ y)) (told-number ∙ ap stop-number i ∙ sym z)
+            no-step (λ w. never (sym (door-here e w) ∙ f)) (λ y. number-positive q (sym z ∙ y)) (λ y. not-32 q k (sym z ∙ y)) (told-number ∙ ap stop-number i ∙ sym z)
         go (by q) i (f, inr (x, y, (d, k))) =
             no-more (λ w. never (sym (door-here e w) ∙ f)) (next-step ∙ ap (λ a. reply out a .number) k) (told-taken ∙ y) (told-number ∙ ap stop-number (i ∙ ap by x))
 
@@ -149,7 +152,7 @@ module _ (c : Program layers) (s : List ℕ) (b : Bytes s) (e : Event) (h : read
         go met i t = let y = sym (told-number ∙ ap stop-number i) ∙ z in omega (arith, y)
         go (by q) i t =
             let six : q ≡ possible = number-injective q possible (sym (told-number ∙ ap stop-number i) ∙ z) in
-            never-six M (rules-lawful layers lawful c .limits) record-not-six e n (way-recordable .1) (i ∙ ap by six)
+            never-six M (rules-lawful layers lawful c .limits) record-is-ten e n (way-recordable .1) (i ∙ ap by six)
 
 -- From a reached event there is a door, so many steps back.
 module _ (c : Program layers) (q : Start layers) (ms : List Move) (e : Event) (h : read-event (served c q ms .event) ≡ tree e) where

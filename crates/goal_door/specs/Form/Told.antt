@@ -9,16 +9,16 @@ use Rattle.stepper.specs.Run.RunService.{RunReply}
 use Rattle.stepper.specs.Walks.Walk.{Tally}
 use Rattle.goal_door.specs.Form.GoalDoor.{call-of}
 
--- the event d is the door of e
+-- the event d is a door of e: it calls the same goal with the same ancestors
 abbrev pub DoorOf : (e d : Event) → Type 0
 DoorOf e d = (s : List Bet) × (d ≡ call-of e s)
 
 -- why the way from e, of at most n steps, ends with this number at d after so many; `next` is the number of a step back from d
 pub data EndsSo (e d : Event) (n taken number next : ℕ) : Type 0 where
-  -- d is the door,
+  -- d is a door,
   at-door : DoorOf e d → number ≡ 0 → EndsSo e d n taken number next
-  -- or a question refuses the next step back, and its number is told,
-  no-step : (DoorOf e d → ⊥) → (next ≡ 0 → ⊥) → number ≡ next → EndsSo e d n taken number next
+  -- or a question refuses the next step back, and its number is told, which is not 32,
+  no-step : (DoorOf e d → ⊥) → (next ≡ 0 → ⊥) → (next ≡ 32 → ⊥) → number ≡ next → EndsSo e d n taken number next
   -- or that step would be made, and the limit is spent
   no-more : (DoorOf e d → ⊥) → next ≡ 0 → taken ≡ n → number ≡ 32 → EndsSo e d n taken number next
 

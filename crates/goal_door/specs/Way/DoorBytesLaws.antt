@@ -4,8 +4,8 @@ use mathlib.Core.Bool.{Bool, true, false}
 use mathlib.Core.List.{List, _++_}
 use Prim.Native.Nat.{ℕ, _+_}
 use native.Mathlib.Omega.{arith}
-use lib.ListN.{getD}
-use Rattle.records.specs.Ends.Places.{part-ends, EndsOf, EventParts}
+use lib.ListN.{length}
+use Rattle.records.specs.Ends.Places.{EventParts, goal-end, event-places}
 use Rattle.records.specs.Ends.PlacesLaws.{event-parts}
 use Rattle.records.specs.Ends.Range.{cut, Inside}
 use Rattle.records.specs.Ends.Same.{same-bytes}
@@ -20,11 +20,10 @@ use Rattle.records.specs.Format.ItemLaws.{goal-exact, counted-exact}
 use Rattle.records.specs.Format.Never.{never}
 use Rattle.records.specs.Format.Syntax.{Goal, Ancestor, Bet, Port, call, exit, fail, redo, Event, event}
 use Rattle.records.specs.Gate.Gate.{Reading, Accepted, refused, tree, read-event}
-use Rattle.records.specs.declared.places.PartEnds.{PartEnds}
-use Rattle.stepper.specs.Plans.ViewLaws.{first-byte}
+use Rattle.records.specs.declared.places.Places.{Places}
 use Rattle.goal_door.specs.Form.GoalDoor.{is-door}
 use Rattle.goal_door.specs.Form.GoalDoorLaws.{door-is, is-a-door}
-use Rattle.goal_door.specs.Way.Going.{goal-and-ancestors}
+use Rattle.goal_door.specs.Way.Going.{goal-and-ancestors, PlacesOf}
 
 -- the bytes of a goal and ancestors
 abbrev pub called-bytes : Goal → List Ancestor → List ℕ
@@ -37,29 +36,29 @@ called-injective g h u v f k e =
     let (i, rest) = unique-front goal-exact g h (f .0) (k .0) _ _ e in
     (i, same-tree (counted-exact ancestor-exact) u v (f .1) (k .1) rest)
 
-module _ (s : List ℕ) (known : Known s) (p : Port) (g : Goal) (u : List Ancestor) (b : List Bet) (h : read-event s ≡ tree (event p g u b)) where
-  parts : EventParts s p g u b
-  parts = event-parts s known p g u b h
+module _ (s : List ℕ) (known : Known s) (q : Port) (g : Goal) (u : List Ancestor) (b : List Bet) (h : read-event s ≡ tree (event q g u b)) where
+  parts : EventParts s q g u b
+  parts = event-parts s known q g u b h
 
   pub called-formed : GoalFormed g × Counted AncestorFormed u
   called-formed = (parts .formed .0, parts .formed .1)
 
-  -- its port stands in a record,
-  pub port-known : getD s 3 0 ≡ port-byte p
-  port-known = first-byte (parts .port-stands)
+  -- they stand in a record
+  called-stand : Stands s 4 (called-bytes g u) (goal-end 4 g + length (counted ancestor-bytes u))
+  called-stand = stands-join (goal-bytes g) (counted ancestor-bytes u) (parts .goal-stands) (parts .ancestors-stand)
 
-  module _ {ends : PartEnds} (k : EndsOf s ends) where
-    -- and then they
-    called-stand : Stands s 4 (called-bytes g u) (ends .ancestors)
-    unfolding part-ends
-    called-stand = rw (k (event p g u b) h) (stands-join (goal-bytes g) (counted ancestor-bytes u) (parts .goal-stands) (parts .ancestors-stand))
+  module _ {p : Places} (k : PlacesOf s p) where
+    pub called-cut : cut s (goal-and-ancestors p) ≡ called-bytes g u
+    unfolding event-places
+    called-cut = rw (k .1 (event q g u b) h) (stands-cut called-stand)
 
-    pub called-cut : cut s (goal-and-ancestors ends) ≡ called-bytes g u
-    called-cut = stands-cut called-stand
+    pub called-inside : Inside (goal-and-ancestors p) s
+    unfolding event-places
+    called-inside = rw (k .1 (event q g u b) h) (stands-inside called-stand (omega (arith, parts .bets-stand .end)))
 
-    pub called-inside : Inside (goal-and-ancestors ends) s
-    unfolding part-ends
-    called-inside = stands-inside called-stand (let e = ap (λ x. x .ancestors) (k (event p g u b) h) in omega (arith, e, parts .bets-stand .end))
+    pub port-known : p .port ≡ port-byte q
+    unfolding event-places
+    port-known = rw (k .1 (event q g u b) h) refl
 
 module _ (p q : Port) (g h : Goal) (u v : List Ancestor) (s t : List Bet) where
   abbrev sought : Event
@@ -103,21 +102,21 @@ module _ (p q : Port) (g h : Goal) (u v : List Ancestor) (s t : List Bet) where
           never (sym (same-refl (called-bytes h v)) ∙ ap (λ l. same-bytes l (called-bytes h v)) (sym (ap₂ called-bytes i j)) ∙ x)
 
 -- for code that compares: the range lies in an accepted record,
-pub range-inside : (s : List ℕ) → Known s → Accepted (read-event s) → {ends : PartEnds} → EndsOf s ends → Inside (goal-and-ancestors ends) s
-range-inside s known a {ends} k = go (read-event s) refl a
+pub range-inside : (s : List ℕ) → Known s → {p : Places} → PlacesOf s p → Inside (goal-and-ancestors p) s
+range-inside s known {p} k = go (read-event s) refl (k .0)
   where
-    go : (r : Reading Event) → read-event s ≡ r → Accepted r → Inside (goal-and-ancestors ends) s
+    go : (r : Reading Event) → read-event s ≡ r → Accepted r → Inside (goal-and-ancestors p) s
     go (refused q) h z = absurd z
-    go (tree (event p g u b)) h z = called-inside s known p g u b h k
+    go (tree (event q g u b)) h z = called-inside s known q g u b h k
 
-module _ (here : List ℕ) (known : Known here) where
+module _ (here : List ℕ) (known : Known here) {p : Places} (l : PlacesOf here p) where
   -- an event that is not a call is no door,
-  pub other-port : (e d : Event) → read-event here ≡ tree d → (getD here 3 0 ≡ 1 → ⊥) → false ≡ is-door e d
-  other-port (event p g u s) (event q h v t) r n = sym (no-call-no-door p q g h u v s t (λ z. n (port-known here known q h v t r ∙ z)))
+  pub other-port : (e d : Event) → read-event here ≡ tree d → (p .port ≡ 1 → ⊥) → false ≡ is-door e d
+  other-port (event q g u s) (event r h v t) y n = sym (no-call-no-door q r g h u v s t (λ z. n (port-known here known r h v t y l ∙ z)))
 
   -- and a call is one where the bytes are the same
-  pub same-called : (s : List ℕ) → Known s → {ends edges : PartEnds} (k : EndsOf s ends) (l : EndsOf here edges) (e d : Event) → read-event s ≡ tree e → read-event here ≡ tree d
-      → getD here 3 0 ≡ 1 → {r : Bool} → r ≡ same-bytes (cut s (goal-and-ancestors ends)) (cut here (goal-and-ancestors edges)) → r ≡ is-door e d
-  same-called s known-s k l (event p g u b) (event q h v t) x y c f =
-      f ∙ ap₂ same-bytes (called-cut s known-s p g u b x k) (called-cut here known q h v t y l)
-      ∙ call-compared p q g h u v b t (sym (port-known here known q h v t y) ∙ c) (called-formed s known-s p g u b x) (called-formed here known q h v t y)
+  pub same-called : (s : List ℕ) → Known s → {o : Places} (k : PlacesOf s o) (e d : Event) → read-event s ≡ tree e → read-event here ≡ tree d
+      → p .port ≡ 1 → {r : Bool} → r ≡ same-bytes (cut s (goal-and-ancestors o)) (cut here (goal-and-ancestors p)) → r ≡ is-door e d
+  same-called s known-s k (event q g u b) (event r h v t) x y c f =
+      f ∙ ap₂ same-bytes (called-cut s known-s q g u b x k) (called-cut here known r h v t y l)
+      ∙ call-compared q r g h u v b t (sym (port-known here known r h v t y l) ∙ c) (called-formed s known-s q g u b x) (called-formed here known r h v t y)

@@ -1,14 +1,16 @@
 -- Laws of the way in code: a run to the next call takes the way there, where it ends at the door and goes on at any other call; where the run comes to no
 -- call, the way ends with the number of the question that says no.
+use Rattle.records.specs.Ends.Places.{event-places}
+use Rattle.records.specs.declared.places.Places.{Places}
 use mathlib.Core.Path.{_≡_, refl, sym, _∙_, ap}
-use mathlib.Core.Bool.{Bool, true, false, cond, not}
+use mathlib.Core.Bool.{Bool, true, false, not}
 use mathlib.Core.List.{List}
 use mathlib.Core.Option.{Option·none-ne-some}
 use native.Mathlib.Omega.{arith}
-use Prim.Native.Nat.{ℕ, suc, _+_, _-_, _≤_, _<_}
+use Prim.Native.Nat.{ℕ, _+_, _-_, _≤_}
 use lib.ListN.{length, take}
 use Rattle.records.specs.Format.Never.{never}
-use Rattle.records.specs.Format.Syntax.{Event, Definition}
+use Rattle.records.specs.Format.Syntax.{Event, Definition, event}
 use Rattle.records.specs.Gate.Door.{BothPassed}
 use Rattle.records.specs.Gate.Question.{question-number, allowed}
 use Rattle.records.specs.Gate.Reply.{reply-with}
@@ -16,17 +18,18 @@ use Rattle.records.specs.Gate.ReplyLaws.{number-positive}
 use Rattle.stepper.specs.Rules.Machine.{Machine, StepOutcome, refused, gives}
 use Rattle.stepper.specs.Rules.Rules.{step, step-back}
 use Rattle.stepper.specs.Run.Run.{Stop, spent, met, full, by, RunEnd, ended, run, stop-number}
-use Rattle.stepper.specs.Run.RunLaws.{then, StopTold, run-within, run-told, run-met-steps}
+use Rattle.stepper.specs.Run.RunLaws.{then, then-then, StopTold, run-within, run-told, run-met-steps}
 use Rattle.stepper.specs.Run.RunLoop.{met-case, RanHere}
+use Rattle.stepper.specs.Run.RunLoopLaws.{tells-met, tells-unmet}
 use Rattle.stepper.specs.Services.Desk.{layers}
 use Rattle.stepper.specs.Services.Services.{machine, reply}
 use Rattle.stepper.specs.Walks.Crossing.{ancestors-of}
 use Rattle.stepper.specs.declared.run.RunAnswer.{RunAnswer}
 use Rattle.goal_door.specs.Form.GoalDoor.{is-door, way-back, to-door}
-use Rattle.goal_door.specs.Form.GoalDoorLaws.{then-then, way-ends, way-refused, way-spent, way-follows, run-passes}
-use Rattle.goal_door.specs.Form.NextCall.{to-next-call}
-use Rattle.goal_door.specs.Way.Going.{next-number, way-at, WayStands, WayTurned, calls-left}
-use Rattle.goal_door.specs.declared.way.WayBack.{WayBack}
+use Rattle.goal_door.specs.Form.GoalDoorLaws.{way-ends, way-refused, way-spent, way-follows, run-passes}
+use Rattle.goal_door.specs.Form.NextCall.{to-next-call, call-order}
+use Rattle.goal_door.specs.Way.Going.{next-number, way-at, WayStands, WayTurned}
+use Rattle.goal_door.specs.declared.way.Standing.{Standing}
 
 -- the number of a step that is made, and of one that is refused, where the limit is spent
 pub next-made : {n : ℕ} (out : List ℕ) (a : StepOutcome) → n ≡ reply out a .number → n ≡ 0 → 32 ≡ next-number a
@@ -39,11 +42,16 @@ unfolding next-number reply-with
 next-refused out (refused q) e z = e
 next-refused out (gives c) e z = absurd (z e)
 
-module _ {program s : List ℕ} {ds : List Definition} {e : Event} {limit : ℕ} {last : WayBack} {here : List ℕ} (g : WayStands program s ds e limit last here) where
+-- the order for as many ancestors as the event has
+pub order-told : {p : Places} (e : Event) → p ≡ event-places e → call-order (p .ancestors .count) ≡ call-order (length (ancestors-of e))
+unfolding event-places
+order-told (event p g u s) h = rw h refl
+
+module _ {program s : List ℕ} {ds : List Definition} {e : Event} {limit : ℕ} {last : Standing} {here : List ℕ} (g : WayStands program s ds e limit last here) where
   abbrev M : Machine
   M = machine layers ds
 
-  -- the event where the way stands and the program pass the door
+  -- the event where the way stands and the program pass questions 1 to 4 and 11 to 14
   abbrev pub way-passed : BothPassed program (take (last .length) here)
   way-passed = record { definitions = ds; program-reads = g .program-reads; event = g .event; reads = g .reads }
 
@@ -64,12 +72,12 @@ module _ {program s : List ℕ} {ds : List Definition} {e : Event} {limit : ℕ}
     pub taken-small : last .taken + r .taken ≤ limit
     taken-small = omega (arith, ran .tells .taken-is, ahead-within, g .within)
 
-    -- the event reached and the program pass the door
+    -- so do the event reached and the program
     abbrev pub ahead-passed : BothPassed program (take (r .length) here′)
     ahead-passed = record { definitions = ds; program-reads = g .program-reads; event = ahead .event; reads = ran .reads }
 
     -- the way ends there for a reason
-    way-stops : {p : WayBack} {n : ℕ} (why : Stop) → way-back M e (left - ahead .taken) (ahead .event) ≡ ended (ahead .event) why → n ≡ stop-number why → p ≡ way-at last r n false
+    way-stops : {p : Standing} {n : ℕ} (why : Stop) → way-back M e (left - ahead .taken) (ahead .event) ≡ ended (ahead .event) why → n ≡ stop-number why → p ≡ way-at last r n false
         → WayTurned program s ds e limit last p here′
     unfolding then
     way-stops {p} {n} why w i q =
@@ -89,16 +97,10 @@ module _ {program s : List ℕ} {ds : List Definition} {e : Event} {limit : ℕ}
 
     module _ (m : met-case (r .stop) ≡ true) where
       is-met : ahead .why ≡ met
-      is-met = go (ahead .why) refl
-        where
-          go : (w : Stop) → ahead .why ≡ w → ahead .why ≡ met
-          go spent i = never (sym (rw (ran .tells .stop-is, i) at m))
-          go met i = i
-          go full i = never (sym (rw (ran .tells .stop-is, i) at m))
-          go (by q) i = never (sym (rw (ran .tells .stop-is, i) at m))
+      is-met = tells-met (ran .tells) m
 
       -- at a call the way ends if that is the door, and else it goes on
-      pub turned-met : {p : WayBack} {found : Bool} → found ≡ is-door e (ahead .event) → p ≡ way-at last r 0 (not found) → WayTurned program s ds e limit last p here′
+      pub turned-met : {p : Standing} {found : Bool} → found ≡ is-door e (ahead .event) → p ≡ way-at last r 0 (not found) → WayTurned program s ds e limit last p here′
       unfolding stop-number then
       turned-met {p} {found} f = go found f
         where
@@ -114,6 +116,7 @@ module _ {program s : List ℕ} {ds : List Definition} {e : Event} {limit : ℕ}
                     event = ahead .event;
                     reads = ran .reads;
                     inside = ran .inside;
+                    ends-are = ran .tells .ends-are;
                     within = taken-small;
                     passed = sym i;
                     behind = then (g .behind) ahead;
@@ -127,7 +130,7 @@ module _ {program s : List ℕ} {ds : List Definition} {e : Event} {limit : ℕ}
 
     module _ (m : met-case (r .stop) ≡ false) where
       not-met : ahead .why ≡ met → ⊥
-      not-met i = never (rw (ran .tells .stop-is, i) at m)
+      not-met = tells-unmet (ran .tells) m
 
       passes : is-door e (ahead .event) ≡ false
       passes = run-passes M e left (g .event) (g .passed) not-met
@@ -141,7 +144,7 @@ module _ {program s : List ℕ} {ds : List Definition} {e : Event} {limit : ℕ}
       run-says = run-told M (to-next-call (length (ancestors-of e))) left (g .event)
 
       -- where a step was refused, it ends with that number
-      pub turned-refused : {p : WayBack} → (r .number ≡ 0 → ⊥) → p ≡ way-at last r (r .number) false → WayTurned program s ds e limit last p here′
+      pub turned-refused : {p : Standing} → (r .number ≡ 0 → ⊥) → p ≡ way-at last r (r .number) false → WayTurned program s ds e limit last p here′
       unfolding stop-number step told
       turned-refused {p} z = go (ahead .why) refl run-says
         where
@@ -152,7 +155,7 @@ module _ {program s : List ℕ} {ds : List Definition} {e : Event} {limit : ℕ}
           go (by k) i t q = way-stops (by k) (way-refused M e (ahead .event) passes (left - ahead .taken) k t) (ran .tells .number-is ∙ ap stop-number i) q
 
       -- and where all steps are taken, with that of the next one, or with that of the limit
-      pub turned-spent : {p : WayBack} {n : ℕ} → r .number ≡ 0 → n ≡ next-number (step-back M (ahead .event)) → p ≡ way-at last r n false → WayTurned program s ds e limit last p here′
+      pub turned-spent : {p : Standing} {n : ℕ} → r .number ≡ 0 → n ≡ next-number (step-back M (ahead .event)) → p ≡ way-at last r n false → WayTurned program s ds e limit last p here′
       unfolding stop-number next-number told
       turned-spent {p} {n} z = go (ahead .why) refl run-says
         where
@@ -165,12 +168,3 @@ module _ {program s : List ℕ} {ds : List Definition} {e : Event} {limit : ℕ}
           go met i t = absurd (not-met i)
           go full i t = absurd (Option·none-ne-some _ t)
           go (by k) i t = absurd (number-positive k (sym (ap stop-number i) ∙ sym (ran .tells .number-is) ∙ z))
-
--- a turn later they are fewer
-pub calls-fewer : {program s : List ℕ} {ds : List Definition} {e : Event} {limit : ℕ} {last p : WayBack} {here : List ℕ} → last .going ≡ true → WayTurned program s ds e limit last p here
-    → calls-left limit p < calls-left limit last
-calls-fewer {limit = limit} {last} {p} {here} h t = rw h (go (p .going) refl)
-  where
-    go : (b : Bool) → p .going ≡ b → cond b (suc (limit - p .taken)) 0 < suc (limit - last .taken)
-    go true k = let w = t .state .0 k in omega (arith, w .within, t .later k)
-    go false k = omega arith

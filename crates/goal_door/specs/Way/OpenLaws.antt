@@ -1,4 +1,5 @@
 -- Laws of the way's start and end: it starts at the given event, which may be the door, and its end is what the service replies.
+use Rattle.stepper.specs.Run.RunLaws.{then-ended}
 use mathlib.Core.Path.{_≡_, refl, sym, _∙_, ap}
 use mathlib.Core.Bool.{Bool, true, false, not}
 use mathlib.Core.List.{List}
@@ -6,44 +7,36 @@ use native.Mathlib.Omega.{arith}
 use Prim.Native.Nat.{ℕ, _-_, _≤_}
 use lib.ListN.{length, take}
 use lib.Seq.{length-take-le}
-use Rattle.records.specs.Ends.Places.{event-places}
+use Rattle.records.specs.Ends.Places.{EndsOf}
 use Rattle.records.specs.Format.HeadLaws.{Known, bytes-all}
 use Rattle.records.specs.Format.Never.{never}
-use Rattle.records.specs.Format.Syntax.{Event, event}
+use Rattle.records.specs.Format.Syntax.{event}
 use Rattle.records.specs.Gate.Door.{BothPassed, gate}
-use Rattle.records.specs.Gate.DoorLaws.{gate-both}
-use Rattle.records.specs.Gate.Gate.{read-program, read-event}
-use Rattle.records.specs.Gate.Reply.{through, reply-with}
-use Rattle.records.specs.Gate.ReplyLaws.{number-refuses}
+use Rattle.records.specs.Gate.Gate.{read-event}
+use Rattle.records.specs.Gate.Reply.{reply-with}
 use Rattle.records.specs.Writing.Patched.{Put}
 use Rattle.records.specs.Writing.PatchedLaws.{put-length, put-front, front-put}
-use Rattle.records.specs.declared.places.Places.{Places}
+use Rattle.records.specs.declared.places.PartEnds.{PartEnds}
 use Rattle.stepper.specs.Rules.Machine.{Machine}
 use Rattle.stepper.specs.Run.Run.{spent, ended, stop-number}
-use Rattle.stepper.specs.Run.RunService.{run-reply, RunReplied}
+use Rattle.stepper.specs.Run.RunService.{RunReplied}
+use Rattle.stepper.specs.Run.RunServiceLaws.{gated-refused, gated-replied}
 use Rattle.stepper.specs.Services.Desk.{layers}
 use Rattle.stepper.specs.Services.DeskLaws.{lawful}
 use Rattle.stepper.specs.Services.Services.{machine}
 use Rattle.stepper.specs.Step.Stepped.{gate-number}
-use Rattle.stepper.specs.Walks.Crossing.{ancestors-of}
 use Rattle.goal_door.specs.Form.Service.{goal-door-answer, goal-door-record}
 use Rattle.goal_door.specs.Form.GoalDoor.{is-door, way-back, to-door}
-use Rattle.goal_door.specs.Form.GoalDoorLaws.{then-ended, way-ends}
-use Rattle.goal_door.specs.Form.NextCall.{call-order}
+use Rattle.goal_door.specs.Form.GoalDoorLaws.{way-ends}
 use Rattle.goal_door.specs.Way.Going.{WayEnded, WayState}
-use Rattle.goal_door.specs.declared.way.WayBack.{WayBack}
-
--- the order for as many ancestors as the event has
-pub order-told : {p : Places} (e : Event) → p ≡ event-places e → call-order (p .ancestors .count) ≡ call-order (length (ancestors-of e))
-unfolding event-places
-order-told (event p g u s) h = rw h refl
+use Rattle.goal_door.specs.declared.way.Standing.{Standing}
 
 module _ {program s here : List ℕ} (w : BothPassed program s) (limit : ℕ) where
   -- the start, with the event's record put at the front of the buffer
-  pub first-state : {zeros : List ℕ} {n : ℕ} {found : Bool} → Known s → Put zeros 0 s here n → length s ≤ length zeros → found ≡ is-door (w .event) (w .event)
-      → WayState program s (w .definitions) (w .event) limit (record { number = 0; taken = 0; length = n; going = not found }) here
+  pub first-state : {zeros : List ℕ} {n : ℕ} {ends : PartEnds} {found : Bool} → Known s → Put zeros 0 s here n → length s ≤ length zeros → EndsOf s ends → found ≡ is-door (w .event) (w .event)
+      → WayState program s (w .definitions) (w .event) limit (record { number = 0; taken = 0; length = n; ends = ends; going = not found }) here
   unfolding stop-number
-  first-state {zeros} {n} {found} known p room f = go found f
+  first-state {zeros} {n} {ends} {found} known p room k f = go found f
     where
       M : Machine
       M = machine layers (w .definitions)
@@ -55,12 +48,12 @@ module _ {program s here : List ℕ} (w : BothPassed program s) (limit : ℕ) wh
       front = front-put p room
 
       go : (b : Bool) → b ≡ is-door (w .event) (w .event)
-          → WayState program s (w .definitions) (w .event) limit (record { number = 0; taken = 0; length = n; going = not b }) here
-      go true k = (
+          → WayState program s (w .definitions) (w .event) limit (record { number = 0; taken = 0; length = n; ends = ends; going = not b }) here
+      go true i = (
         λ t. never (sym t),
-        λ t. rw (way-ends M (w .event) (w .event) limit (sym k)) (record { number-is = refl; taken-is = refl; front = front ∙ lawful .event-read s (bytes-all s known) (w .event) (w .reads) .0; inside = inside }),
+        λ t. rw (way-ends M (w .event) (w .event) limit (sym i)) (record { number-is = refl; taken-is = refl; front = front ∙ lawful .event-read s (bytes-all s known) (w .event) (w .reads) .0; inside = inside }),
       )
-      go false k =
+      go false i =
           let less : limit ≡ limit - 0 = omega arith in (
             λ t. record {
               program-reads = w .program-reads;
@@ -68,8 +61,9 @@ module _ {program s here : List ℕ} (w : BothPassed program s) (limit : ℕ) wh
               event = w .event;
               reads = ap read-event front ∙ w .reads;
               inside = inside;
+              ends-are = k (w .event) (w .reads);
               within = omega arith;
-              passed = sym k;
+              passed = sym i;
               behind = ended (w .event) spent;
               made = refl;
               rest = ap (λ i. way-back M (w .event) i (w .event)) less ∙ then-ended (w .event) spent (way-back M (w .event) (limit - 0) (w .event));
@@ -78,21 +72,15 @@ module _ {program s here : List ℕ} (w : BothPassed program s) (limit : ℕ) wh
           )
 
   -- and the end: its event's record, put into the output, is what the service replies
-  pub door-replied : {out out′ : List ℕ} {r : WayBack} {n : ℕ} → WayEnded (to-door (machine layers (w .definitions)) limit (w .event)) r here → length here ≡ 32768 → 32768 ≤ length out
+  pub door-replied : {out out′ : List ℕ} {r : Standing} {n : ℕ} → WayEnded (to-door (machine layers (w .definitions)) limit (w .event)) r here → length here ≡ 32768 → 32768 ≤ length out
       → Put out 0 (take (r .length) here) out′ n → RunReplied (goal-door-record layers limit program s out) (r .number) (r .taken) out′
-  unfolding goal-door-record run-reply goal-door-answer through reply-with
+  unfolding goal-door-record goal-door-answer reply-with
   door-replied {out} {out′} {r} end size room p =
       let short : length (take (r .length) here) ≤ length out = omega (arith, length-take-le (r .length) here (end .inside), end .inside) in
-      rw (gate-both (read-program program) (read-event s) (w .program-reads) (w .reads) room) (record {
-        number-is = end .number-is;
-        taken-is = end .taken-is;
-        output-is = rw (end .front) at (put-front p short);
-      })
+      gated-replied out (λ M. to-door M limit) w room (end .number-is) (end .taken-is) (rw (end .front) at (put-front p short))
 
 -- the gate says no
 pub door-unopened : (limit : ℕ) (program s out : List ℕ) {n : ℕ} → n ≡ gate-number program s (length out) → (n ≡ 0 → ⊥)
     → RunReplied (goal-door-record layers limit program s out) n 0 out
-unfolding goal-door-record run-reply goal-door-answer through reply-with
-door-unopened limit program s out e z =
-    let w = number-refuses (gate (read-program program) (read-event s) (length out)) e z in
-    rw (w .refuses) (record { number-is = w .number-is; taken-is = refl; output-is = refl })
+unfolding goal-door-record goal-door-answer
+door-unopened limit program s out e z = gated-refused (λ M. to-door M limit) program s out e z

@@ -1,4 +1,4 @@
--- The gate's questions with their numbers (SPECIFICATION 7.2 to 7.6). A refusal names its question, so it is never 0.
+-- The questions with their numbers (SPECIFICATION 7.2 to 7.7). A refusal names its question, so it is never 0.
 use mathlib.Core.HLevel.{Discrete}
 use Prim.Native.Nat.{ℕ, _+_}
 

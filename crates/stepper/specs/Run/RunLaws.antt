@@ -3,10 +3,10 @@
 -- events that are reached.
 use mathlib.Core.Path.{_≡_, refl, sym, _∙_, ap, subst}
 use mathlib.Core.Bool.{Bool, true, false, cond}
-use mathlib.Core.List.{List, [], _∷_, _++_}
+use mathlib.Core.List.{List, [], _∷_, _++_, append-assoc}
 use mathlib.Core.Option.{Option, none, some, Option·none-ne-some, Option·some-injective}
 use Prim.Native.Nat.{ℕ, zero, suc, _+_, _-_, _<_, _≤_}
-use native.Mathlib.Nat.{zero-add, add-zero, add-suc, suc-add}
+use native.Mathlib.Nat.{zero-add, add-zero, add-suc, suc-add, add-assoc}
 use native.Mathlib.Numerals.{add-one}
 use native.Mathlib.Omega.{arith}
 use lib.ListN.{length, getD, replicate}
@@ -25,6 +25,18 @@ use Rattle.stepper.specs.Run.Run.{Mark, mark, meets, Order, plain, is-fu
 -- a run with another one behind it
 unfoldable pub then : RunEnd → RunEnd → RunEnd
 then a b = record { event = b .event; taken = a .taken + b .taken; why = b .why; log = a .log ++ b .log }
+
+pub then-then : (a b c : RunEnd) → then a (then b c) ≡ then (then a b) c
+unfolding then
+then-then a b c = rw (add-assoc, append-assoc) refl
+
+pub then-ended : (e : Event) (s : Stop) (r : RunEnd) → r ≡ then (ended e s) r
+unfolding then
+then-ended e s r = rw zero-add refl
+
+pub past-then : (m : Mark) (a b : RunEnd) → past m (then a b) ≡ then (past m a) b
+unfolding past then
+past-then m a b = rw suc-add refl
 
 -- the room of an order
 room-full : (r : Option ℕ) → is-full r ≡ true → r ≡ some 0
@@ -88,6 +100,14 @@ module _ (M : Machine) where
   course-run (no-step q f h) = rw (f, h)
   course-run (last-step c f h m) = rw (f, h, m)
   course-run (one-step c f h m k) = rw (f, h, m) (ap (past (mark c)) (course-run k))
+
+  -- By its first step.
+  pub run-none : (o : Order) (e : Event) → run M o 0 e ≡ ended e spent
+  run-none o e = course-run no-count
+
+  pub run-first : (d : Direction) (n : ℕ) (e c : Event) → step M d e ≡ gives c → run M (plain d) (suc n) e ≡ past (mark c) (run M (plain d) n c)
+  unfolding is-full meets less-room
+  run-first d n e c h = course-run {o = plain d} (one-step c refl h refl (course (plain d) n c))
 
   -- It is so many single steps: steps alone, as many as were taken, reach the same event and pass the same ones.
   plain-course : {o : Order} {n : ℕ} {e : Event} {r : RunEnd} → Course o n e r

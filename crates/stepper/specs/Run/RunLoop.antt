@@ -5,7 +5,7 @@ use mathlib.Core.Path.{_≡_}
 use mathlib.Core.Bool.{Bool, true, false, cond}
 use mathlib.Core.List.{List, [], _∷_, _++_}
 use mathlib.Core.Option.{Option, none, some}
-use Prim.Native.Nat.{ℕ, _*_, _/_, _≤_}
+use Prim.Native.Nat.{ℕ, suc, _-_, _*_, _/_, _≤_}
 use lib.Dec.{eqb}
 use lib.ListN.{length, take}
 use Rattle.records.specs.Format.Syntax.{Event, Definition}
@@ -136,6 +136,10 @@ pub record RanHere (end : RunEnd) (r : RunAnswer) (before here : List ℕ) : Typ
   pub reads : read-event (take (r .length) here) ≡ tree (end .event)
   pub inside : r .length ≤ length here
   pub same-length : length here ≡ length before
+
+-- A loop over runs: how many turns are left at most, where it goes on or not and so many steps of a number are taken.
+abbrev pub turns-left : (going : Bool) → (steps taken : ℕ) → ℕ
+turns-left g n k = cond g (suc (n - k)) 0
 
 -- the end of a run in the loop's hands: the answer tells it, a buffer starts with the record of the event reached, and the marks are logged
 pub record Held (logged : Bool) (before : List ℕ) (end : RunEnd) (r : RunAnswer) (here log : List ℕ) : Type 0 where

@@ -4,7 +4,7 @@ use mathlib.Core.Path.{_≡_, refl, sym, _∙_, ap, subst}
 use mathlib.Core.Bool.{Bool, true, false, cond}
 use mathlib.Core.List.{List, [], _∷_, _++_, append-nil}
 use mathlib.Core.Option.{none, some}
-use Prim.Native.Nat.{ℕ, _+_, _-_, _*_, _/_, _≤_, _<_}
+use Prim.Native.Nat.{ℕ, suc, _+_, _-_, _*_, _/_, _≤_, _<_}
 use native.Mathlib.Nat.{add-zero}
 use native.Mathlib.Omega.{arith}
 use native.Mathlib.Decide.{decLe}
@@ -34,7 +34,7 @@ use Rattle.records.specs.Gate.Reply.{reply-with, answer-length}
 use Rattle.stepper.specs.Plans.ViewLaws.{ends-known}
 use Rattle.stepper.specs.Step.Stepped.{Stepped, BothPassed}
 use Rattle.stepper.specs.Run.Run.{Mark, mark, meets, Order, is-full, less-room, with-marks, Stop, spent, met, full, by, RunEnd, ended, past, run, stop-number}
-use Rattle.stepper.specs.Run.RunLoop.{direction, told-mark, mark-numbers, with-mark, room-of, aim-of, asked, aimed-at, stop-at, stop-case, stopped-case, log-numbers, with-log, started-run, RanTo, RanHere, Held, RunStands, run-so-far, RunHolds, Keeps}
+use Rattle.stepper.specs.Run.RunLoop.{direction, told-mark, mark-numbers, with-mark, room-of, aim-of, asked, aimed-at, stop-at, stop-case, met-case, stopped-case, log-numbers, with-log, started-run, Tells, RanTo, RanHere, turns-left, Held, RunStands, run-so-far, RunHolds, Keeps}
 use Rattle.stepper.specs.Run.RunLaws.{then, Course, no-count, no-room, no-step, last-step, one-step, course, course-run, course-then, StopTold, run-log-length, run-told, run-over}
 use Rattle.stepper.specs.Run.RunServiceLaws.{run-recordable}
 use Rattle.stepper.specs.declared.run.RunOrder.{RunOrder}
@@ -350,3 +350,24 @@ module _ {program s here log log′ : List ℕ} (byte : Known program) (known : 
   ran-held {before} unlogged same =
       subst (λ o. RanHere (run (machine layers (w .definitions)) o steps (w .event)) r before here) (asked-alike order unlogged log)
       (record { tells = h .tells; front = h .front; reads = rw (h .front) end-reads; inside = h .inside; same-length = same })
+
+-- what an answer tells of a run that met its aim, and of one that did not
+pub tells-met : {end : RunEnd} {r : RunAnswer} → Tells end r → met-case (r .stop) ≡ true → end .why ≡ met
+tells-met {end} {r} t m = go (end .why) refl
+  where
+    go : (s : Stop) → end .why ≡ s → end .why ≡ met
+    go spent e = never (sym (rw (t .stop-is, e) at m))
+    go met e = e
+    go full e = never (sym (rw (t .stop-is, e) at m))
+    go (by q) e = never (sym (rw (t .stop-is, e) at m))
+
+pub tells-unmet : {end : RunEnd} {r : RunAnswer} → Tells end r → met-case (r .stop) ≡ false → end .why ≡ met → ⊥
+tells-unmet t m e = never (rw (t .stop-is, e) at m)
+
+-- a loop over runs that goes on has taken more steps, so fewer turns are left
+pub turns-fewer : {g h : Bool} {n k l : ℕ} → g ≡ true → (h ≡ true → (k < l) × (l ≤ n)) → turns-left h n l < turns-left g n k
+turns-fewer {g} {h} {n} {k} {l} e f = rw e (go h f)
+  where
+    go : (h : Bool) → (h ≡ true → (k < l) × (l ≤ n)) → turns-left h n l < suc (n - k)
+    go true f = omega (arith, f refl .0, f refl .1)
+    go false f = omega arith

@@ -4,11 +4,12 @@ use mathlib.Core.List.{List}
 use Prim.Native.Nat.{ℕ}
 use lib.ListN.{length}
 use Rattle.records.specs.Format.Encode.{event-record}
+use Rattle.records.specs.Format.Syntax.{Event}
 use Rattle.records.specs.Gate.Question.{question-number}
 use Rattle.records.specs.Gate.Reply.{Answer, through, reply-with}
 use Rattle.records.specs.Gate.Door.{gate}
 use Rattle.stepper.specs.Services.Layers.{Layers}
-use Rattle.stepper.specs.Rules.Machine.{refused, gives}
+use Rattle.stepper.specs.Rules.Machine.{Machine, refused, gives}
 use Rattle.stepper.specs.Services.Services.{machine}
 use Rattle.stepper.specs.Walks.Walk.{Direction}
 use Rattle.stepper.specs.Run.Run.{plain, RunEnd, run, stop-number}
@@ -28,11 +29,16 @@ run-reply out a = record {
   output = reply-with (λ r. event-record (r .event)) out a .output;
 }
 
--- 1 to 4 of the program, 11 to 14 of the event, 5, then the run
+-- 1 to 4 of the program, 11 to 14 of the event, 5, then what is begun at the event under the program's rules
+unfoldable pub gated : Layers → (begun : Machine → Event → RunEnd) → (program s : List ℕ) → (room : ℕ) → Answer RunEnd
+unfolding through gate
+gated L begun program s room =
+    through refused (gate (L .read-program program) (L .read-event s) room) (λ t. gives (begun (machine L (t .program)) (t .event)))
+
+-- here the run
 unfoldable pub run-answer : Layers → Direction → ℕ → List ℕ → List ℕ → (room : ℕ) → Answer RunEnd
-unfolding through gate run
-run-answer L d n program s room =
-    through refused (gate (L .read-program program) (L .read-event s) room) (λ t. gives (run (machine L (t .program)) (plain d) n (t .event)))
+unfolding gated run
+run-answer L d n program s room = gated L (λ M. run M (plain d) n) program s room
 
 -- the run service
 unfoldable pub run-record : Layers → Direction → ℕ → List ℕ → List ℕ → List ℕ → RunReply

@@ -20,7 +20,7 @@ use Rattle.stepper.specs.Rules.Machine.{Machine, refused, gives}
 use Rattle.stepper.specs.Rules.Rules.{step, accepted, Lent}
 use Rattle.stepper.specs.Walks.Walk.{Direction, forward, back, Tally, encoded, at-start, walk}
 use Rattle.stepper.specs.Run.Run.{meets, Order, plain, Stop, spent, met, full, by, RunEnd, past, run, stop-number}
-use Rattle.stepper.specs.Run.RunService.{RunReply, run-reply, run-answer, run-record, RunReplied}
+use Rattle.stepper.specs.Run.RunService.{RunReply, run-reply, gated, run-answer, run-record, RunReplied}
 use Rattle.stepper.specs.Run.RunLaws.{Course, no-count, no-room, no-step, last-step, one-step, course, StopTold, run-told, and-run, run-is-steps}
 use Rattle.stepper.specs.Walks.Reached.{attempted}
 use Rattle.stepper.specs.Walks.ReachedLaws.{steps-attempt}
@@ -75,11 +75,16 @@ module _ (L : Layers) (laws : Lawful L) (c : Program L) where
   pub run-recordable : (o : Order) (n : ℕ) (e : Event) → Recordable e → Recordable (run (rules-of c) o n e .event)
   run-recordable o n e = course-recordable (course (rules-of c) o n e)
 
-  -- the run service on an event that passes questions 11 to 14, with an output that passes 5
+  -- what is begun at an event that passes questions 11 to 14, with an output that passes 5
+  pub gated-of-tree : (begun : Machine → Event → RunEnd) (s : List ℕ) (e : Event) (out : List ℕ) → L .read-event s ≡ tree e → 32768 ≤ length out
+      → gated L begun (c .program) s (length out) ≡ gives (begun (rules-of c) e)
+  unfolding gated through
+  gated-of-tree begun s e out h k = rw (gate-both (L .read-program (c .program)) (L .read-event s) (c .reads) h k)
+
   pub run-of-tree : (d : Direction) (n : ℕ) (s : List ℕ) (e : Event) (out : List ℕ) → L .read-event s ≡ tree e → 32768 ≤ length out
       → run-record L d n (c .program) s out ≡ run-reply out (gives (run (rules-of c) (plain d) n e))
-  unfolding run-record run-answer through
-  run-of-tree d n s e out h k = rw (gate-both (L .read-program (c .program)) (L .read-event s) (c .reads) h k)
+  unfolding run-record run-answer
+  run-of-tree d n s e out h k = ap (run-reply out) (gated-of-tree (λ M. run M (plain d) n) s e out h k)
 
   -- a run is that many single steps of the service, each lent the same output
   pub run-is-served : (m : Move) (n : ℕ) (s : List ℕ) → Bytes s → (e : Event) → L .read-event s ≡ tree e → 32768 ≤ length (m .buffer)
@@ -125,7 +130,7 @@ module _ (L : Layers) (laws : Lawful L) (c : Program L) where
 -- the output of a run keeps its length
 pub run-output-length : (L : Layers) → Lawful L → (d : Direction) (n : ℕ) (program s out : List ℕ) → Bytes program → Bytes s
     → length (run-record L d n program s out .output) ≡ length out
-unfolding run-record run-reply run-answer
+unfolding run-record run-reply run-answer gated
 run-output-length L laws d n program s out b i = reply-length (λ r. event-record (r .event)) out (run-answer L d n program s (length out)) fits
   where
     fits : (r : RunEnd) → run-answer L d n program s (length out) ≡ gives r → length (event-record (r .event)) ≤ length out
@@ -137,18 +142,30 @@ run-output-length L laws d n program s out b i = reply-length (λ r. event-recor
         let f = run-recordable L laws P (plain d) n (t .event) (read-recordable L laws s i (t .event) (passed .1)) in
         rw (← gives-injective (w .2)) (omega (arith, limit-fits _ (f .1), passed .2))
 
--- in code: the gate says no
-pub run-gate-refused : (d : Direction) (steps : ℕ) (program s out : List ℕ) {n : ℕ} → n ≡ gate-number program s (length out) → (n ≡ 0 → ⊥)
-    → RunReplied (run-record layers d steps program s out) n 0 out
-unfolding run-record run-reply run-answer through reply-with
-run-gate-refused d steps program s out e z =
+-- in code: the gate says no,
+pub gated-refused : (begun : Machine → Event → RunEnd) (program s out : List ℕ) {n : ℕ} → n ≡ gate-number program s (length out) → (n ≡ 0 → ⊥)
+    → RunReplied (run-reply out (gated layers begun program s (length out))) n 0 out
+unfolding run-reply gated through reply-with
+gated-refused begun program s out e z =
     let w = number-refuses (gate (read-program program) (read-event s) (length out)) e z in
     rw (w .refuses) (record { number-is = w .number-is; taken-is = refl; output-is = refl })
 
--- or the run goes
+pub run-gate-refused : (d : Direction) (steps : ℕ) (program s out : List ℕ) {n : ℕ} → n ≡ gate-number program s (length out) → (n ≡ 0 → ⊥)
+    → RunReplied (run-record layers d steps program s out) n 0 out
+unfolding run-record run-answer
+run-gate-refused d steps program s out e z = gated-refused (λ M. run M (plain d) steps) program s out e z
+
+-- or what is begun comes to its end
+pub gated-replied : {program s out′ : List ℕ} {number taken : ℕ} (out : List ℕ) (begun : Machine → Event → RunEnd) (w : BothPassed program s) → 32768 ≤ length out
+    → number ≡ stop-number (begun (machine layers (w .definitions)) (w .event) .why) → taken ≡ begun (machine layers (w .definitions)) (w .event) .taken
+    → out′ ≡ reply out (gives (begun (machine layers (w .definitions)) (w .event) .event)) .output
+    → RunReplied (run-reply out (gated layers begun program s (length out))) number taken out′
+unfolding run-reply gated through reply-with
+gated-replied {program} {s} out begun w room x y z =
+    rw (gate-both (read-program program) (read-event s) (w .program-reads) (w .reads) room) (record { number-is = x; taken-is = y; output-is = z })
+
 pub run-replied : {program s out log log′ out′ : List ℕ} {r : RunAnswer} (d : Direction) (steps : ℕ) (w : BothPassed program s) → 32768 ≤ length out
     → RanTo (run (machine layers (w .definitions)) (plain d) steps (w .event)) false log out r log′ out′
     → RunReplied (run-record layers d steps program s out) (r .number) (r .taken) out′
-unfolding run-record run-reply run-answer through reply-with
-run-replied {program} {s} d steps w room h =
-    rw (gate-both (read-program program) (read-event s) (w .program-reads) (w .reads) room) (record { number-is = h .tells .number-is; taken-is = h .tells .taken-is; output-is = h .output-is })
+unfolding run-record run-answer
+run-replied {out = out} d steps w room h = gated-replied out (λ M. run M (plain d) steps) w room (h .tells .number-is) (h .tells .taken-is) (h .output-is)

@@ -93,7 +93,7 @@ fn unreached(checker: &mut Checker, dice: &mut Dice, program: &[u8], event: &[u8
     }
     for limit in [dice.below(steps as usize) as u32, steps.saturating_sub(1)] {
         if put(checker, program, event, limit)?.number != if limit < steps { SPENT } else { known.number } {
-            return broken("a limit below the steps needed is not the last word");
+            return broken("under a limit below the steps made the number is not 32");
         }
     }
     if known.number != SPENT {

@@ -5,8 +5,9 @@ use Prim.Native.Nat.{ℕ}
 use lib.ListN.{length}
 use Rattle.records.specs.Format.Never.{never}
 use Rattle.records.specs.Format.Syntax.{Goal, Definition}
-use Rattle.answers.specs.Writing.Listing.{ListStands, ListState, turns-left}
-use Rattle.answers.specs.Writing.ListingLaws.{turned-less}
+use Rattle.answers.specs.Writing.Listing.{ListStands, ListState}
+use Rattle.stepper.specs.Run.RunLoop.{turns-left}
+use Rattle.stepper.specs.Run.RunLoopLaws.{turns-fewer}
 use borrow.Author.Needs.{needs}
 use Rattle.answers.proofs.service.list_answers.Statement.{statement}
 use Rattle.answers.proofs.service.list_answers.Tie as tie
@@ -18,7 +19,7 @@ Inv-loop program variables steps here₀ places₀ firsts₀ value₀ out₀ las
 
 abbrev μ-loop : tie.MeasureT-loop
 μ-loop program variables steps here₀ places₀ firsts₀ value₀ out₀ last₀ here places firsts value out last =
-    turns-left steps last
+    turns-left (last .going) steps (last .taken)
 
 loop-holds : tie.Need-loop-holds Inv-loop μ-loop
 loop-holds c =
@@ -37,7 +38,8 @@ loop-less : tie.Need-loop-less Inv-loop μ-loop
 loop-less c =
     let pre = c .before .before .before .before .before .before .before .before .before .before .before .before .before .before .before .before .before .before .before .before .before .before .before .before .before .pre in
     let going = c .before .before .before .before .before .before .before .before .before .before .before .before .before .before .before .before .loop-test .taken in
-    turned-less going (c .before .before .before .before .before .before .before .before .before .before .next-answer .ensures _ _ _ (c .before .before .before .before .before .before .before .before .before .before .before .before .before .before .before .before .before .loop .inv .0 _ _ _ (pre .0 .3) .0 going))
+    let t = c .before .before .before .before .before .before .before .before .before .before .next-answer .ensures _ _ _ (c .before .before .before .before .before .before .before .before .before .before .before .before .before .before .before .before .before .loop .inv .0 _ _ _ (pre .0 .3) .0 going) in
+    turns-fewer going (λ e. (t .later e, t .state .0 e .within))
 
 loop-again : tie.Need-loop-again Inv-loop μ-loop
 loop-again c =

@@ -2,18 +2,19 @@ use mathlib.Core.Path.{_≡_, refl, _∙_}
 use mathlib.Core.List.{List}
 use lib.ListN.{length}
 use Rattle.records.specs.Format.Syntax.{Event, Definition}
-use Rattle.goal_door.specs.Way.Going.{WayState, calls-left}
-use Rattle.goal_door.specs.Way.GoingLaws.{calls-fewer}
+use Rattle.goal_door.specs.Way.Going.{WayState}
+use Rattle.stepper.specs.Run.RunLoop.{turns-left}
+use Rattle.stepper.specs.Run.RunLoopLaws.{turns-fewer}
 use borrow.Author.Needs.{needs}
 use Rattle.goal_door.proofs.way.go_back.Statement.{statement}
 use Rattle.goal_door.proofs.way.go_back.Tie as tie
 
 abbrev Inv-loop : tie.InvT-loop
-Inv-loop program event ends limit here₀ last₀ here last =
+Inv-loop program event sought limit here₀ last₀ here last =
     ((ds : List Definition) (e : Event) → WayState program event ds e limit last₀ here₀ → WayState program event ds e limit last here) × (length here ≡ length here₀)
 
 abbrev μ-loop : tie.MeasureT-loop
-μ-loop program event ends limit here₀ last₀ here last = calls-left limit last
+μ-loop program event sought limit here₀ last₀ here last = turns-left (last .going) limit (last .taken)
 
 loop-holds : tie.Need-loop-holds Inv-loop μ-loop
 loop-holds c = (λ ds e g. g, refl)
@@ -28,7 +29,8 @@ loop-less : tie.Need-loop-less Inv-loop μ-loop
 loop-less c =
     let pre = c .before .before .before .before .before .before .before .before .before .pre in
     let going = c .before .before .before .before .loop-test .taken in
-    calls-fewer going (c .before .before .next-call .ensures _ _ (c .before .before .before .before .before .loop .inv .0 _ _ (pre .0 .2) .0 going))
+    let t = c .before .before .next-call .ensures _ _ (c .before .before .before .before .before .loop .inv .0 _ _ (pre .0 .2) .0 going) in
+    turns-fewer going (λ e. (t .later e, t .state .0 e .within))
 
 loop-again : tie.Need-loop-again Inv-loop μ-loop
 loop-again c =

@@ -13,26 +13,29 @@ put-part-requires c κs =
 part-ends-requires : tie.Need-part-ends-requires
 part-ends-requires c κs = rw (c .before .before .before .before .before .before .before .pre .0 .reads) tt
 
+places-by-requires : tie.Need-places-by-requires
+places-by-requires c κs = (rw (c .before .before .before .before .before .before .before .before .pre .0 .reads) tt, c .part-ends .ensures)
+
 is-door-requires : tie.Need-is-door-requires
 is-door-requires c κs =
-    let reads = c .before .before .before .before .before .before .before .before .pre .0 .reads in
-    ((rw reads tt, c .part-ends .ensures), (rw reads tt, c .part-ends .ensures))
+    let reads = c .before .before .before .before .before .before .before .before .before .pre .0 .reads in
+    ((rw reads tt, c .places-by .ensures), (rw reads tt, c .places-by .ensures))
 
 go-back-requires : tie.Need-go-back-requires
 go-back-requires c κs =
-    let start = c .before .before .before .before .before .before .before .before .before .before in
+    let start = c .before .before .before .before .before .before .before .before .before .before .before in
     let w = start .pre .0 in
-    let known = c .before .before .before .before .before .before .before .before .shared-slice-known2 .given in
+    let known = c .before .before .before .before .before .before .before .before .before .shared-slice-known2 .given in
     let short = event-short _ known (w .reads) in
-    ((_, _, first-state w (start .args .limit) known (c .before .before .before .before .before .put-part .ensures) (omega (arith, short, start .pre .1)) (c .before .is-door .ensures _ _ (w .reads) (w .reads))), (c .before .before .part-ends .ensures, search needs))
+    ((_, _, first-state w (start .args .limit) known (c .before .before .before .before .before .before .put-part .ensures) (omega (arith, short, start .pre .1)) (c .before .before .before .part-ends .ensures) (c .before .is-door .ensures _ _ (w .reads) (w .reads))), ((rw (w .reads) tt, c .before .before .places-by .ensures), search needs))
 
 returns : tie.Need-returns
 returns c =
     λ w.
-    let start = c .before .before .before .before .before .before .before .before .before .before .before .before .before in
-    let known = c .before .before .before .before .before .before .before .before .before .before .before .shared-slice-known2 .given in
+    let start = c .before .before .before .before .before .before .before .before .before .before .before .before .before .before in
+    let known = c .before .before .before .before .before .before .before .before .before .before .before .before .shared-slice-known2 .given in
     let short = event-short _ known (w .reads) in
-    c .before .before .go-back .ensures _ _ (first-state w (start .args .limit) known (c .before .before .before .before .before .before .before .before .put-part .ensures) (omega (arith, short, start .pre .1)) (c .before .before .before .before .is-door .ensures _ _ (w .reads) (w .reads)))
+    c .before .before .go-back .ensures _ _ (first-state w (start .args .limit) known (c .before .before .before .before .before .before .before .before .before .put-part .ensures) (omega (arith, short, start .pre .1)) (c .before .before .before .before .before .before .part-ends .ensures) (c .before .before .before .before .is-door .ensures _ _ (w .reads) (w .reads)))
 
 pub way-back-spec : {M : Type 1} → statement M
 way-back-spec =
@@ -40,6 +43,7 @@ way-back-spec =
     (tie.spec
     put-part-requires
     part-ends-requires
+    places-by-requires
     is-door-requires
     go-back-requires
     (λ c. search needs)

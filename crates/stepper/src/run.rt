@@ -302,7 +302,8 @@ pub fn run_from(
     r
 }
 
-// The run with no log from the event whose record has the first bytes of `here`, its parts ending there. The record of the event reached is left there.
+// The run that is lent no log, from the event whose record has the first bytes of `here`; its parts end at `ends`. The record of the event reached is left
+// there, and behind it any bytes.
 pub fn run_here(
     program: &[u8],
     here: &mut [u8],
@@ -311,7 +312,6 @@ pub fn run_here(
     order: RunOrder,
     steps: u32,
 ) -> RunAnswer
-    requires { ⌜ order .logged ≡ false ⌝ }
     requires { ⌜ (len ≤ length (now here)) × (32768 ≤ length (now here)) ⌝ }
     requires { ⌜ BothPassed (now program) (take len (now here)) ⌝ }
     requires { ⌜ EndsOf (take len (now here)) ends ⌝ }

@@ -9,7 +9,7 @@ use native.Mathlib.Omega.{arith}
 use lib.ListN.{length}
 use borrow.Author.Tests.{eq-eqb}
 use Rattle.records.specs.Format.Never.{never}
-use Rattle.records.specs.Format.Syntax.{Bet, call, Event, event, event?}
+use Rattle.records.specs.Format.Syntax.{Bet, Event, event, event?}
 use Rattle.records.specs.Gate.Question.{Question, allowed}
 use Rattle.records.specs.Gate.Reply.{through}
 use Rattle.terms.specs.Values.ValueService.{bets-of}

@@ -45,6 +45,8 @@ pub record WayEnded (w : RunEnd) (p : Standing) (here : List ℕ) : Type 0 where
   pub taken-is : p .taken ≡ w .taken
   pub front : take (p .length) here ≡ event-record (w .event)
   pub inside : p .length ≤ length here
+  pub ends-are : p .ends ≡ part-ends (w .event)
+  pub over : p .going ≡ false
 
 module _ (program s : List ℕ) (ds : List Definition) (e : Event) (limit : ℕ) where
   -- the way from e, whose record is s, stands where p tells, behind a run of as many steps

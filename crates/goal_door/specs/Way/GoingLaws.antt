@@ -1,7 +1,5 @@
 -- Laws of the way in code: a run to the next call takes the way there, where it ends at the door and goes on at any other call; where the run comes to no
 -- call, the way ends with the number of the question that says no.
-use Rattle.records.specs.Ends.Places.{event-places}
-use Rattle.records.specs.declared.places.Places.{Places}
 use mathlib.Core.Path.{_≡_, refl, sym, _∙_, ap}
 use mathlib.Core.Bool.{Bool, true, false, not}
 use mathlib.Core.List.{List}
@@ -9,12 +7,14 @@ use mathlib.Core.Option.{Option·none-ne-some}
 use native.Mathlib.Omega.{arith}
 use Prim.Native.Nat.{ℕ, _+_, _-_, _≤_}
 use lib.ListN.{length, take}
+use Rattle.records.specs.Ends.Places.{event-places}
 use Rattle.records.specs.Format.Never.{never}
-use Rattle.records.specs.Format.Syntax.{Event, Definition, event}
+use Rattle.records.specs.Format.Syntax.{Event, event, Definition}
 use Rattle.records.specs.Gate.Door.{BothPassed}
 use Rattle.records.specs.Gate.Question.{question-number, allowed}
 use Rattle.records.specs.Gate.Reply.{reply-with}
 use Rattle.records.specs.Gate.ReplyLaws.{number-positive}
+use Rattle.records.specs.declared.places.Places.{Places}
 use Rattle.stepper.specs.Rules.Machine.{Machine, StepOutcome, refused, gives}
 use Rattle.stepper.specs.Rules.Rules.{step, step-back}
 use Rattle.stepper.specs.Run.Run.{Stop, spent, met, full, by, RunEnd, ended, run, stop-number}
@@ -90,6 +90,8 @@ module _ {program s : List ℕ} {ds : List Definition} {e : Event} {limit : ℕ}
               taken-is = omega (arith, ran .tells .taken-is, g .made);
               front = ran .front;
               inside = ran .inside;
+              ends-are = ran .tells .ends-are;
+              over = refl;
             }),
           );
           later = λ t. never (sym t);

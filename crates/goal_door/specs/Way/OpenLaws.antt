@@ -1,5 +1,4 @@
 -- Laws of the way's start and end: it starts at the given event, which may be the door, and its end is what the service replies.
-use Rattle.stepper.specs.Run.RunLaws.{then-ended}
 use mathlib.Core.Path.{_≡_, refl, sym, _∙_, ap}
 use mathlib.Core.Bool.{Bool, true, false, not}
 use mathlib.Core.List.{List}
@@ -10,8 +9,7 @@ use lib.Seq.{length-take-le}
 use Rattle.records.specs.Ends.Places.{EndsOf}
 use Rattle.records.specs.Format.HeadLaws.{Known, bytes-all}
 use Rattle.records.specs.Format.Never.{never}
-use Rattle.records.specs.Format.Syntax.{event}
-use Rattle.records.specs.Gate.Door.{BothPassed, gate}
+use Rattle.records.specs.Gate.Door.{BothPassed}
 use Rattle.records.specs.Gate.Gate.{read-event}
 use Rattle.records.specs.Gate.Reply.{reply-with}
 use Rattle.records.specs.Writing.Patched.{Put}
@@ -19,6 +17,7 @@ use Rattle.records.specs.Writing.PatchedLaws.{put-length, put-front, front-put}
 use Rattle.records.specs.declared.places.PartEnds.{PartEnds}
 use Rattle.stepper.specs.Rules.Machine.{Machine}
 use Rattle.stepper.specs.Run.Run.{spent, ended, stop-number}
+use Rattle.stepper.specs.Run.RunLaws.{then-ended}
 use Rattle.stepper.specs.Run.RunService.{RunReplied}
 use Rattle.stepper.specs.Run.RunServiceLaws.{gated-refused, gated-replied}
 use Rattle.stepper.specs.Services.Desk.{layers}
@@ -51,7 +50,7 @@ module _ {program s here : List ℕ} (w : BothPassed program s) (limit : ℕ) wh
           → WayState program s (w .definitions) (w .event) limit (record { number = 0; taken = 0; length = n; ends = ends; going = not b }) here
       go true i = (
         λ t. never (sym t),
-        λ t. rw (way-ends M (w .event) (w .event) limit (sym i)) (record { number-is = refl; taken-is = refl; front = front ∙ lawful .event-read s (bytes-all s known) (w .event) (w .reads) .0; inside = inside }),
+        λ t. rw (way-ends M (w .event) (w .event) limit (sym i)) (record { number-is = refl; taken-is = refl; front = front ∙ lawful .event-read s (bytes-all s known) (w .event) (w .reads) .0; inside = inside; ends-are = k (w .event) (w .reads); over = refl }),
       )
       go false i =
           let less : limit ≡ limit - 0 = omega arith in (

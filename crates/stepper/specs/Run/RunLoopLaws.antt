@@ -268,9 +268,13 @@ module _ {program : List ℕ} {order : RunOrder} {first : RunAnswer} {here₀ lo
   pub keeps-all : {r : RunAnswer} {here log : List ℕ} (steps : ℕ) → Keeps g r here log → r .taken ≡ steps → RunHolds g steps r here log
   keeps-all {r} {here} {log} steps k e = subst (λ n. RunHolds g n r here log) e (k .1)
 
--- an order that wants no log asks the same of every slice
-asked-alike : (o : RunOrder) → o .logged ≡ false → (log : List ℕ) → asked o log ≡ asked o []
-asked-alike o h log = rw h refl
+-- a slice that is too short for a mark is as good as none
+asked-alike : (o : RunOrder) (log : List ℕ) → length log ≡ 1 → asked o log ≡ asked o []
+asked-alike o log h = ap (λ n. record { direction = direction (o .back); aim = cond (o .aimed) (some (aim-of (o .aim))) none; room = n }) (ap (room-of (o .logged)) h ∙ go (o .logged))
+  where
+    go : (b : Bool) → room-of b 1 ≡ room-of b 0
+    go true = refl
+    go false = refl
 
 -- an empty log
 log-none : (logged : Bool) (log : List ℕ) → log ≡ with-log logged log []
@@ -346,9 +350,9 @@ module _ {program s here log log′ : List ℕ} (byte : Known program) (known : 
       }
 
   -- or it is left where it is, and there is no log
-  pub ran-held : {before : List ℕ} → order .logged ≡ false → length here ≡ length before → RanHere (run (machine layers (w .definitions)) (asked order []) steps (w .event)) r before here
-  ran-held {before} unlogged same =
-      subst (λ o. RanHere (run (machine layers (w .definitions)) o steps (w .event)) r before here) (asked-alike order unlogged log)
+  pub ran-held : {before : List ℕ} → length log ≡ 1 → length here ≡ length before → RanHere (run (machine layers (w .definitions)) (asked order []) steps (w .event)) r before here
+  ran-held {before} short same =
+      subst (λ o. RanHere (run (machine layers (w .definitions)) o steps (w .event)) r before here) (asked-alike order log short)
       (record { tells = h .tells; front = h .front; reads = rw (h .front) end-reads; inside = h .inside; same-length = same })
 
 -- what an answer tells of a run that met its aim, and of one that did not

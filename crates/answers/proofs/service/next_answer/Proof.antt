@@ -1,6 +1,5 @@
-use mathlib.Core.Path.{refl, sym, _∙_}
+use mathlib.Core.Path.{sym, _∙_}
 use native.Mathlib.Omega.{arith}
-use lib.ListN.{length}
 use lib.Seq.{length-take-le}
 use borrow.Author.Tests.{not-true, not-false}
 use Rattle.records.specs.Format.HeadLaws.{front-known}
@@ -21,7 +20,7 @@ part-ends-requires : tie.Need-part-ends-requires
 part-ends-requires c κs = rw (c .before .before .before .before .before .before .before .before .before .pre .0 .3 .reads) tt
 
 run-here-requires : tie.Need-run-here-requires
-run-here-requires c κs = let pre = c .before .before .before .before .before .before .before .before .before .before .before .before .pre in (rw (c .exit-order .ensures) refl, ((pre .0 .3 .inside, omega (arith, pre .1 .room)), (list-passed (pre .0 .3), c .before .before .part-ends .ensures)))
+run-here-requires c κs = let pre = c .before .before .before .before .before .before .before .before .before .before .before .before .pre in ((pre .0 .3 .inside, omega (arith, pre .1 .room)), (list-passed (pre .0 .3), c .before .before .part-ends .ensures))
 
 stopped-listing-requires : tie.Need-stopped-listing-requires
 stopped-listing-requires c κs = let g = c .before .before .before .before .before .before .before .before .before .before .before .before .before .before .before .before .before .pre .0 .3 in omega (arith, c .before .before .before .before .before .before .before .before .before .before .before .before .before .before .before .before .before .fits, taken-small g ((rw (c .before .before .before .before .before .exit-order .ensures) at (c .before .before .before .before .run-here .ensures (list-passed g)))))

@@ -1,4 +1,4 @@
-use mathlib.Core.Path.{refl, sym, _∙_}
+use mathlib.Core.Path.{sym, _∙_}
 use native.Mathlib.Omega.{arith}
 use lib.Seq.{length-take-le}
 use Rattle.stepper.specs.Plans.ViewLaws.{ends-known}
@@ -14,7 +14,7 @@ run-here-requires : tie.Need-run-here-requires
 run-here-requires c κs =
     let pre = c .before .before .before .before .before .before .before .pre in
     let g = pre .0 .2 in
-    (rw (c .before .call-order .ensures) refl, ((g .inside, omega (arith, pre .1 .1)), (way-passed g, ends-known _ (g .reads) (g .ends-are))))
+    ((g .inside, omega (arith, pre .1 .1)), (way-passed g, ends-known _ (g .reads) (g .ends-are)))
 
 slice-reshare-prefix-places-by : tie.Need-slice-reshare-prefix-places-by
 slice-reshare-prefix-places-by c = let g = c .before .before .before .before .before .before .before .before .before .before .before .before .pre .0 .2 in c .before .before .before .before .run-here .ensures (way-passed g) .inside

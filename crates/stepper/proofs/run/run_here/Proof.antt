@@ -10,7 +10,7 @@ run-on-requires : tie.Need-run-on-requires
 run-on-requires c κs =
     let start = c .before .before .before .before .before .before in
     let known = front-known (start .args .len) (start .args .here .now) (c .before .before .before .before .slice-known .given) in
-    (standing-first (start .args .order) _ known (start .pre .1 .1 .0) (start .pre .1 .0 .0) refl (start .pre .1 .1 .1) (c .before .before .before .started .ensures), (rw (c .before .before .before .started .ensures) (omega arith), (start .pre .1 .0 .1, search needs)))
+    (standing-first (start .args .order) _ known (start .pre .1 .0) (start .pre .0 .0) refl (start .pre .1 .1) (c .before .before .before .started .ensures), (rw (c .before .before .before .started .ensures) (omega arith), (start .pre .0 .1, search needs)))
 
 returns : tie.Need-returns
 returns c =
@@ -18,7 +18,7 @@ returns c =
     let start = ran .before .before .before .before .before .before .before in
     let known = front-known (start .args .len) (start .args .here .now) (ran .before .before .before .before .before .slice-known .given) in
     let byte = ran .before .before .before .before .before .before .shared-slice-known .given in
-    λ w. ran-held byte known w (start .args .order) (start .args .steps) (ran .run-on .ensures (standing-first (start .args .order) _ known w (start .pre .1 .0 .0) refl (start .pre .1 .1 .1) (ran .before .before .before .before .started .ensures))) (start .pre .0) (search needs)
+    λ w. ran-held byte known w (start .args .order) (start .args .steps) (ran .run-on .ensures (standing-first (start .args .order) _ known w (start .pre .0 .0) refl (start .pre .1 .1) (ran .before .before .before .before .started .ensures))) refl (search needs)
 
 pub run-here-spec : {M : Type 1} → statement M
 run-here-spec =

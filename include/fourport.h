@@ -22,14 +22,19 @@
  *    8  has each value at most 8,192 bytes?
  *    9  has each local of the body a number of at most 65,535? In a canonical program: has every definition at most 255 locals?
  *   10  does the result fit FOURPORT_RECORD bytes? Of an answer of a query: does it fit what is left of the output?
+ *   20  of a text: may a token, or the space between tokens, hold each of its bytes?
+ *   21  is the text of the grammar?
+ *   22  has the text, or a query and its rules together, at most FOURPORT_TEXT bytes, and does its list of names fit the lent buffer?
  *   32  on the way back to a door: is a step left within the limit?
  *
- * The questions are put in this order: 1 to 4, 11 to 14, 5, and then 6 to 10; the second part of 7 is put behind 10, and 32 last.
+ * The questions are put in this order: 1 to 4, 11 to 14, 5, and then 6 to 10; the second part of 7 is put behind 10, and 32 last. Of texts: 20, 21, 22,
+ * 3 (has each arity at most 16, and each clause at most 64 variables?), 5, 10.
  *
  * Duties of a caller, which nothing here can test:
- *  - A pointer is not null and points to as many readable bytes as the length beside it says, `out` to as many writable and initialised ones; where
- *    the length is 0 too it is not null. The other pointers point to one writable, initialised and aligned value of their type.
- *  - What is written (`out`, `taken`, `written`, `at`, `part`, `greatest`, `counts`) overlaps nothing else that the call is given. What is only read may overlap.
+ *  - A pointer is not null and points to as many readable bytes as the length beside it says, `out` and `names` to as many writable and initialised
+ *    ones; where the length is 0 too it is not null. The other pointers point to one writable, initialised and aligned value of their type.
+ *  - What is written (`out`, `names`, `named`, `taken`, `written`, `at`, `part`, `greatest`, `counts`) overlaps nothing else that the call is given. What
+ *    is only read may overlap.
  *  - Nobody else writes any of it during the call, or reads what the call writes.
  *  - The thread has the stack, of which nothing is proved: the deepest calls we know of need 1,616 KiB, so give
  *    4 MiB. Linux gives a main thread 8.
@@ -46,6 +51,9 @@
 /* The longest record, and the shortest output that passes question 5. */
 #define FOURPORT_RECORD 32768
 
+/* The longest text of clauses; a query and its rules may have as many bytes together. */
+#define FOURPORT_TEXT 65535
+
 /* The directions of a run. */
 #define FOURPORT_FORWARD 0
 #define FOURPORT_BACK 1
@@ -53,6 +61,22 @@
 #ifdef __cplusplus
 extern "C" {
 #endif
+
+/* A text of clauses to its clause record and its list of names.
+ * 0: the clause record stands at the start of `out`. At the start of `names` each name stands behind its length of two bytes, the high one first, in
+ * order of first appearance; a name's place in this list, from 0, is its number in the record, as a symbol and as a predicate. `named` is the length of
+ * the list. The bytes after the record and after the list are untouched.
+ * 20, 21, 22, 3, 5, 10: `names` and `out` are untouched, and `named` is 0. */
+uint32_t fourport_read(const uint8_t *text, size_t text_length, uint8_t *names, size_t names_length, uint8_t *out, size_t out_length, size_t *named);
+
+/* A query as text: `query` is a goal, without a full stop, and is read as the body of one more clause behind the clauses of `rules`. Both texts are
+ * asked 20, then both 21; 22 is about both together, and 3, 5 and 10 are about the query alone.
+ * 0: the query record stands at the start of `out`, its variables numbered from 0 as they first appear in the query, and the list of names at the start
+ * of `names`: the names of the rules first, as fourport_read lists them, and behind them those that are new in the query. `named` is the length of the
+ * list. The bytes after the record and after the list are untouched.
+ * 20, 21, 22, 3, 5, 10: `names` and `out` are untouched, and `named` is 0. */
+uint32_t fourport_read_query(const uint8_t *rules, size_t rules_length, const uint8_t *query, size_t query_length, uint8_t *names, size_t names_length,
+                             uint8_t *out, size_t out_length, size_t *named);
 
 /* Clauses to canonical program.
  * 0: the program record stands at the start of `out`, whose bytes after it are untouched.

@@ -1,20 +1,25 @@
-"""The cases: pages with rules and a query, and programs by chance, each with a name, as clauses and a goal."""
-import pathlib
+"""The cases: texts of rules with a query beside them, and programs by chance, each with a name, as clauses and a goal."""
+import pathlib, subprocess
 
+from desk_model import gate
 from desk_model.canonical import to_the_right
 from desk_model.trees import *
-from garage.page import section
-from garage.text import Names, Text, clauses, query
 from made import Made, clause
 from model_checks.chance import Chance
 
 UNDEFINED = [(7, 0), (8, 1)]
 
 
-def page_case(path):
-    page, symbols, predicates = path.read_text(), Names(), Names()
-    rules = clauses(Text(section(page, 'Rules'), symbols, predicates))
-    return path.stem, rules, query(Text(section(page, 'Query'), symbols, predicates))
+def records(program, path, *words):
+    """the two records that the desk makes of the rules and of the query beside them; program: host/fourport's example records"""
+    made = subprocess.run([program, *words, path, path.with_suffix('.query')], stdout=subprocess.PIPE, check=True).stdout
+    end = 2 + int.from_bytes(made[:2], 'big')
+    return made[:end], made[end:]
+
+
+def text_case(program, path):
+    rules, query = records(program, path, '--clauses')
+    return path.stem, gate.clauses(rules), gate.query(query)
 
 
 class Programs(Chance):
@@ -57,5 +62,5 @@ def is_made(name):
     return name.startswith('made ')
 
 
-def pages(repository):
-    return sorted(pathlib.Path(repository, 'examples').glob('*.txt')) + sorted(pathlib.Path(__file__).parent.glob('programs/*.txt'))
+def rule_texts(repository):
+    return sorted(pathlib.Path(repository, 'examples').glob('*.pl')) + sorted(pathlib.Path(__file__).parent.glob('programs/*.pl'))

@@ -63,10 +63,10 @@ def own_case(number, answers, listing, ports, query, values):
             f'[{",".join(map(clause_text, query.clauses))}],[{",".join(listed)}]).\n')
 
 
-def run(program, cases, seconds):
+def run(program, cases, seconds, *flags):
     """the lines of each case, by its number; the process is ended after that many seconds"""
     try:
-        done = subprocess.run(['swipl', '-q', '-g', 'main', '-t', 'halt', HERE / program],
+        done = subprocess.run(['swipl', *flags, '-q', '-g', 'main', '-t', 'halt', HERE / program],
                               input=''.join(cases), capture_output=True, text=True, timeout=seconds)
     except subprocess.TimeoutExpired:
         raise SystemExit(f'{program} did not end within {seconds} seconds')

@@ -13,6 +13,8 @@ PROGRAMS = {
     'answers': ['answers_cases'],
     'goal_door': ['goal_door_cases'],
     'canonical': ['canonical_cases'],
+    'text': ['reader_cases'],
+    'reader': ['reader_cases'],
     'walk_text': ['walk_cases'],
 }
 SECONDS = 60

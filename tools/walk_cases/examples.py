@@ -1,15 +1,16 @@
 """The specification's own walks and the first garages of examples/; the others stand at the end of the table, in garages.py."""
 import os
 
+from stored.files import ROOT
+from stored.texts import walk_records
 from walk_cases.table import *
 
-EXAMPLES = os.path.join(os.path.dirname(os.path.abspath(__file__)), '..', '..', 'examples')
+EXAMPLES = os.path.join(ROOT, 'examples')
 FIRST = 'door-sign', 'one-bay', 'one-light', 'sensor-line', 'three-bays'
 
 
 def garage(name):
-    with open(os.path.join(EXAMPLES, name + '.in'), 'rb') as file:
-        case(f'the garage {name}', file.read())
+    case(f'the garage {name}', b''.join(walk_records(os.path.join(EXAMPLES, name))))
 
 
 heading('example')

@@ -6,3 +6,4 @@ pub mod count; // count.rt: the port counts of a walk
 pub mod look; // look.rt: a variable's value, the definition that an atom names, an event's greatest variable
 pub mod list; // list.rt: every answer of a query
 pub mod door; // door.rt: back to the door of a goal
+pub mod read; // read.rt: rules and queries as text

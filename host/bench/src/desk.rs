@@ -5,6 +5,8 @@ use twin::rules::Direction;
 use twin::services;
 
 pub trait Desk {
+    fn read(&self, text: &[u8], names: &mut [u8], out: &mut [u8]) -> u32;
+    fn read_query(&self, rules: &[u8], query: &[u8], names: &mut [u8], out: &mut [u8]) -> u32;
     fn canonical(&self, clauses: &[u8], out: &mut [u8]) -> u32;
     fn first(&self, query: &[u8], out: &mut [u8]) -> u32;
     fn forward(&self, program: &[u8], event: &[u8], out: &mut [u8]) -> u32;
@@ -25,6 +27,14 @@ pub trait Desk {
 pub struct Fourport;
 
 impl Desk for Fourport {
+    fn read(&self, text: &[u8], names: &mut [u8], out: &mut [u8]) -> u32 {
+        raw::read(text, names, out, &mut 0)
+    }
+
+    fn read_query(&self, rules: &[u8], query: &[u8], names: &mut [u8], out: &mut [u8]) -> u32 {
+        raw::read_query(rules, query, names, out, &mut 0)
+    }
+
     fn canonical(&self, clauses: &[u8], out: &mut [u8]) -> u32 {
         raw::canonical(clauses, out)
     }
@@ -80,6 +90,18 @@ fn written(number: u8, bytes: &[u8], out: &mut [u8]) -> u32 {
 }
 
 impl Desk for Twin {
+    fn read(&self, text: &[u8], names: &mut [u8], out: &mut [u8]) -> u32 {
+        let reply = twin::text::read(text, names.len(), out.len());
+        written(reply.number, &reply.names, names);
+        written(reply.number, &reply.bytes, out)
+    }
+
+    fn read_query(&self, rules: &[u8], query: &[u8], names: &mut [u8], out: &mut [u8]) -> u32 {
+        let reply = twin::text::read_query(rules, query, names.len(), out.len());
+        written(reply.number, &reply.names, names);
+        written(reply.number, &reply.bytes, out)
+    }
+
     fn canonical(&self, clauses: &[u8], out: &mut [u8]) -> u32 {
         let reply = services::canonical(clauses, out.len());
         written(reply.number, &reply.bytes, out)

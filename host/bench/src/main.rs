@@ -1,5 +1,5 @@
-//! The benchmark: bench FOLDER [TABLE ..] prints the tables walks, sizes, doors and calls, or those named, in Markdown. FOLDER holds what
-//! `host/bench/run` makes: the records of each program and the rates of SWI-Prolog. bench profile LENGTH TIMES steps through events of that length,
+//! The benchmark: bench FOLDER [TABLE ..] prints the tables walks, sizes, doors, calls and texts, or those named, in Markdown. FOLDER holds
+//! what `host/bench/run` makes: the records of each program and the rates of SWI-Prolog. bench profile LENGTH TIMES steps through events of that length,
 //! for a profiler.
 
 mod calls;
@@ -8,6 +8,7 @@ mod desk;
 mod doors;
 mod prolog;
 mod sizes;
+mod texts;
 mod walks;
 
 use desk::{Fourport, Twin};
@@ -36,6 +37,9 @@ fn main() {
         }
         if wanted("calls") {
             calls::table(&Fourport, &Twin);
+        }
+        if wanted("texts") {
+            texts::table(&Fourport, &Twin);
         }
     };
     std::thread::scope(|scope| std::thread::Builder::new().stack_size(STACK).spawn_scoped(scope, print).expect("a thread").join())

@@ -1,6 +1,7 @@
 //! The least native stack with which the deepest cases of each service pass: each is tried in a process of its own, on a thread of a given size, since
 //! one that does not fit ends the process.
 
+use checks::generate::texts;
 use fourport::raw;
 use layout::{atom, clause, clauses, definition, equality, event, nested, program, record, symbol, unifier, variable, TRUE};
 use std::process::{Command, ExitCode, Stdio};
@@ -9,8 +10,13 @@ use std::{env, thread};
 /// A call with an output of 32,768 bytes.
 type Call = fn(&mut [u8]) -> u32;
 
-const CASES: [(&str, Call); 17] = [
+const CASES: [(&str, Call); 22] = [
     ("nothing", |_| 0),
+    ("read, brackets", |out| read(&texts::brackets(32_765), out)),
+    ("read, terms", |out| read(&texts::deep_term(8_188), out)),
+    ("read, conjuncts", |out| read(&texts::conjuncts(6_550, ","), out)),
+    ("read, names", |out| read(&texts::facts_of_many_names(20_000), out)),
+    ("read_query", |out| raw::read_query(&texts::facts_of_many_names(50_000), &texts::goal_of(32_765), &mut vec![0; 200_000], out, &mut 0)),
     ("canonical", |out| raw::canonical(&clauses(&[clause(5, 1, &[nested(8_186, &variable(0))], &TRUE)]), out)),
     ("first", |out| raw::first(&record(&equality(&variable(0), &nested(8_188, &symbol(2, &[])))), out)),
     ("forward", |out| raw::forward(&program(&[]), &event(1, &doubly_nested(1_630), &[], &[]), out)),
@@ -28,6 +34,10 @@ const CASES: [(&str, Call); 17] = [
     ("greatest", |_| raw::greatest(&event(1, &equality(&variable(0), &nested(8_187, &symbol(2, &[]))), &[], &[]), &mut 0, &mut 0)),
     ("count", |_| raw::count(&mut Default::default(), &event(1, &equality(&variable(0), &nested(8_187, &symbol(2, &[]))), &[], &[]))),
 ];
+
+fn read(text: &[u8], out: &mut [u8]) -> u32 {
+    raw::read(text, &mut vec![0; 100_000], out, &mut 0)
+}
 
 /// g(V0, f(..f(V2)..)) = g(f(..f(V1)..), V1), each nested term of that many levels: V0 becomes a term of twice as many. With 2,045 levels both values
 /// are as long as question 8 lets pass, and the unifier is only compared, in a step back from exit; with 1,630 it is written, in a step from call.
@@ -68,7 +78,7 @@ fn measured() {
                 less = kib;
             }
         }
-        println!("{name:<14} {enough:>5} KiB");
+        println!("{name:<16} {enough:>5} KiB");
     }
 }
 

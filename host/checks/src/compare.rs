@@ -16,9 +16,13 @@ use twin::training::{examined, Broken, Examined};
 const MARGIN: usize = 16;
 /// The longest output that is lent.
 pub const LONGEST: usize = 70_000;
+/// The longest buffer for names that is lent.
+const LONGEST_NAMES: usize = crate::texts::MOST_NAMES;
 
 #[derive(Clone, Copy, Debug, PartialEq, Eq)]
 pub enum Service {
+    Read,
+    ReadQuery,
     Canonical,
     First,
     Forward,
@@ -33,7 +37,9 @@ pub enum Service {
 }
 
 impl Service {
-    pub const ALL: [Service; 11] = [
+    pub const ALL: [Service; 13] = [
+        Service::Read,
+        Service::ReadQuery,
         Service::Canonical,
         Service::First,
         Service::Forward,
@@ -52,6 +58,7 @@ impl Service {
     /// gives 6.
     pub fn numbers(self) -> &'static [u32] {
         match self {
+            Service::Read | Service::ReadQuery => &[0, 3, 5, 10, 20, 21, 22],
             Service::Canonical => &[0, 1, 2, 3, 4, 5, 9, 10],
             Service::First => &[0, 5, 10, 11, 12, 13],
             Service::Forward | Service::Back | Service::Run => &[0, 1, 2, 3, 4, 5, 6, 7, 8, 9, 10, 11, 12, 13, 14],
@@ -64,7 +71,7 @@ impl Service {
     }
 }
 
-/// An answer: the number, the numbers beside it (steps taken, bytes written, a place, a part, counts), and what is written.
+/// An answer: the number, the numbers beside it (steps taken, bytes written, a place, a part, counts), and what is written; of a text its names first.
 #[derive(Clone, Debug, PartialEq, Eq)]
 pub struct Answer {
     pub number: u32,
@@ -110,6 +117,7 @@ struct Sides {
 pub struct Checker {
     pattern: Vec<u8>,
     out: Vec<u8>,
+    names: Vec<u8>,
     pub table: Table,
     /// the kind of case that is being made
     pub kind: usize,
@@ -118,8 +126,8 @@ pub struct Checker {
 impl Checker {
     pub fn new(seed: u64, kinds: &[&'static str]) -> Checker {
         let mut dice = Dice::new(seed);
-        let pattern: Vec<u8> = (0..LONGEST + 2 * MARGIN).map(|_| dice.byte()).collect();
-        Checker { out: pattern.clone(), pattern, table: Table::new(kinds), kind: 0 }
+        let pattern: Vec<u8> = (0..LONGEST.max(LONGEST_NAMES) + 2 * MARGIN).map(|_| dice.byte()).collect();
+        Checker { out: pattern.clone(), names: pattern.clone(), pattern, table: Table::new(kinds), kind: 0 }
     }
 
     /// The output of that length, filled with the pattern, put to the desk.
@@ -159,6 +167,50 @@ impl Checker {
         let untouched = self.out[..MARGIN] == self.pattern[..MARGIN] && self.out[end..room + 2 * MARGIN] == self.pattern[end..room + 2 * MARGIN];
         let bytes = self.out[MARGIN..end].to_vec();
         Sides { desk: Answer { number, beside, bytes }, twin, times: (desk_time, twin_time), untouched }
+    }
+
+    /// Desk and twin on a text: of the two buffers that are lent, the names and the output.
+    fn text_sides(
+        &mut self,
+        rooms: (usize, usize),
+        desk: impl FnOnce(&mut [u8], &mut [u8], &mut usize) -> u32,
+        twin: impl FnOnce(usize, usize) -> twin::text::ReadReply,
+    ) -> Sides {
+        let mut lent = std::mem::take(&mut self.names);
+        let whole = rooms.0 + 2 * MARGIN;
+        lent[..whole].copy_from_slice(&self.pattern[..whole]);
+        let mut list = Vec::new();
+        let names = &mut lent[MARGIN..MARGIN + rooms.0];
+        let timed = |out: &mut [u8]| {
+            let mut named = 0xDEAD_BEEF;
+            let number = desk(names, out, &mut named);
+            (number, vec![named as u64])
+        };
+        let mut sides = self.sides(rooms.1, timed, || {
+            let reply = twin(rooms.0, rooms.1);
+            list = reply.names;
+            Answer { number: reply.number.into(), beside: vec![list.len() as u64], bytes: reply.bytes }
+        });
+        let end = MARGIN + list.len();
+        sides.untouched &= lent[..MARGIN] == self.pattern[..MARGIN] && lent[end..whole] == self.pattern[end..whole];
+        sides.desk.bytes = [&lent[MARGIN..end], &sides.desk.bytes].concat();
+        sides.twin.bytes = [&list[..], &sides.twin.bytes].concat();
+        self.names = lent;
+        sides
+    }
+
+    /// A text of clauses; beside the number, the bytes of the names.
+    pub fn read(&mut self, text: &[u8], names: usize, room: usize) -> Checked<Answer> {
+        let sides =
+            self.text_sides((names, room), |list, out, named| raw::read(text, list, out, named), |names, room| twin::text::read(text, names, room));
+        self.settle(Service::Read, sides, Inputs { records: &[text], numbers: format!("names {names} output {room}") })
+    }
+
+    /// A goal behind the clauses of rules.
+    pub fn read_query(&mut self, rules: &[u8], query: &[u8], names: usize, room: usize) -> Checked<Answer> {
+        let desk = |list: &mut [u8], out: &mut [u8], named: &mut usize| raw::read_query(rules, query, list, out, named);
+        let sides = self.text_sides((names, room), desk, |names, room| twin::text::read_query(rules, query, names, room));
+        self.settle(Service::ReadQuery, sides, Inputs { records: &[rules, query], numbers: format!("names {names} output {room}") })
     }
 
     fn settle(&mut self, service: Service, sides: Sides, inputs: Inputs<'_>) -> Checked<Answer> {

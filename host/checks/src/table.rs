@@ -1,6 +1,6 @@
 //! What was met: cases by kind, by service and number, steps by rule, bodies by the part that numbers them, events by the parts that hold the
 //! greatest variable, lists of answers by what they were asked for with and what they hold, doors by where they were asked for and what lay on the
-//! way, events of walks by what training material says of them.
+//! way, texts by what they hold or why they are refused, events of walks by what training material says of them.
 
 use crate::compare::Service;
 use crate::doors::{Way, DOORS};
@@ -8,6 +8,7 @@ use crate::holders::HOLDERS;
 use crate::listings::{Sort, LISTINGS};
 use crate::numbering::{Numbered, ENDS, PLACES, WAYS};
 use crate::rules::RULES;
+use crate::texts::{self, TEXTS};
 use std::fmt;
 use std::time::Duration;
 use twin::training::Examined;
@@ -16,7 +17,7 @@ use twin::training::Examined;
 const WALKING: [&str; 3] = ["garages", "walks", "moves"];
 
 /// The numbers of all services, each with a column.
-const NUMBERS: [u32; 16] = [0, 1, 2, 3, 4, 5, 6, 7, 8, 9, 10, 11, 12, 13, 14, 32];
+const NUMBERS: [u32; 19] = [0, 1, 2, 3, 4, 5, 6, 7, 8, 9, 10, 11, 12, 13, 14, 20, 21, 22, 32];
 
 fn column(number: u32) -> usize {
     NUMBERS.iter().position(|&each| each == number).expect("a number of the specification")
@@ -57,6 +58,8 @@ pub struct Table {
     listings: [u64; LISTINGS.len()],
     /// doors, by where they were asked for and what lay on the way
     doors: [u64; DOORS.len()],
+    /// texts, by what they hold or why they are refused
+    texts: [u64; TEXTS.len()],
     /// by kind, events of walks from a query
     pub examined: Vec<Examined>,
     /// pairs of lists of steps whose ends are different, and equal
@@ -73,6 +76,7 @@ impl Table {
             holders: Default::default(),
             listings: Default::default(),
             doors: Default::default(),
+            texts: [0; TEXTS.len()],
             examined: vec![Examined::default(); kinds.len()],
             ends: [0; 2],
         }
@@ -108,6 +112,10 @@ impl Table {
 
     pub fn add_door(&mut self, way: Way) {
         self.doors[way as usize] += 1;
+    }
+
+    pub fn add_text(&mut self, sort: texts::Sort) {
+        self.texts[sort as usize] += 1;
     }
 
     fn times(&self, met: Numbered) -> u64 {
@@ -154,6 +162,8 @@ impl Table {
         missed.extend(unlisted.map(|(words, _)| format!("no list of answers with {words}")));
         let unasked = DOORS.iter().zip(self.doors).filter(|(_, count)| *count == 0);
         missed.extend(unasked.map(|(words, _)| format!("no door asked for: {words}")));
+        let unread = TEXTS.iter().zip(self.texts).filter(|(_, count)| *count == 0);
+        missed.extend(unread.map(|(words, _)| format!("no text with {words}")));
         for (kind, met) in self.walking() {
             let unmet = met.each().into_iter().filter(|(_, count)| *count == 0);
             missed.extend(unmet.map(|(what, _)| format!("no walk of the kind {kind} has a {what}")));
@@ -221,6 +231,8 @@ impl fmt::Display for Table {
         LISTINGS.iter().zip(self.listings).try_for_each(|(words, count)| writeln!(f, "{words:<34}{:>7}", shown(count)))?;
         writeln!(f, "\ndoors asked for")?;
         DOORS.iter().zip(self.doors).try_for_each(|(words, count)| writeln!(f, "{words:<42}{:>7}", shown(count)))?;
+        writeln!(f, "\ntexts")?;
+        TEXTS.iter().zip(self.texts).try_for_each(|(words, count)| writeln!(f, "{words:<42}{:>7}", shown(count)))?;
         for (kind, met) in self.walking() {
             writeln!(f, "\nevents of {kind}")?;
             met.each().into_iter().try_for_each(|(what, count)| writeln!(f, "{what:<34}{:>7}", shown(count)))?;

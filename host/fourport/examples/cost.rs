@@ -20,6 +20,8 @@ fn calls() {
     timed("lookup", 5_000_000, || _ = black_box(raw::lookup(black_box(&program), &call, &mut 0)));
     timed("greatest variable", 5_000_000, || _ = black_box(raw::greatest(black_box(&call), &mut 0, &mut 0)));
     timed("canonical, no clauses", 500_000, || _ = black_box(raw::canonical(black_box(&program), &mut out)));
+    timed("read, no clauses", 100_000, || _ = black_box(raw::read(black_box(b""), &mut [], &mut out, &mut 0)));
+    timed("read_query of true", 100_000, || _ = black_box(raw::read_query(black_box(b""), b"true", &mut [], &mut out, &mut 0)));
     timed("first", 5_000_000, || _ = black_box(raw::first(black_box(&query), &mut out)));
     timed("forward", 2_000_000, || _ = black_box(raw::forward(black_box(&program), &call, &mut out)));
     timed("back (refused by 6)", 2_000_000, || _ = black_box(raw::back(black_box(&program), &call, &mut out)));

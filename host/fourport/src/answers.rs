@@ -228,6 +228,11 @@ fn part(bytes: &[u8], from: usize, to: usize) -> Vec<u8> {
 }
 
 impl Goal {
+    /// A goal of a record that the desk wrote.
+    pub(crate) fn written(bytes: Vec<u8>) -> Goal {
+        Goal(bytes)
+    }
+
     /// The goal's bytes.
     pub fn as_bytes(&self) -> &[u8] {
         &self.0

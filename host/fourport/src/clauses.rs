@@ -35,4 +35,9 @@ impl Clauses {
     pub fn canonical(&self) -> Result<Program, Refusal> {
         Program::canonical(self)
     }
+
+    /// A record that the desk wrote.
+    pub(crate) fn written(bytes: Vec<u8>) -> Clauses {
+        Clauses(bytes)
+    }
 }

@@ -1,8 +1,9 @@
 //! Event records, and what one asks of a single event.
 
 use crate::record::{record_type, written};
-use crate::{raw, Query, Refusal, RECORD_LIMIT};
-use layout::{byte_at, port, NO_DEFINITIONS, PORT_AT};
+use crate::{raw, Goal, Query, Refusal, RECORD_LIMIT};
+use layout::{ancestor_end, byte_at, goal_end, number_at, port, EVENT_GOAL_AT, NO_DEFINITIONS, PORT_AT};
+use std::fmt;
 
 /// The four ports.
 #[derive(Clone, Copy, Debug, PartialEq, Eq, Hash)]
@@ -15,6 +16,18 @@ pub enum Port {
     Fail,
     /// it is asked for another answer
     Redo,
+}
+
+/// The port's word, as the walk program prints it.
+impl fmt::Display for Port {
+    fn fmt(&self, f: &mut fmt::Formatter<'_>) -> fmt::Result {
+        f.write_str(match self {
+            Port::Call => "call",
+            Port::Exit => "exit",
+            Port::Fail => "fail",
+            Port::Redo => "redo",
+        })
+    }
 }
 
 /// The parts of an event that hold variables, in the order in which they are searched for the greatest, with the desk's numbers for them.
@@ -80,6 +93,38 @@ impl Event {
             port::FAIL => Port::Fail,
             _ => Port::Redo,
         }
+    }
+
+    /// The event's goal.
+    ///
+    /// ```
+    /// # use fourport::Event;
+    /// let event = Event::from_bytes([0, 7, 1, 3, 0x10, 0, 0, 0, 0])?;
+    /// assert_eq!(event.goal().as_bytes(), [0x10]);
+    /// # Ok::<(), fourport::Refusal>(())
+    /// ```
+    pub fn goal(&self) -> Goal {
+        let end = goal_end(&self.0, EVENT_GOAL_AT, |_| ());
+        Goal::written(self.0.get(EVENT_GOAL_AT..end).unwrap_or_default().to_vec())
+    }
+
+    /// How many ancestors the event's goal stands under.
+    ///
+    /// ```
+    /// # use fourport::Event;
+    /// // redo true, the first half of `true, fail`
+    /// let event = Event::from_bytes([0, 11, 1, 4, 0x10, 0, 1, 0x30, 1, 0x10, 0x11, 0, 0])?;
+    /// assert_eq!((event.ancestor_count(), event.bet_count()), (1, 0));
+    /// # Ok::<(), fourport::Refusal>(())
+    /// ```
+    pub fn ancestor_count(&self) -> u16 {
+        number_at(&self.0, goal_end(&self.0, EVENT_GOAL_AT, |_| ()))
+    }
+
+    /// How many bets there are.
+    pub fn bet_count(&self) -> u16 {
+        let ancestors_at = goal_end(&self.0, EVENT_GOAL_AT, |_| ()) + 2;
+        number_at(&self.0, (0..self.ancestor_count()).fold(ancestors_at, |at, _| ancestor_end(&self.0, at)))
     }
 
     /// S(v): what the event's bets make of a variable; refused by [`Refusal::Value`] only.

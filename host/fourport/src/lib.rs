@@ -3,6 +3,8 @@
 //! The desk walks a query through pure Prolog clauses, one port event after another (call, exit, fail, redo), forward and back. Every answer is the
 //! proved code's; this crate lends it memory and gives its numbers names. `docs/SPECIFICATION.md` says what the records are.
 //!
+//! - [`Clauses::from_text`] and [`Query::from_text`] read what a partner types. [`Names`] has the names that belong to the numbers of a record, `shown` of
+//!   each type gives its text again ([`Shown`]), and a [`TextRefusal`] says where a text is refused, and why.
 //! - [`Clauses`], [`Program`], [`Query`] and [`Event`] hold the bytes of a record that passed the gate's questions 1 to 4, so a program cannot be
 //!   lent as an event and what is lent later is never refused as a record.
 //! - [`Walk`] stands at an event and steps forward and back from there, and back to the door of its goal.
@@ -11,23 +13,28 @@
 //! - [`raw`] is the same over byte slices with an output lent by the caller: any bytes, any length, no allocation.
 //!
 //! ```
-//! use fourport::{Event, Port, Program, Query, Refusal};
+//! use fourport::{Clauses, Event, Port, Query, Refusal};
 //!
-//! // bay 1 is taken; a light is red where its bay is taken and green where it is free; which light has bay 1?
-//! let input = include_bytes!("../../../examples/one-bay.in");
-//! let (program, query) = input.split_at(2 + usize::from(u16::from_be_bytes([input[0], input[1]])));
-//! let program = Program::from_bytes(program)?;
-//! let mut walk = program.walk(Event::first(&Query::from_bytes(query)?)?);
+//! // which light has bay 1?
+//! let rules = "
+//!     taken(bay1).
+//!     light(Bay, red) :- taken(Bay).
+//!     light(Bay, green) :- free(Bay).
+//! ";
+//! let (query, names) = Query::from_text(rules, "light(bay1, Light)")?;
+//! let program = Clauses::from_text(rules)?.0.canonical()?;
+//! let mut walk = program.walk(Event::first(&query)?);
 //!
 //! assert_eq!(walk.forwards().count(), 19);
 //! assert_eq!((walk.stopped(), walk.event().port()), (Some(Refusal::Walk), Port::Exit));
 //! let answer = walk.event().value(0)?;
+//! assert_eq!(answer.shown(&names).to_string(), "red");
 //!
 //! // back to event 7, where the light was chosen, and on again
 //! assert_eq!(walk.backs().take(12).count(), 12);
-//! assert_eq!((walk.net(), walk.event().value(0)?), (7, answer));
+//! assert_eq!((walk.net(), walk.event().shown(&names).to_string()), (7, "exit Light = red".into()));
 //! assert_eq!(walk.forwards().count(), 12);
-//! # Ok::<(), Refusal>(())
+//! # Ok::<(), Box<dyn std::error::Error>>(())
 //! ```
 //!
 //! # Stack
@@ -44,22 +51,29 @@ mod answers;
 mod clauses;
 mod counts;
 mod event;
+mod names;
 mod program;
 mod query;
 pub mod raw;
 mod record;
 mod refusal;
+mod scanner;
+mod shown;
 #[allow(unsafe_code)]
 mod sys;
+mod text;
 mod walk;
 
 pub use answers::{Answer, Answers, Goal, Half, Stop, Used, ANSWERS_ROOM};
 pub use clauses::Clauses;
 pub use counts::Counts;
 pub use event::{Event, Part, Port, Term};
+pub use names::Names;
 pub use program::{Definition, Direction, Program, Run};
 pub use query::Query;
 pub use refusal::{Refusal, Which};
+pub use shown::Shown;
+pub use text::{Place, TextRefusal, WhichText, TEXT_LIMIT};
 pub use walk::{Backs, Forwards, Walk};
 
 /// The longest record, and the least output that question 5 lets pass.

@@ -22,3 +22,10 @@ record_type! {
     /// ```
     puts: raw::first
 }
+
+impl Query {
+    /// A record that the desk wrote.
+    pub(crate) fn written(bytes: Vec<u8>) -> Query {
+        Query(bytes)
+    }
+}

@@ -18,6 +18,37 @@ pub fn canonical(clauses: &[u8], out: &mut [u8]) -> u32 {
     sys::canonical(clauses, out)
 }
 
+/// A text of clauses to its clause record: 0, 20, 21, 22, 3, 5 or 10. The record stands at the start of `out`; at the start of `names` stands each
+/// name behind its length of two bytes, in order of first appearance, and `named` becomes the number of these bytes: a name's place in the list, from
+/// 0, is its number in the record. After a refusal `names` and `out` stay as they were, and `named` is 0.
+///
+/// ```
+/// let (mut names, mut out, mut named) = (vec![7; 20], vec![7; 32_768], 99);
+/// assert_eq!(fourport::raw::read(b"red(bay) :- true.", &mut names, &mut out, &mut named), 0);
+/// assert_eq!((named, &names[..11]), (10, &b"\0\x03red\0\x03bay\x07"[..]));
+/// assert_eq!(out[..15], [0, 12, 1, 0, 1, 0, 0, 1, 0, 2, 0, 1, 0, 0x10, 7]);
+/// assert_eq!(fourport::raw::read(b"red(bay).", &mut names[..9], &mut out, &mut named), 22);
+/// assert_eq!(named, 0);
+/// ```
+pub fn read(text: &[u8], names: &mut [u8], out: &mut [u8], named: &mut usize) -> u32 {
+    sys::read(text, names, out, named)
+}
+
+/// A goal, read as the body of one more clause behind those of `rules`, to its query record: 0, 20, 21, 22, 3, 5 or 10. The list of names has those
+/// of the rules first, so that a number means the same in the record of the rules and in that of the query. The query has no full stop. The two
+/// texts together have at most 65,535 bytes. After a refusal `names` and `out` stay as they were, and `named` is 0.
+///
+/// ```
+/// let (mut names, mut out, mut named) = (vec![7; 20], vec![7; 32_768], 99);
+/// assert_eq!(fourport::raw::read_query(b"red(bay).", b"red(X)", &mut names, &mut out, &mut named), 0);
+/// assert_eq!((named, &names[..11]), (10, &b"\0\x03red\0\x03bay\x07"[..]));
+/// assert_eq!(out[..11], [0, 8, 1, 0x15, 0, 0, 1, 1, 0, 0, 7]);
+/// assert_eq!(fourport::raw::read_query(b"red(bay).", b"red(X).", &mut names, &mut out, &mut named), 21);
+/// ```
+pub fn read_query(rules: &[u8], query: &[u8], names: &mut [u8], out: &mut [u8], named: &mut usize) -> u32 {
+    sys::read_query(rules, query, names, out, named)
+}
+
 /// Query to first event: 0, 11 to 13, 5 or 10.
 ///
 /// ```

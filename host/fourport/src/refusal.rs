@@ -43,6 +43,13 @@ pub enum Refusal {
     Locals,
     /// 10: has the record of the result at most 32,768 bytes? Of an answer of a query: does it fit what is left of the output?
     Fit,
+    /// 20: of a text, may a token or the space between tokens hold each of its bytes?
+    Byte,
+    /// 21: is a text of the grammar?
+    Text,
+    /// 22: has a text at most 65,535 bytes, a query with its rules, and its list of names room in the lent buffer? The typed services always lend
+    /// enough.
+    Length,
     /// 32: on the way back to a door, is a step left within the limit? It is put after all questions of the step back that would be next.
     Limit,
     /// A number that the specification does not have. The desk gives none; this is here so that nothing has to panic.
@@ -77,6 +84,9 @@ impl Refusal {
             12 => Version(Which::Event),
             13 => Grammar(Which::Event),
             14 => Rules(Which::Event),
+            20 => Byte,
+            21 => Text,
+            22 => Length,
             32 => Limit,
             other => Unknown(other),
         })
@@ -102,6 +112,9 @@ impl Refusal {
             Refusal::Value => 8,
             Refusal::Locals => 9,
             Refusal::Fit => 10,
+            Refusal::Byte => 20,
+            Refusal::Text => 21,
+            Refusal::Length => 22,
             Refusal::Limit => 32,
             Refusal::Unknown(number) => number,
         }
@@ -139,6 +152,9 @@ impl Refusal {
             Refusal::Value => "has each value at most 8,192 bytes?",
             Refusal::Locals => "has each new local a number of at most 65,535, or in a canonical form each definition at most 255 locals?",
             Refusal::Fit => "has the result at most 32,768 bytes, or an answer room in the output?",
+            Refusal::Byte => "may a token, or the space between tokens, hold each byte of the text?",
+            Refusal::Text => "is the text of the grammar?",
+            Refusal::Length => "has the text, a query with its rules, at most 65,535 bytes, and its list of names room?",
             Refusal::Limit => "is a step back left within the limit?",
             Refusal::Unknown(_) => "a question that the specification does not have",
         }

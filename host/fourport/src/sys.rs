@@ -12,6 +12,26 @@ mod archive {
 
     extern "C" {
         pub fn fourport_canonical(clauses: *const u8, clauses_len: usize, out: *mut u8, out_len: usize) -> u32;
+        pub fn fourport_read(
+            text: *const u8,
+            text_len: usize,
+            names: *mut u8,
+            names_len: usize,
+            out: *mut u8,
+            out_len: usize,
+            named: *mut usize,
+        ) -> u32;
+        pub fn fourport_read_query(
+            rules: *const u8,
+            rules_len: usize,
+            query: *const u8,
+            query_len: usize,
+            names: *mut u8,
+            names_len: usize,
+            out: *mut u8,
+            out_len: usize,
+            named: *mut usize,
+        ) -> u32;
         pub fn fourport_first(query: *const u8, query_len: usize, out: *mut u8, out_len: usize) -> u32;
         pub fn fourport_forward(program: *const u8, program_len: usize, event: *const u8, event_len: usize, out: *mut u8, out_len: usize) -> u32;
         pub fn fourport_back(program: *const u8, program_len: usize, event: *const u8, event_len: usize, out: *mut u8, out_len: usize) -> u32;
@@ -58,6 +78,19 @@ pub fn canonical(clauses: &[u8], out: &mut [u8]) -> u32 {
     // SAFETY: both pointers and lengths are of live slices, never null; `out` is borrowed alone, so it overlaps nothing and nobody else reads or
     // writes it; `clauses` is borrowed shared, so nobody writes it. The desk reads and writes within the lengths and keeps neither pointer.
     unsafe { archive::fourport_canonical(clauses.as_ptr(), clauses.len(), out.as_mut_ptr(), out.len()) }
+}
+
+pub fn read(text: &[u8], names: &mut [u8], out: &mut [u8], named: &mut usize) -> u32 {
+    let (n, o) = (names.as_mut_ptr(), out.as_mut_ptr());
+    // SAFETY: as for `canonical`: live slices, `text` borrowed shared; `names` and `out` are each borrowed alone, so neither overlaps anything, and so
+    // is `named`, an aligned, initialised number.
+    unsafe { archive::fourport_read(text.as_ptr(), text.len(), n, names.len(), o, out.len(), named) }
+}
+
+pub fn read_query(rules: &[u8], query: &[u8], names: &mut [u8], out: &mut [u8], named: &mut usize) -> u32 {
+    let (r, q, n, o) = (rules.as_ptr(), query.as_ptr(), names.as_mut_ptr(), out.as_mut_ptr());
+    // SAFETY: as for `read`; `rules` and `query` are borrowed shared and may be one another's parts, since both are only read.
+    unsafe { archive::fourport_read_query(r, rules.len(), q, query.len(), n, names.len(), o, out.len(), named) }
 }
 
 pub fn first(query: &[u8], out: &mut [u8]) -> u32 {

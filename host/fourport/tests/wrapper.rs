@@ -19,7 +19,7 @@ fn deep_query(times: usize) -> Query {
     Query::from_bytes(record(&equality(&variable(0), &nested(times, &variable(1))))).expect("a query")
 }
 
-/// The garage of examples/three-bays.txt: the sheet stands at event 119, and a planner steps back across the failed clause.
+/// The garage of examples/three-bays.md: the sheet stands at event 119, and a planner steps back across the failed clause.
 #[test]
 fn a_planner_steps_back() {
     let (program, start) = three_bays();
@@ -58,7 +58,7 @@ fn steps_runs_and_walks_agree() {
 fn a_definition_is_a_part_of_the_program() {
     let (program, start) = three_bays();
     let definition = program.definition(&start).expect("sheet has one");
-    assert_eq!(definition.predicate(), 2);
+    assert_eq!(definition.predicate(), 4);
     assert_eq!(program.as_bytes()[definition.place()].as_ptr(), definition.as_bytes().as_ptr());
     assert_eq!(definition.as_bytes().len(), 4 + definition.goal().len());
     let none = Program::from_bytes(NO_DEFINITIONS).expect("no definitions");

@@ -30,6 +30,12 @@ pub enum Question {
     Locals = 9,
     /// has the record of the result at most 32,768 bytes?
     Fit = 10,
+    /// of a text: may a token, or the space between tokens, hold each of its bytes?
+    Byte = 20,
+    /// of a text: is it of the grammar?
+    Text = 21,
+    /// of a text, or a query and its rules together: has it at most 65,535 bytes, and has its list of names room?
+    Length = 22,
     /// on the way back to a door: is a step left within the limit?
     Limit = 32,
 }

@@ -13,5 +13,6 @@ pub mod records;
 pub mod rules;
 pub mod services;
 pub mod terms;
+pub mod text;
 pub mod training;
 pub mod walk;

@@ -1,5 +1,5 @@
 //! The repository's stored cases: every line that the case programs are to print has to come out of the twin.
-//! The formats stand at the top of the scripts that write the cases (tools/record-cases, term-cases, step-cases, canonical-cases).
+//! The formats stand at the top of the scripts that write the cases (tools/record-cases, term-cases, step-cases, canonical-cases, reader-cases).
 
 use std::fs;
 use std::path::PathBuf;
@@ -8,6 +8,7 @@ use twin::records::{reader, writer, GoalShape};
 use twin::rules::Direction;
 use twin::services::{self, Reply};
 use twin::terms::{body, unifier, value};
+use twin::text::{read, read_query, ReadReply};
 
 fn file(program: &str, name: &str) -> Vec<u8> {
     let path = PathBuf::from(env!("CARGO_MANIFEST_DIR")).join("../../crates").join(program).join(name);
@@ -40,6 +41,23 @@ impl Cases {
     fn number(&mut self) -> u32 {
         number(&self.field())
     }
+
+    /// A number that is no field.
+    fn bare(&mut self) -> usize {
+        self.at += 4;
+        number(&self.input[self.at - 4..self.at]) as usize
+    }
+
+    /// A text in pieces: each a length, and bytes that stand over and over up to that length.
+    fn text(&mut self) -> Vec<u8> {
+        let count = self.bare();
+        (0..count).flat_map(|_| self.piece()).collect()
+    }
+
+    fn piece(&mut self) -> Vec<u8> {
+        let (length, bytes) = (self.bare(), self.field());
+        bytes.iter().copied().cycle().take(length).collect()
+    }
 }
 
 fn number(bytes: &[u8]) -> u32 {
@@ -55,8 +73,12 @@ fn shown(bytes: &[u8], most: usize) -> String {
     if bytes.len() <= most {
         return hexa(bytes);
     }
-    let checksum = bytes.iter().fold(0x811C_9DC5u32, |sum, &byte| (sum ^ u32::from(byte)).wrapping_mul(0x0100_0193));
-    format!("#{}:{}:{checksum:08x}", bytes.len(), hexa(&bytes[..16]))
+    format!("#{}:{}:{:08x}", bytes.len(), hexa(&bytes[..16]), checksum(bytes.iter().copied()))
+}
+
+/// FNV-1a, 32 bits.
+fn checksum(bytes: impl Iterator<Item = u8>) -> u32 {
+    bytes.fold(0x811C_9DC5, |sum, byte| (sum ^ u32::from(byte)).wrapping_mul(0x0100_0193))
 }
 
 /// Compares the lines with the stored ones; says how many there were.
@@ -236,6 +258,26 @@ fn canonical() {
         lines.push(format!("{} {number}{program}", lines.len() + 1));
     }
     compare("canonical_cases", &lines);
+}
+
+/// The line of a text: the number, the length of the list of names, the checksums of both buffers, which are lent with A5 in each byte, and what is read.
+fn read_line(reply: &ReadReply, names_room: usize, room: usize) -> String {
+    let buffer = |part: &[u8], room: usize| checksum(part.iter().copied().chain(std::iter::repeat(0xA5)).take(room));
+    let parts: String = [&reply.bytes, &reply.names].iter().filter(|part| !part.is_empty()).map(|part| format!(" {}", shown(part, 200))).collect();
+    format!("{} {} {:08x} {:08x}{parts}", reply.number, reply.names.len(), buffer(&reply.names, names_room), buffer(&reply.bytes, room))
+}
+
+#[test]
+fn texts() {
+    let mut cases = Cases::of("reader_cases");
+    let mut lines = Vec::new();
+    while let Some(kind) = cases.kind() {
+        let (rules, query) = (cases.text(), if kind == 'q' { cases.text() } else { Vec::new() });
+        let (names_room, room) = (cases.bare(), cases.bare());
+        let reply = if kind == 'q' { read_query(&rules, &query, names_room, room) } else { read(&rules, names_room, room) };
+        lines.push(format!("{} {}", lines.len() + 1, read_line(&reply, names_room, room)));
+    }
+    compare("reader_cases", &lines);
 }
 
 #[test]

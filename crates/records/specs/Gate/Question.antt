@@ -1,4 +1,4 @@
--- The questions with their numbers (SPECIFICATION 7.2 to 7.7). A refusal names its question, so it is never 0.
+-- The questions with their numbers (SPECIFICATION 7.2 to 7.7, and 13.5 of a text). A refusal names its question, so it is never 0.
 use mathlib.Core.HLevel.{Discrete}
 use Prim.Native.Nat.{ℕ, _+_}
 
@@ -37,6 +37,12 @@ pub data Question : Type 0 where
   fits : Question
   -- 32: may one step more be made?
   allowed : Question
+  -- 20: may each byte of a text stand in a token or between tokens?
+  characters : Question
+  -- 21: is the text one of the grammar?
+  syntax : Question
+  -- 22: are the text and its list of names no longer than they may be?
+  space : Question
   deriving Discrete as Question-discrete
 
 unfoldable pub question-number : Question → ℕ
@@ -49,3 +55,6 @@ question-number values = 8
 question-number locals = 9
 question-number fits = 10
 question-number allowed = 32
+question-number characters = 20
+question-number syntax = 21
+question-number space = 22

@@ -10,7 +10,7 @@ use lib.Dec.{eqb}
 use lib.ListN.{length}
 use lib.Seq.{length-front, length-take-le}
 use Rattle.records.specs.Format.Never.{never}
-use Rattle.records.specs.Gate.Question.{Question, of-program, of-event, output, possible, matches, values, locals, fits, allowed, framing, version, grammar, rules, question-number}
+use Rattle.records.specs.Gate.Question.{Question, of-program, of-event, output, possible, matches, values, locals, fits, allowed, characters, syntax, space, framing, version, grammar, rules, question-number}
 use Rattle.records.specs.Writing.Patched.{Put}
 use Rattle.records.specs.Writing.PatchedLaws.{put-front, patched-front}
 use Rattle.records.specs.declared.put.Receipt.{Receipt}
@@ -22,7 +22,7 @@ question-of n =
     cond (eqb n 1) (of-program framing) (cond (eqb n 2) (of-program version) (cond (eqb n 3) (of-program grammar) (cond (eqb n 4) (of-program rules)
     (cond (eqb n 11) (of-event framing) (cond (eqb n 12) (of-event version) (cond (eqb n 13) (of-event grammar) (cond (eqb n 14) (of-event rules)
     (cond (eqb n 5) output (cond (eqb n 6) possible (cond (eqb n 7) matches (cond (eqb n 8) values (cond (eqb n 9) locals
-    (cond (eqb n 10) fits allowed)))))))))))))
+    (cond (eqb n 10) fits (cond (eqb n 20) characters (cond (eqb n 21) syntax (cond (eqb n 22) space allowed))))))))))))))))
 
 question-of-number : (q : Question) → question-of (question-number q) ≡ q
 unfolding question-number question-of
@@ -41,6 +41,9 @@ question-of-number values = refl
 question-of-number locals = refl
 question-of-number fits = refl
 question-of-number allowed = refl
+question-of-number characters = refl
+question-of-number syntax = refl
+question-of-number space = refl
 
 -- what is given is one thing, and a refusal gives nothing
 pub gives-injective : {A : Type 0} {x y : A} → gives x ≡ gives y → x ≡ y
@@ -68,6 +71,9 @@ number-positive values h = omega (arith, h)
 number-positive locals h = omega (arith, h)
 number-positive fits h = omega (arith, h)
 number-positive allowed h = omega (arith, h)
+number-positive characters h = omega (arith, h)
+number-positive syntax h = omega (arith, h)
+number-positive space h = omega (arith, h)
 
 -- a number other than 0 is that of the question that refuses
 pub record RefusedBy {A : Type 0} (a : Answer A) (n : ℕ) : Type 0 where

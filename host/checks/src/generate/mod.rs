@@ -12,6 +12,7 @@ pub mod greatest;
 pub mod programs;
 pub mod sized;
 pub mod terms;
+pub mod texts;
 
 pub use dice::Dice;
 

@@ -12,7 +12,10 @@ mod lookups;
 mod moves;
 mod numbering;
 mod parts;
+mod queries;
 mod runs;
+mod text_limits;
+mod texts;
 mod unifiers;
 mod unreached;
 mod values;
@@ -28,8 +31,9 @@ pub struct Kind {
     pub round: fn(&mut Checker, &mut Dice) -> Checked<()>,
 }
 
-pub const KINDS: [Kind; 17] = [
+pub const KINDS: [Kind; 20] = [
     Kind { name: "boundaries", share: 0, round: boundaries::round },
+    Kind { name: "text limits", share: 0, round: |checker, _| text_limits::round(checker) },
     Kind { name: "garages", share: 0, round: garages::round },
     Kind { name: "walks", share: 200, round: walks::round },
     Kind { name: "moves", share: 150, round: moves::round },
@@ -46,4 +50,6 @@ pub const KINDS: [Kind; 17] = [
     Kind { name: "parts", share: 20, round: parts::round },
     Kind { name: "answers", share: 60, round: answers::round },
     Kind { name: "doors", share: 60, round: doors::round },
+    Kind { name: "texts", share: 60, round: texts::round },
+    Kind { name: "queries", share: 40, round: queries::round },
 ];

@@ -4,7 +4,7 @@ use super::ancestors::Ancestor;
 use super::bets::{Bet, Unifier};
 use super::event::Event;
 use super::goal::{Goal, GoalShape};
-use super::program::Program;
+use super::program::{Clause, Program};
 use super::term::{Shape, Term};
 use std::rc::Rc;
 
@@ -124,6 +124,22 @@ pub fn program(program: &Program) -> Vec<u8> {
             number(out, definition.predicate);
             out.extend([definition.arity, definition.locals]);
             goal(out, &definition.goal);
+        }
+    })
+}
+
+pub fn query(asked: &Goal) -> Vec<u8> {
+    record(|out| goal(out, asked))
+}
+
+pub fn clauses(clauses: &[Clause]) -> Vec<u8> {
+    record(|out| {
+        number(out, clauses.len() as u16);
+        for clause in clauses {
+            number(out, clause.predicate);
+            out.extend([clause.head.len() as u8, clause.variables]);
+            clause.head.iter().for_each(|part| term(out, part));
+            goal(out, &clause.goal);
         }
     })
 }

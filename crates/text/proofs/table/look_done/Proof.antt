@@ -1,0 +1,17 @@
+use borrow.Author.Needs.{needs}
+use Rattle.text.proofs.table.look_done.Statement.{statement}
+use Rattle.text.proofs.table.look_done.Tie as tie
+
+returns : tie.Need-returns
+returns c = rw (c .before .stopped .ensures, c .before .before .closed .ensures, c .before .before .before .bad .ensures, c .before .before .before .before .make .ensures) at (c .mark-row .ensures)
+
+pub look-done-spec : {M : Type 1} → statement M
+look-done-spec =
+    tie.close
+    (tie.spec
+    (λ c κs. search needs)
+    (λ c κs. search needs)
+    (λ c κs. search needs)
+    (λ c κs. search needs)
+    (λ c κs. search needs)
+    returns)

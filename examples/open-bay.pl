@@ -1,0 +1,3 @@
+light(L) :- L = over(Bay).
+ready :- Sensor = on.
+first(L) :- L = over(bay1).

@@ -1,0 +1,2 @@
+append(nil, L, L).
+append(cons(H, T), L, cons(H, R)) :- append(T, L, R).

@@ -1,0 +1,7 @@
+edge(a, b).
+edge(a, c).
+edge(b, d).
+edge(c, d).
+edge(d, e).
+path(X, X).
+path(X, Z) :- edge(X, Y), path(Y, Z).

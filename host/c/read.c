@@ -1,0 +1,72 @@
+/* Reads rules and a query as text, and prints the names by number and the two records.
+ *
+ *   rt staticlib fourport
+ *   cc -std=c99 -Wall -Wextra -Iinclude host/c/read.c target/staticlib/libfourport.a -o target/c-read
+ *   target/c-read examples/one-bay.pl examples/one-bay.query
+ */
+#include <stdio.h>
+
+#include "fourport.h"
+
+/* One byte more than the longest text, so that a longer one is seen; in the list a name takes at most three times its bytes in a text. */
+#define TEXT_ROOM (FOURPORT_TEXT + 1)
+#define NAMES_ROOM (6 * FOURPORT_TEXT)
+
+static uint8_t rules[TEXT_ROOM], query[TEXT_ROOM], names[NAMES_ROOM], out[FOURPORT_RECORD];
+
+/* The bytes of a file, as many as there is room for; none where it cannot be read. */
+static size_t read_file(const char *path, uint8_t *to)
+{
+    FILE *file = fopen(path, "rb");
+    size_t length = 0;
+    if (file == NULL) {
+        perror(path);
+        return 0;
+    }
+    length = fread(to, 1, TEXT_ROOM, file);
+    fclose(file);
+    return length;
+}
+
+static void print_names(size_t named)
+{
+    const uint8_t *at = names;
+    unsigned number = 0;
+    while (at < names + named) {
+        int length = at[0] * 256 + at[1];
+        printf("%u %.*s\n", number++, length, (const char *)at + 2);
+        at += 2 + length;
+    }
+}
+
+static void print_record(const char *words)
+{
+    size_t i, length = 2 + (size_t)out[0] * 256 + out[1];
+    printf("%s", words);
+    for (i = 0; i < length; i++) printf(" %02X", out[i]);
+    printf("\n");
+}
+
+int main(int count, char **words)
+{
+    size_t named, rules_length, query_length;
+    uint32_t number;
+    if (count != 3) {
+        fprintf(stderr, "c-read RULES QUERY\n");
+        return 2;
+    }
+    rules_length = read_file(words[1], rules);
+    query_length = read_file(words[2], query);
+    number = fourport_read(rules, rules_length, names, NAMES_ROOM, out, FOURPORT_RECORD, &named);
+    if (number == 0) {
+        print_record("clauses");
+        number = fourport_read_query(rules, rules_length, query, query_length, names, NAMES_ROOM, out, FOURPORT_RECORD, &named);
+    }
+    if (number != 0) {
+        fprintf(stderr, "refused by question %u\n", (unsigned)number);
+        return 1;
+    }
+    print_record("query");
+    print_names(named);
+    return 0;
+}

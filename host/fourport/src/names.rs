@@ -1,0 +1,114 @@
+//! The names that belong to the numbers of a record.
+
+use layout::number_at;
+use std::collections::HashMap;
+
+/// The names of a text, by number, with the text's variables where it was a query.
+///
+/// A name's place in the list, from 0, is its number as a symbol and as a predicate. The names of a query's variables are kept for whoever shows a
+/// walk: no record holds them.
+///
+/// ```
+/// use fourport::{Clauses, Query};
+/// let rules = "taken(bay1). light(Bay, red) :- taken(Bay).";
+/// let (_, names) = Clauses::from_text(rules)?;
+/// assert_eq!((names.number("red"), names.name(1), names.len()), (Some(3), Some("bay1"), 4));
+///
+/// // the names of the rules are a front of those of the query
+/// let (_, names) = Query::from_text(rules, "light(bay2, Light), light(_, Light)")?;
+/// assert_eq!((names.name(1), names.number("bay2")), (Some("bay1"), Some(4)));
+/// assert_eq!((names.variable(0), names.variable(1), names.variable_number("Light")), (Some("Light"), None, Some(0)));
+/// # Ok::<(), fourport::TextRefusal>(())
+/// ```
+#[derive(Clone, Debug, PartialEq, Eq)]
+pub struct Names {
+    list: Vec<String>,
+    numbers: HashMap<String, u16>,
+    variables: Vec<String>,
+    /// what stands before the number of a name, or of a variable, that has no name here
+    unnamed: String,
+    unnamed_variable: String,
+}
+
+/// No names at all: numbers are shown instead.
+impl Default for Names {
+    fn default() -> Names {
+        Names::new(Vec::new(), Vec::new())
+    }
+}
+
+impl Names {
+    fn new(list: Vec<String>, variables: Vec<String>) -> Names {
+        let numbers = list.iter().zip(0..).map(|(name, number)| (name.clone(), number)).collect();
+        let (unnamed, unnamed_variable) = (free("n", &list), free("V", &variables));
+        Names { list, numbers, variables, unnamed, unnamed_variable }
+    }
+
+    /// From a list that the desk wrote, and the variables of a query by number.
+    pub(crate) fn written(mut bytes: &[u8], variables: Vec<String>) -> Names {
+        let mut list = Vec::new();
+        while let Some(name) = bytes.get(2..2 + usize::from(number_at(bytes, 0))) {
+            list.push(String::from_utf8_lossy(name).into_owned());
+            bytes = &bytes[2 + name.len()..];
+        }
+        Names::new(list, variables)
+    }
+
+    /// How many names there are.
+    pub fn len(&self) -> usize {
+        self.list.len()
+    }
+
+    /// Whether there is no name.
+    pub fn is_empty(&self) -> bool {
+        self.list.is_empty()
+    }
+
+    /// The names by rising number.
+    pub fn iter(&self) -> impl Iterator<Item = &str> {
+        self.list.iter().map(String::as_str)
+    }
+
+    /// The name that has the number.
+    pub fn name(&self, number: u16) -> Option<&str> {
+        self.list.get(usize::from(number)).map(String::as_str)
+    }
+
+    /// The number that the name has.
+    pub fn number(&self, name: &str) -> Option<u16> {
+        self.numbers.get(name).copied()
+    }
+
+    /// The name that the query gave to a variable; nothing for a lone underscore, and for a variable that is not the query's.
+    pub fn variable(&self, number: u16) -> Option<&str> {
+        self.variables.get(usize::from(number)).map(String::as_str).filter(|&name| name != "_")
+    }
+
+    /// The number of the query's variable of that name.
+    pub fn variable_number(&self, name: &str) -> Option<u16> {
+        let place = self.variables.iter().position(|known| known == name && name != "_")?;
+        u16::try_from(place).ok()
+    }
+
+    /// How a name is shown: where it has none, by a word with its number that is no other name.
+    pub(crate) fn shown(&self, number: u16) -> String {
+        self.name(number).map_or_else(|| format!("{}{number}", self.unnamed), String::from)
+    }
+
+    /// How a variable of a walk is shown.
+    pub(crate) fn shown_variable(&self, number: u16) -> String {
+        self.variable(number).map_or_else(|| format!("{}{number}", self.unnamed_variable), String::from)
+    }
+}
+
+/// The letter, with as many underscores as it takes: no name is this with digits behind it.
+fn free(letter: &str, names: &[String]) -> String {
+    let mut prefix = letter.to_string();
+    let clashes = |prefix: &str, name: &String| {
+        name.strip_prefix(prefix).is_some_and(|rest| !rest.is_empty() && rest.bytes().all(|byte| byte.is_ascii_digit()))
+    };
+    while names.iter().any(|name| clashes(&prefix, name)) {
+        prefix.push('_');
+    }
+    prefix
+}

@@ -1,0 +1,2 @@
+same(X, X).
+over(X, f(X)).

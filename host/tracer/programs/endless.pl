@@ -1,0 +1,2 @@
+nat(zero).
+nat(next(N)) :- nat(N).

@@ -1,0 +1,66 @@
+"""The order of the questions: 20, 21, 22, 3, 5, 10. Each is put to the whole text before the next, so one that a text's last byte answers comes first."""
+from reader_cases.table import *
+
+SEVENTEEN = f'p{arguments(17)}.'
+VARIABLES = ['p :- ', *SIXTY_FIVE, '.']
+LONG = ('a.', 32767)  # a clause record of more than 32,768 bytes
+
+
+heading('20 first')
+no(20, f'{OUTSIDE} {FOREIGN}', words='20 before 21')
+no(20, f'a :- b {FOREIGN}', words='20 before 21, which the end would get')
+no(20, f'a. {FOREIGN} {OUTSIDE}', words='20 before 21, which comes behind it')
+no(20, ['a.', (' ', 65533), FOREIGN], words='20 before 22, the byte too many')
+no(20, ['a.', (' ', 100000), FOREIGN], words='20 before 22, far behind 65,535')
+no(20, f'a. {FOREIGN}', words='20 before 22, no room for names', names_room=0)
+no(20, SEVENTEEN + FOREIGN, words='20 before 3')
+no(20, [*VARIABLES, FOREIGN], words='20 before 3, variables')
+no(20, f'a. {FOREIGN}', words='20 before 5', room=32767)
+no(20, [('a.', 32767), FOREIGN], words='20 before 10')
+no(20, ['a', OUTSIDE, SEVENTEEN, ('a.', 40000), FOREIGN], words='20 before all', names_room=0, room=0)
+
+heading('21 before the others')
+no(21, ['a.', (' ', 65533), OUTSIDE], words='21 before 22, the byte too many')
+no(21, ['a.', (' ', 100000), OUTSIDE], words='21 before 22, far behind 65,535')
+no(21, [OUTSIDE, (' ', 100000)], words='21 before 22, the first byte')
+no(21, [('a.', 32768), 'a'], words='21 before 22, a full stop missing')
+no(21, ['a:-', ('(', 40000), 'a', (')', 39999), '.'], words='21 before 22, a bracket missing')
+no(21, f'a. b. {OUTSIDE}', words='21 before 22, no room for names', names_room=0)
+no(21, f'a. b. {OUTSIDE}', words='21 before 22, names one byte short', names_room=5)
+no(21, SEVENTEEN + OUTSIDE, words='21 before 3')
+no(21, [*VARIABLES, OUTSIDE], words='21 before 3, variables')
+no(21, OUTSIDE, words='21 before 5', room=32767)
+no(21, 'a', words='21 before 5, no output', room=0)
+no(21, [LONG, OUTSIDE], words='21 before 10')
+no(21, ['a :- true.', SEVENTEEN, 'true.'], words='21 before 3, a head true')
+no(21, [SEVENTEEN, ('a.', 40000), OUTSIDE], words='21 before all', names_room=0, room=0)
+
+heading('22 before the others')
+no(22, [SEVENTEEN, (' ', 65536)], words='22 before 3, the text')
+no(22, SEVENTEEN, words='22 before 3, names one byte short', names_room=5)
+no(3, SEVENTEEN, words='3, names that fit', names_room=6)
+no(22, [*VARIABLES, (' ', 65536)], words='22 before 3, variables and the text')
+no(22, VARIABLES, words='22 before 3, variables and names one byte short', names_room=5)
+no(3, VARIABLES, words='3, variables and names that fit', names_room=6)
+no(22, [(' ', 65536)], words='22 before 5, the text', room=32767)
+no(22, 'a.', words='22 before 5, the names', names_room=2, room=32767)
+no(22, [('a.', 32768)], words='22 before 10, the text')
+no(22, [LONG], words='22 before 10, the names', names_room=2)
+no(22, [SEVENTEEN, ('a.', 40000)], words='22 before all, the text', room=0)
+no(22, [SEVENTEEN, ('a.', 30000)], words='22 before all, the names', names_room=0, room=0)
+no(22, 'a. p :- q, r. b.', words='names that the last clause outgrows', names_room=14)
+rules('names that the last clause fills', 'a. p :- q, r. b.', 15, want=0)
+
+heading('3 before the others')
+no(3, SEVENTEEN, words='3 before 5', room=32767)
+no(3, VARIABLES, words='3 before 5, variables', room=0)
+no(3, [('a.', 30000), SEVENTEEN], words='3 before 10')
+no(3, [SEVENTEEN, ('a.', 30000)], words='3 before 10, in the first clause')
+no(3, [('a.', 30000), *VARIABLES], words='3 before 10, variables')
+no(3, [('a.', 30000), SEVENTEEN], words='3 before 5 and 10', room=0)
+
+heading('5 before 10')
+no(5, [LONG], words='5 before 10', room=32767)
+no(5, [('a.', 6553)], words='5 before 10, a record little too long', room=0)
+no(10, [LONG], words='10, an output that is long enough')
+no(10, [LONG], words='10, an output of 40,000', room=40000)

@@ -2,4 +2,8 @@
 pub mod Cells
 pub mod Emits
 pub mod EmitLaws
-pub mod EmitsLaws
+pub mod PushLaws
+pub mod StackLaws
+pub mod TurnsLaws
+pub mod CellLaws
+pub mod WritingLaws

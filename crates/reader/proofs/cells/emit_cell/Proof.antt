@@ -1,6 +1,7 @@
 use borrow.Author.Needs.{needs}
 use mathlib.Core.Path.{refl}
-use Rattle.reader.specs.Emit.EmitsLaws.{turns-as, turns-and, turns-equal, constant-cell, functor-cell, truth-cell, failure-cell, head-cell, head-functor-cell}
+use Rattle.reader.specs.Emit.TurnsLaws.{turns-as, turns-and, turns-equal}
+use Rattle.reader.specs.Emit.CellLaws.{constant-cell, functor-cell, truth-cell, failure-cell, head-cell, head-functor-cell}
 use Rattle.reader.proofs.cells.emit_cell.Statement.{statement}
 use Rattle.reader.proofs.cells.emit_cell.Tie as tie
 use Rattle.reader.proofs.cells.emit_cell.Reads as reads

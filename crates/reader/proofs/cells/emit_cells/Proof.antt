@@ -2,7 +2,7 @@ use borrow.Author.Needs.{needs}
 use mathlib.Core.Path.{refl}
 use lib.ListN.{length}
 use native.Mathlib.Omega.{arith}
-use Rattle.reader.specs.Emit.EmitsLaws.{Writing, writing-start, writing-room, writing-on, writing-done}
+use Rattle.reader.specs.Emit.WritingLaws.{Writing, writing-start, writing-room, writing-on, writing-done}
 use Rattle.reader.proofs.cells.emit_cells.Statement.{statement}
 use Rattle.reader.proofs.cells.emit_cells.Tie as tie
 use Rattle.reader.proofs.cells.emit_cells.Reads as reads

@@ -1,6 +1,6 @@
 use borrow.Author.Needs.{needs}
 use mathlib.Core.Path.{refl}
-use Rattle.reader.specs.Emit.EmitsLaws.{turns-close}
+use Rattle.reader.specs.Emit.TurnsLaws.{turns-close}
 use Rattle.reader.proofs.emit.close_bracket.Statement.{statement}
 use Rattle.reader.proofs.emit.close_bracket.Tie as tie
 use Rattle.reader.proofs.emit.close_bracket.Reads as reads

@@ -1,6 +1,6 @@
 use borrow.Author.Needs.{needs}
 use mathlib.Core.Path.{refl}
-use Rattle.reader.specs.Emit.EmitsLaws.{turns-semicolon}
+use Rattle.reader.specs.Emit.TurnsLaws.{turns-semicolon}
 use Rattle.reader.proofs.emit.disjunction.Statement.{statement}
 use Rattle.reader.proofs.emit.disjunction.Tie as tie
 use Rattle.reader.proofs.emit.disjunction.Reads as reads

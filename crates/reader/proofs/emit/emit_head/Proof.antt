@@ -1,6 +1,6 @@
 use borrow.Author.Needs.{needs}
 use mathlib.Core.Path.{refl}
-use Rattle.reader.specs.Emit.EmitsLaws.{turns-clause}
+use Rattle.reader.specs.Emit.TurnsLaws.{turns-clause}
 use Rattle.reader.proofs.emit.emit_head.Statement.{statement}
 use Rattle.reader.proofs.emit.emit_head.Tie as tie
 use Rattle.reader.proofs.emit.emit_head.Reads as reads

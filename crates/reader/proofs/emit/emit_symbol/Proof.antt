@@ -1,6 +1,6 @@
 use borrow.Author.Needs.{needs}
 use mathlib.Core.Path.{refl}
-use Rattle.reader.specs.Emit.EmitsLaws.{turns-symbol}
+use Rattle.reader.specs.Emit.TurnsLaws.{turns-symbol}
 use Rattle.reader.proofs.emit.emit_symbol.Statement.{statement}
 use Rattle.reader.proofs.emit.emit_symbol.Tie as tie
 use Rattle.reader.proofs.emit.emit_symbol.Reads as reads

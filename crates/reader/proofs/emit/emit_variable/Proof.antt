@@ -1,5 +1,6 @@
 use borrow.Author.Needs.{needs}
-use Rattle.reader.specs.Emit.EmitsLaws.{turns-as, turns-bytes, variable-cell}
+use Rattle.reader.specs.Emit.TurnsLaws.{turns-as, turns-bytes}
+use Rattle.reader.specs.Emit.CellLaws.{variable-cell}
 use Rattle.reader.proofs.emit.emit_variable.Statement.{statement}
 use Rattle.reader.proofs.emit.emit_variable.Tie as tie
 use Rattle.reader.proofs.emit.emit_variable.Reads as reads

@@ -1,6 +1,6 @@
 use borrow.Author.Needs.{needs}
 use mathlib.Core.Path.{refl}
-use Rattle.reader.specs.Emit.EmitsLaws.{turns-end}
+use Rattle.reader.specs.Emit.TurnsLaws.{turns-end}
 use Rattle.reader.proofs.emit.end_clause.Statement.{statement}
 use Rattle.reader.proofs.emit.end_clause.Tie as tie
 use Rattle.reader.proofs.emit.end_clause.Reads as reads

@@ -1,5 +1,6 @@
 use borrow.Author.Needs.{needs}
-use Rattle.reader.specs.Emit.EmitsLaws.{turns-as, turns-bytes, turns-then, fact-cell}
+use Rattle.reader.specs.Emit.TurnsLaws.{turns-as, turns-bytes, turns-then}
+use Rattle.reader.specs.Emit.CellLaws.{fact-cell}
 use Rattle.reader.proofs.emit.end_fact.Statement.{statement}
 use Rattle.reader.proofs.emit.end_fact.Tie as tie
 use Rattle.reader.proofs.emit.end_fact.Reads as reads

@@ -1,6 +1,7 @@
 use borrow.Author.Needs.{needs}
 use mathlib.Core.Path.{refl}
-use Rattle.reader.specs.Emit.EmitsLaws.{turns-as, turns-then, turns-kind, goal-constant-cell}
+use Rattle.reader.specs.Emit.TurnsLaws.{turns-as, turns-then, turns-kind}
+use Rattle.reader.specs.Emit.CellLaws.{goal-constant-cell}
 use Rattle.reader.specs.Emit.Emits.{with-symbol}
 use Rattle.reader.proofs.emit.goal_constant.Statement.{statement}
 use Rattle.reader.proofs.emit.goal_constant.Tie as tie

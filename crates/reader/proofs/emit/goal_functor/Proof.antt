@@ -1,7 +1,8 @@
 use borrow.Author.Needs.{needs}
 use native.Mathlib.Omega.{arith}
 use mathlib.Core.List.{[]}
-use Rattle.reader.specs.Emit.EmitsLaws.{turns-as, turns-then, turns-kind, goal-functor-cell}
+use Rattle.reader.specs.Emit.TurnsLaws.{turns-as, turns-then, turns-kind}
+use Rattle.reader.specs.Emit.CellLaws.{goal-functor-cell}
 use Rattle.reader.specs.Emit.Emits.{with-symbol, with-top}
 use Rattle.reader.proofs.emit.goal_functor.Statement.{statement}
 use Rattle.reader.proofs.emit.goal_functor.Tie as tie

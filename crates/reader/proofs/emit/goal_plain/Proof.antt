@@ -1,6 +1,6 @@
 use borrow.Author.Needs.{needs}
 use native.Mathlib.Omega.{arith}
-use Rattle.reader.specs.Emit.EmitsLaws.{turns-bytes, turns-then}
+use Rattle.reader.specs.Emit.TurnsLaws.{turns-bytes, turns-then}
 use Rattle.reader.proofs.emit.goal_plain.Statement.{statement}
 use Rattle.reader.proofs.emit.goal_plain.Tie as tie
 use Rattle.reader.proofs.emit.goal_plain.Reads as reads

@@ -1,6 +1,7 @@
 use borrow.Author.Needs.{needs}
 use native.Mathlib.Omega.{arith}
-use Rattle.reader.specs.Emit.EmitsLaws.{turns-as, turns-bytes, turns-then, goal-variable-cell}
+use Rattle.reader.specs.Emit.TurnsLaws.{turns-as, turns-bytes, turns-then}
+use Rattle.reader.specs.Emit.CellLaws.{goal-variable-cell}
 use Rattle.reader.proofs.emit.goal_variable.Statement.{statement}
 use Rattle.reader.proofs.emit.goal_variable.Tie as tie
 use Rattle.reader.proofs.emit.goal_variable.Reads as reads

@@ -1,6 +1,6 @@
 use borrow.Author.Needs.{needs}
 use mathlib.Core.Path.{_∙_}
-use Rattle.reader.specs.Emit.EmitsLaws.{turns-top}
+use Rattle.reader.specs.Emit.TurnsLaws.{turns-top}
 use Rattle.reader.proofs.emit.head_functor.Statement.{statement}
 use Rattle.reader.proofs.emit.head_functor.Tie as tie
 use Rattle.reader.proofs.emit.head_functor.Reads as reads

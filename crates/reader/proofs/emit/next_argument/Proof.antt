@@ -1,6 +1,6 @@
 use borrow.Author.Needs.{needs}
 use native.Mathlib.Omega.{arith}
-use Rattle.reader.specs.Emit.EmitsLaws.{turns-first, turns-next, turns-many}
+use Rattle.reader.specs.Emit.TurnsLaws.{turns-first, turns-next, turns-many}
 use Rattle.reader.proofs.emit.next_argument.Statement.{statement}
 use Rattle.reader.proofs.emit.next_argument.Tie as tie
 use Rattle.reader.proofs.emit.next_argument.Reads as reads

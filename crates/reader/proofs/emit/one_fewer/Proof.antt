@@ -1,6 +1,6 @@
 use borrow.Author.Needs.{needs}
 use native.Mathlib.Omega.{arith}
-use Rattle.reader.specs.Emit.EmitsLaws.{one-fewer-none}
+use Rattle.reader.specs.Emit.StackLaws.{one-fewer-none}
 use Rattle.reader.proofs.emit.one_fewer.Statement.{statement}
 use Rattle.reader.proofs.emit.one_fewer.Tie as tie
 use Rattle.reader.proofs.emit.one_fewer.Reads as reads

@@ -1,7 +1,7 @@
 use borrow.Author.Needs.{needs}
 use native.Mathlib.Omega.{arith}
 use mathlib.Core.List.{[]}
-use Rattle.reader.specs.Emit.EmitsLaws.{turns-then}
+use Rattle.reader.specs.Emit.TurnsLaws.{turns-then}
 use Rattle.reader.proofs.emit.open_bracket.Statement.{statement}
 use Rattle.reader.proofs.emit.open_bracket.Tie as tie
 use Rattle.reader.proofs.emit.open_bracket.Reads as reads

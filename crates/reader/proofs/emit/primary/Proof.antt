@@ -1,6 +1,6 @@
 use borrow.Author.Needs.{needs}
 use mathlib.Core.Path.{refl}
-use Rattle.reader.specs.Emit.EmitsLaws.{turns-primary}
+use Rattle.reader.specs.Emit.TurnsLaws.{turns-primary}
 use Rattle.reader.proofs.emit.primary.Statement.{statement}
 use Rattle.reader.proofs.emit.primary.Tie as tie
 use Rattle.reader.proofs.emit.primary.Reads as reads

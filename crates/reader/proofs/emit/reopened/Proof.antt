@@ -1,7 +1,7 @@
 use borrow.Author.Needs.{needs}
 use mathlib.Core.Path.{refl}
 use native.Mathlib.Omega.{arith}
-use Rattle.reader.specs.Emit.EmitsLaws.{turns-reopened-none, turns-reopened}
+use Rattle.reader.specs.Emit.TurnsLaws.{turns-reopened-none, turns-reopened}
 use Rattle.reader.proofs.emit.reopened.Statement.{statement}
 use Rattle.reader.proofs.emit.reopened.Tie as tie
 use Rattle.reader.proofs.emit.reopened.Reads as reads

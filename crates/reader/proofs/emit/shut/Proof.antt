@@ -1,6 +1,6 @@
 use borrow.Author.Needs.{needs}
 use mathlib.Core.Path.{refl}
-use Rattle.reader.specs.Emit.EmitsLaws.{turns-shut}
+use Rattle.reader.specs.Emit.TurnsLaws.{turns-shut}
 use Rattle.reader.proofs.emit.shut.Statement.{statement}
 use Rattle.reader.proofs.emit.shut.Tie as tie
 use Rattle.reader.proofs.emit.shut.Reads as reads

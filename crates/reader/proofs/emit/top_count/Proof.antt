@@ -1,6 +1,6 @@
 use borrow.Author.Needs.{needs}
 use native.Mathlib.Omega.{arith}
-use Rattle.reader.specs.Emit.EmitsLaws.{stacked-none, stacked-top}
+use Rattle.reader.specs.Emit.StackLaws.{stacked-none, stacked-top}
 use Rattle.reader.proofs.emit.top_count.Statement.{statement}
 use Rattle.reader.proofs.emit.top_count.Tie as tie
 use Rattle.reader.proofs.emit.top_count.Reads as reads

@@ -1,6 +1,6 @@
 use borrow.Author.Needs.{needs}
 use mathlib.Core.Path.{refl}
-use Rattle.reader.specs.Emit.EmitsLaws.{turns-whole}
+use Rattle.reader.specs.Emit.TurnsLaws.{turns-whole}
 use Rattle.reader.proofs.emit.whole.Statement.{statement}
 use Rattle.reader.proofs.emit.whole.Tie as tie
 use Rattle.reader.proofs.emit.whole.Reads as reads

@@ -1,6 +1,6 @@
 use borrow.Author.Needs.{needs}
 use native.Mathlib.Omega.{arith}
-use Rattle.reader.specs.Emit.EmitsLaws.{pushes-full, pushes-one}
+use Rattle.reader.specs.Emit.PushLaws.{pushes-full, pushes-one}
 use Rattle.reader.proofs.push.push.Statement.{statement}
 use Rattle.reader.proofs.push.push.Tie as tie
 use Rattle.reader.proofs.push.push.Reads as reads

@@ -1,5 +1,5 @@
 use borrow.Author.Needs.{needs}
-use Rattle.reader.specs.Emit.EmitsLaws.{pushes-none}
+use Rattle.reader.specs.Emit.PushLaws.{pushes-none}
 use Rattle.reader.proofs.push.push_due.Statement.{statement}
 use Rattle.reader.proofs.push.push_due.Tie as tie
 use Rattle.reader.proofs.push.push_due.Reads as reads

@@ -1,5 +1,5 @@
 use borrow.Author.Needs.{needs}
-use Rattle.reader.specs.Emit.EmitsLaws.{pushes-then}
+use Rattle.reader.specs.Emit.PushLaws.{pushes-then}
 use Rattle.reader.proofs.push.push_word.Statement.{statement}
 use Rattle.reader.proofs.push.push_word.Tie as tie
 use Rattle.reader.proofs.push.push_word.Reads as reads

@@ -1,64 +1,18 @@
--- Laws of what code holds of an emission: bytes pushed one behind the other, and stacks.
+-- Laws of what code makes of an emission: bytes in front, symbols and heads, what is taken from a stack and put there, flags.
 use mathlib.Core.Path.{_≡_, refl, sym, ap, ap₂, _∙_}
 use mathlib.Core.Bool.{Bool, true, false, cond, _||_, not}
 use mathlib.Core.List.{List, [], _∷_, _++_, append-assoc, head-eq-of-cons-eq, tail-eq-of-cons-eq}
-use Prim.Native.Nat.{ℕ, zero, suc, _+_, _-_, _≤_, _<_, min}
+use Prim.Native.Nat.{ℕ, suc, _+_, _-_, _≤_, _<_, min}
 use native.Mathlib.Omega.{arith}
 use lib.Dec.{eqb, leb}
-use borrow.Author.Tests.{le-leb, lt-leb, leb-true, leb-false}
 use native.Mathlib.Numerals.{add-one}
-use lib.ListN.{length, drop, getD, set, length-set}
-use lib.Seq.{getD-set-same, getD-set-other}
-use Rattle.records.specs.Format.Never.{never}
-use Rattle.records.specs.Format.Encode.{word}
-use Rattle.reader.specs.Items.Roles.{coded-role}
-use Rattle.reader.specs.Emit.Cells.{Cell, Emission, emission, Behind, behind, cell, emit-cell, emitted, counted-on, reopened, due, whole, primary, headed, shown-clause, top, popped}
-use Rattle.reader.specs.Emit.Emits.{Held, Pushes, stacked, capped, all-capped, behind-code, behind-codes, Emits, Turns, with-bytes, with-symbol, with-clause, with-top, placed, one-fewer, whole-state, primary-state, over-state, headed-state, starting-kind, shut-state, close-state, reopened-state, semicolon-state, end-state, and-state, equal-state, start-state, Room, Shallow, table-cells, EmittedCells}
+use lib.ListN.{length, getD, set, length-set}
+use Rattle.reader.specs.Emit.Cells.{Emission, emission, behind, cell, emit-cell, reopened, due, whole, primary, headed, shown-clause, top, popped}
+use Rattle.reader.specs.Emit.Emits.{Pushes, stacked, capped, all-capped, behind-code, behind-codes, Emits, Turns, with-bytes, with-symbol, with-clause, with-top, placed, one-fewer, whole-state, primary-state, over-state, headed-state, starting-kind, shut-state, close-state, reopened-state, semicolon-state, end-state, and-state, equal-state}
 use Rattle.reader.specs.declared.emit.Emission.{Emission as State}
-use Rattle.reader.specs.declared.roles.Role.the-variants.{Variable, Constant, Functor, GoalVariable, GoalConstant, GoalFunctor, Truth, Failure, Head, HeadFunctor, Shut, Next, And, Or, Equal, Open, Close, Neck, Fact, Rule}
-
--- nothing, and one thing behind another
-pub pushes-none : {out : List ℕ} {at : ℕ} → Pushes out at [] out at
-pushes-none = record { keeps = refl; lower = omega arith; pushed = λ o l h. h }
-
-pub pushes-then : {before between after : List ℕ} {at next end : ℕ} {a b : List ℕ} → Pushes before at b between next → Pushes between next a after end → Pushes before at (a ++ b) after end
-pushes-then {a = a} {b} p q = record {
-  keeps = q .keeps ∙ p .keeps;
-  lower = omega (arith, p .lower, q .lower);
-  pushed = λ o l h. rw (append-assoc a b l) (q .pushed o (b ++ l) (p .pushed o l h));
-}
-
--- a byte that no longer fits, and one that does
-pub pushes-full : {out : List ℕ} {at b : ℕ} → at ≡ 0 → Pushes out at (b ∷ []) out 0
-pushes-full {out} e = record { keeps = refl; lower = omega arith; pushed = λ o l h. record { place = omega (arith, h .place); same = λ f k. absurd (omega arith) } }
-
-drop-all : (l : List ℕ) → drop (length l) l ≡ []
-drop-all [] = refl
-drop-all (x ∷ l) = drop-all l
-
-drop-set : (l : List ℕ) (n x : ℕ) → n < length l → drop n (set l n x) ≡ x ∷ drop (suc n) l
-drop-set [] n x h = absurd (omega arith)
-drop-set (y ∷ l) zero x h = refl
-drop-set (y ∷ l) (suc n) x h = drop-set l n x (omega arith)
-
-pub pushes-one : {out : List ℕ} {at b : ℕ} → 0 < at → at ≤ length out → Pushes out at (b ∷ []) (set out (at - 1) b) (at - 1)
-pushes-one {out} {at} {b} h k = record {
-  keeps = length-set out (at - 1) b;
-  lower = omega arith;
-  pushed = λ o l d. record {
-    place = omega (arith, d .place, length-set out (at - 1) b);
-    same = λ f z. let up : suc (at - 1) ≡ at = omega arith in drop-set out (at - 1) b (omega arith) ∙ ap (λ (x : List ℕ). b ∷ x) (ap (λ (n : ℕ). drop n out) up ∙ d .same f h);
-  };
-}
-
--- a byte where it is due
-pub due-append : (b : Bool) (x : ℕ) (l : List ℕ) → due b x l ≡ due b x [] ++ l
-due-append true x l = refl
-due-append false x l = refl
-
--- other bytes and another `over` that say the same where it is false
-pub held-as : {over : Bool} {out : List ℕ} {at : ℕ} {l : List ℕ} (now : Bool) (m : List ℕ) → length m ≡ length l → (now ≡ false → over ≡ false) → (now ≡ false → l ≡ m) → Held over out at l → Held now out at m
-held-as {out = out} now m e f g h = record { place = h .place ∙ ap (λ (n : ℕ). length out - n) (sym e); same = λ i k. h .same (f i) k ∙ g i }
+use Rattle.reader.specs.declared.roles.Role.the-variants.{Shut, Next, And, Or, Equal, Close, Rule}
+use Rattle.reader.specs.Emit.PushLaws.{pushes-then, due-append, held-as}
+use Rattle.reader.specs.Emit.StackLaws.{capped-over, capped-within, stacked-popped, stacked-length, stacked-suc, stacked-push, capped-top, capped-popped}
 
 -- Turns: one behind the other, and the same for what makes the same of an emission
 module _ {o1 k1 b1 o2 k2 b2 : List ℕ} {e d : State} where
@@ -134,21 +88,6 @@ module _ {out after : List ℕ} {e : State} {next : ℕ} (counts brackets : List
         variables-are = h .variables-are;
       })
 
--- a count over 16 as a byte
-capped-over : (k : ℕ) → leb 17 (capped k) ≡ not (leb k 16)
-capped-over k = go (leb k 16) refl
-  where
-    go : (b : Bool) → leb k 16 ≡ b → leb 17 (capped k) ≡ not b
-    go true h = lt-leb 17 (capped k) (omega (arith, leb-true k 16 h))
-    go false h = le-leb 17 (capped k) (omega (arith, leb-false k 16 h))
-
-within : (k : ℕ) (o : Bool) → (not (leb k 16) || o) ≡ false → (o ≡ false) × (capped k ≡ k)
-within k o h = go (leb k 16) refl h
-  where
-    go : (b : Bool) → leb k 16 ≡ b → (not b || o) ≡ false → (o ≡ false) × (capped k ≡ k)
-    go true i j = (j, omega (arith, leb-true k 16 i))
-    go false i j = never j
-
 module _ {out after : List ℕ} {e : State} {next : ℕ} (k : ℕ) {count : ℕ} (same : count ≡ capped k) (counts brackets : List ℕ) where
   pub turns-symbol : {kind a : ℕ} {r : State} → Pushes out (e .at) (headed kind a count []) after next → r ≡ over-state e next (leb 17 count || e .over)
       → Turns out counts brackets e after counts brackets r (with-symbol kind a k)
@@ -156,7 +95,7 @@ module _ {out after : List ℕ} {e : State} {next : ℕ} (k : ℕ) {count : ℕ}
     where
       go : (x : Emission) → Emits out counts brackets e x → Emits after counts brackets r (with-symbol kind a k x)
       go (emission l o n ks bs c s q v) h = rw i (record {
-        bytes = held-as (not (leb k 16) || o) (headed kind a k l) refl (λ f. within k o f .0) (λ f. ap (λ (m : ℕ). headed kind a m l) (same ∙ within k o f .1)) (p .pushed o l (h .bytes));
+        bytes = held-as (not (leb k 16) || o) (headed kind a k l) refl (λ f. capped-within k o f .0) (λ f. ap (λ (m : ℕ). headed kind a m l) (same ∙ capped-within k o f .1)) (p .pushed o l (h .bytes));
         over-is = rw (same, capped-over k, h .over-is) refl;
         clauses-are = h .clauses-are;
         counts-are = h .counts-are;
@@ -173,7 +112,7 @@ module _ {out after : List ℕ} {e : State} {next : ℕ} (k : ℕ) {count : ℕ}
     where
       go : (x : Emission) → Emits out counts brackets e x → Emits after counts brackets r (with-clause a k x)
       go (emission l o n ks bs c s q v) h = rw i (record {
-        bytes = held-as (not (leb k 16) || o) (shown-clause a k v l) refl (λ f. within k o f .0) (λ f. rw (same, within k o f .1, h .variables-are) refl) (p .pushed o l (h .bytes));
+        bytes = held-as (not (leb k 16) || o) (shown-clause a k v l) refl (λ f. capped-within k o f .0) (λ f. rw (same, capped-within k o f .1, h .variables-are) refl) (p .pushed o l (h .bytes));
         over-is = rw (same, capped-over k, h .over-is) refl;
         clauses-are = h .clauses-are;
         counts-are = h .counts-are;
@@ -183,53 +122,6 @@ module _ {out after : List ℕ} {e : State} {next : ℕ} (k : ℕ) {count : ℕ}
         equal-is = h .equal-is;
         variables-are = refl;
       })
-
--- Stacks.
-pub stacked-none : (table : List ℕ) (n : ℕ) → n ≡ 0 → 0 ≡ top (stacked table n)
-unfolding stacked
-stacked-none table n e = rw e refl
-
-pub one-fewer-none : (e : State) → e .terms ≡ 0 → e ≡ one-fewer e
-one-fewer-none e z =
-    let d : e .terms ≡ e .terms - 1 = omega arith in
-    ap (λ (n : ℕ). record { at = e .at; over = e .over; clauses = e .clauses; terms = n; goals = e .goals; comma = e .comma; semicolon = e .semicolon; equal = e .equal; variables = e .variables }) d
-
-pub stacked-top : (table : List ℕ) (n : ℕ) → 0 < n → getD table (n - 1) 0 ≡ top (stacked table n)
-unfolding stacked
-stacked-top table zero h = absurd (omega arith)
-stacked-top table (suc n) h = ap (λ (k : ℕ). getD table k 0) (omega arith)
-
-stacked-popped : (table : List ℕ) (n : ℕ) → stacked table (n - 1) ≡ popped (stacked table n)
-unfolding stacked
-stacked-popped table zero = refl
-stacked-popped table (suc n) = let e : suc n - 1 ≡ n = omega arith in ap (stacked table) e
-
-pub stacked-length : (table : List ℕ) (n : ℕ) → length (stacked table n) ≡ n
-unfolding stacked
-stacked-length table zero = refl
-stacked-length table (suc n) = ap suc (stacked-length table n)
-
-stacked-suc : (table : List ℕ) (n : ℕ) → stacked table (n + 1) ≡ getD table n 0 ∷ stacked table n
-unfolding stacked
-stacked-suc table n = rw add-one refl
-
-stacked-set : (table : List ℕ) (k n x : ℕ) → n ≤ k → stacked (set table k x) n ≡ stacked table n
-unfolding stacked
-stacked-set table k zero x h = refl
-stacked-set table k (suc n) x h = rw (stacked-set table k n x (omega arith)) (ap (λ (y : ℕ). y ∷ stacked table n) (getD-set-other table k n x 0 (λ e. omega arith)))
-
--- one more on top
-pub stacked-push : (table : List ℕ) (n x : ℕ) → n < length table → stacked (set table n x) (n + 1) ≡ x ∷ stacked table n
-unfolding stacked
-stacked-push table n x h = rw (add-one, stacked-set table n n x (omega arith), getD-set-same table n x 0 h) refl
-
-capped-top : (ks : List ℕ) → top (all-capped ks) ≡ capped (top ks)
-capped-top [] = refl
-capped-top (k ∷ ks) = refl
-
-capped-popped : (ks : List ℕ) → popped (all-capped ks) ≡ all-capped (popped ks)
-capped-popped [] = refl
-capped-popped (k ∷ ks) = refl
 
 -- what takes the top count
 pub turns-top : {out counts brackets after : List ℕ} {e d r : State} {f : ℕ → Emission → Emission} → d ≡ one-fewer e
@@ -485,156 +377,3 @@ module _ (out : List ℕ) where
             equal-is = h .equal-is;
             variables-are = h .variables-are;
           })
-
--- what code puts together for a cell is what the cell makes of an emission
-module _ (a x : ℕ) where
-  pub variable-cell : (y : Emission) → with-bytes (0x01 ∷ word x) y ≡ emit-cell (cell Variable a x) y
-  variable-cell (emission l o n ks bs c s q v) = refl
-
-  pub goal-variable-cell : (y : Emission) → primary (with-bytes (0x01 ∷ word x) y) ≡ emit-cell (cell GoalVariable a x) y
-  goal-variable-cell (emission l o n ks bs c s q v) = refl
-
-  pub constant-cell : (y : Emission) → with-symbol 0x02 a 0 y ≡ emit-cell (cell Constant a x) y
-  constant-cell (emission l o n ks bs c s q v) = refl
-
-  pub functor-cell : (y : Emission) → with-top (with-symbol 0x02 a) y ≡ emit-cell (cell Functor a x) y
-  functor-cell (emission l o n ks bs c s q v) = refl
-
-  pub goal-constant-cell : (y : Emission) → primary (with-symbol (starting-kind y) a 0 y) ≡ emit-cell (cell GoalConstant a x) y
-  goal-constant-cell (emission l o n ks bs c s q v) = refl
-
-  pub goal-functor-cell : (y : Emission) → primary (with-top (with-symbol (starting-kind y) a) y) ≡ emit-cell (cell GoalFunctor a x) y
-  goal-functor-cell (emission l o n ks bs c s q v) = refl
-
-  pub truth-cell : (y : Emission) → primary (with-bytes (0x10 ∷ []) y) ≡ emit-cell (cell Truth a x) y
-  truth-cell (emission l o n ks bs c s q v) = refl
-
-  pub failure-cell : (y : Emission) → primary (with-bytes (0x11 ∷ []) y) ≡ emit-cell (cell Failure a x) y
-  failure-cell (emission l o n ks bs c s q v) = refl
-
-  pub head-cell : (y : Emission) → with-clause a 0 y ≡ emit-cell (cell Head a x) y
-  head-cell (emission l o n ks bs c s q v) = refl
-
-  pub head-functor-cell : (y : Emission) → with-top (with-clause a) y ≡ emit-cell (cell HeadFunctor a x) y
-  head-functor-cell (emission l o n ks bs c s q v) = refl
-
-  pub fact-cell : (y : Emission) → emit-cell (cell Rule a x) (with-bytes (0x10 ∷ []) y) ≡ emit-cell (cell Fact a x) y
-  fact-cell (emission l o n ks bs c s q v) = refl
-
--- Room: a cell opens one term, one bracket and one clause at most.
-popped-few : (m : ℕ) (ks : List ℕ) → length ks ≤ m → length (popped ks) ≤ suc m
-popped-few m [] h = omega arith
-popped-few m (k ∷ ks) h = omega arith
-
-counted-few : (m : ℕ) (ks : List ℕ) → length ks ≤ m → length (counted-on ks) ≤ suc m
-counted-few m [] h = omega arith
-counted-few m (k ∷ ks) h = omega arith
-
-shallow-cell : (m : ℕ) (c : Cell) (x : Emission) → Shallow m x → Shallow (suc m) (emit-cell c x)
-shallow-cell m (cell Variable a w) (emission l o n ks bs c s q v) h = (omega (arith, h .0), omega (arith, h .1), omega (arith, h .2))
-shallow-cell m (cell Constant a w) (emission l o n ks bs c s q v) h = (omega (arith, h .0), omega (arith, h .1), omega (arith, h .2))
-shallow-cell m (cell Functor a w) (emission l o n ks bs c s q v) h = (omega (arith, h .0), popped-few m ks (h .1), omega (arith, h .2))
-shallow-cell m (cell GoalVariable a w) (emission l o n ks bs c s q v) h = (omega (arith, h .0), omega (arith, h .1), omega (arith, h .2))
-shallow-cell m (cell GoalConstant a w) (emission l o n ks bs c s q v) h = (omega (arith, h .0), omega (arith, h .1), omega (arith, h .2))
-shallow-cell m (cell GoalFunctor a w) (emission l o n ks bs c s q v) h = (omega (arith, h .0), popped-few m ks (h .1), omega (arith, h .2))
-shallow-cell m (cell Truth a w) (emission l o n ks bs c s q v) h = (omega (arith, h .0), omega (arith, h .1), omega (arith, h .2))
-shallow-cell m (cell Failure a w) (emission l o n ks bs c s q v) h = (omega (arith, h .0), omega (arith, h .1), omega (arith, h .2))
-shallow-cell m (cell Head a w) (emission l o n ks bs c s q v) h = (omega (arith, h .0), omega (arith, h .1), omega (arith, h .2))
-shallow-cell m (cell HeadFunctor a w) (emission l o n ks bs c s q v) h = (omega (arith, h .0), popped-few m ks (h .1), omega (arith, h .2))
-shallow-cell m (cell Shut a w) (emission l o n ks bs c s q v) h = (omega (arith, h .0), omega (arith, h .1), omega (arith, h .2))
-shallow-cell m (cell Next a w) (emission l o n ks bs c s q v) h = (omega (arith, h .0), counted-few m ks (h .1), omega (arith, h .2))
-shallow-cell m (cell And a w) (emission l o n ks bs c s q v) h = (omega (arith, h .0), omega (arith, h .1), omega (arith, h .2))
-shallow-cell m (cell Or a w) (emission l o n ks bs c s q v) h = (omega (arith, h .0), omega (arith, h .1), omega (arith, h .2))
-shallow-cell m (cell Equal a w) (emission l o n ks bs c s q v) h = (omega (arith, h .0), omega (arith, h .1), omega (arith, h .2))
-shallow-cell m (cell Open a w) (emission l o n ks [] c s q v) h = (omega (arith, h .0), omega (arith, h .1), omega (arith, h .2))
-shallow-cell m (cell Open a w) (emission l o n ks (behind x y ∷ bs) c s q v) h = (omega (arith, h .0), omega (arith, h .1), omega (arith, h .2))
-shallow-cell m (cell Close a w) (emission l o n ks bs c s q v) h = (omega (arith, h .0), omega (arith, h .1), omega (arith, h .2))
-shallow-cell m (cell Neck a w) (emission l o n ks bs c s q v) h = (omega (arith, h .0), omega (arith, h .1), omega (arith, h .2))
-shallow-cell m (cell Fact a w) (emission l o n ks bs c s q v) h = (omega (arith, h .0), omega (arith, h .1), omega (arith, h .2))
-shallow-cell m (cell Rule a w) (emission l o n ks bs c s q v) h = (omega (arith, h .0), omega (arith, h .1), omega (arith, h .2))
-
-shallow : (cs : List Cell) → Shallow (length cs) (emitted cs)
-unfolding emitted
-shallow [] = (omega arith, omega arith, omega arith)
-shallow (c ∷ cs) = shallow-cell (length cs) c (emitted cs) (shallow cs)
-
-table-length : (roles names variables : List ℕ) (i n : ℕ) → length (table-cells roles names variables i n) ≡ n
-unfolding table-cells
-table-length roles names variables i zero = refl
-table-length roles names variables i (suc n) = ap suc (table-length roles names variables (suc i) n)
-
-length-capped : (ks : List ℕ) → length (all-capped ks) ≡ length ks
-length-capped [] = refl
-length-capped (k ∷ ks) = ap suc (length-capped ks)
-
-length-codes : (bs : List Behind) → length (behind-codes bs) ≡ length bs
-length-codes [] = refl
-length-codes (b ∷ bs) = ap suc (length-codes bs)
-
-pub emits-room : {out counts brackets : List ℕ} {e : State} (x : Emission) (m : ℕ) → Shallow m x → Emits out counts brackets e x → e .at ≤ length out → m < length counts → m < length brackets → m < 65536
-    → Room out counts brackets e
-emits-room {counts = counts} {brackets} {e} (emission l o n ks bs c s q v) m d h i j k f = record {
-  bytes = i;
-  terms = omega (arith, stacked-length counts (e .terms), ap length (h .counts-are), length-capped ks, d .1);
-  goals = omega (arith, stacked-length brackets (e .goals), ap length (h .brackets-are), length-codes bs, d .2);
-  clauses = omega (arith, h .clauses-are, d .0);
-}
-
--- what stands while cells are written: those from i on are
-pub record Writing (room : ℕ) (roles names variables : List ℕ) (count : ℕ) (out counts brackets : List ℕ) (e : State) (i : ℕ) : Type 0 where
-  pub few : i ≤ count
-  pub keeps : length out ≡ room
-  pub terms : length counts ≡ 65536
-  pub goals : length brackets ≡ 65536
-  pub within : e .at ≤ length out
-  pub emits : Emits out counts brackets e (emitted (table-cells roles names variables i (count - i)))
-
-module _ {room : ℕ} {roles names variables : List ℕ} {count : ℕ} where
-  pub writing-room : {out counts brackets : List ℕ} {e : State} {i : ℕ} → count ≤ 65535 → Writing room roles names variables count out counts brackets e i → Room out counts brackets e
-  writing-room {out} {counts} {brackets} {e} {i} h w =
-      let cs = table-cells roles names variables i (count - i) in
-      let n : length cs ≡ count - i = table-length roles names variables i (count - i) in
-      emits-room (emitted cs) (length cs) (shallow cs) (w .emits) (w .within) (omega (arith, w .terms)) (omega (arith, w .goals)) (omega arith)
-
-  pub writing-start : {out counts brackets : List ℕ} {e : State} → length out ≡ room → length counts ≡ 65536 → length brackets ≡ 65536 → e ≡ start-state (length out)
-      → Writing room roles names variables count out counts brackets e count
-  unfolding table-cells emitted stacked
-  writing-start {out} {counts} {brackets} {e} i j k d = record {
-    few = omega arith;
-    keeps = i;
-    terms = j;
-    goals = k;
-    within = rw d (omega arith);
-    emits = let z : count - count ≡ 0 = omega arith in rw (z, d) (record {
-      bytes = record { place = omega arith; same = λ f h. drop-all out };
-      over-is = refl;
-      clauses-are = refl;
-      counts-are = refl;
-      brackets-are = refl;
-      comma-is = refl;
-      semicolon-is = refl;
-      equal-is = refl;
-      variables-are = refl;
-    });
-  }
-
-  -- the cell in front of those that are written
-  pub writing-on : {out counts brackets out' counts' brackets' : List ℕ} {e r : State} {i : ℕ} → 0 < i → Writing room roles names variables count out counts brackets e i
-      → Turns out counts brackets e out' counts' brackets' r (emit-cell (cell (coded-role (getD roles (i - 1) 0)) (getD names (i - 1) 0) (getD variables (i - 1) 0)))
-      → Writing room roles names variables count out' counts' brackets' r (i - 1)
-  unfolding table-cells emitted
-  writing-on {i = i} h w t =
-      let up : suc (i - 1) ≡ i = omega arith in
-      let more : count - (i - 1) ≡ suc (count - i) = omega (arith, w .few) in
-      record {
-        few = omega (arith, w .few);
-        keeps = t .keeps ∙ w .keeps;
-        terms = t .counts-keep ∙ w .terms;
-        goals = t .brackets-keep ∙ w .goals;
-        within = omega (arith, t .lower, t .keeps, w .within);
-        emits = rw (more, up) (t .emits _ (w .emits));
-      }
-
-  pub writing-done : {out counts brackets : List ℕ} {e : State} {i : ℕ} → i ≡ 0 → Writing room roles names variables count out counts brackets e i
-      → EmittedCells room out e (emitted (table-cells roles names variables 0 count))
-  writing-done {counts = counts} {brackets} z w = record { counts = counts; brackets = brackets; emits = let d : count - 0 ≡ count = omega arith in rw (z, d) at (w .emits); keeps = w .keeps }

@@ -2,33 +2,38 @@
  *
  * Link with libfourport.a, which `rt staticlib fourport` makes for x86-64 Linux; it needs memcpy and memset of the C library and nothing else.
  * What is said here of an answer, of what is written and of what stays untouched is proved for every input; see the contracts in crates/fourport.
+ * The inline functions are not in the archive, and nothing is proved of them.
  *
- * docs/SPECIFICATION.md says what records, questions and services are. A record has two bytes that say how many follow, the high one first, the
- * version byte 1, and the body.
+ * docs/SPECIFICATION.md says what questions and services are. Records are laid out as follows.
  *
- * Numbers. Each function but fourport_lookup answers 0 if it is done, else the number of the first question (SPECIFICATION 7) whose answer is no:
+ * Records. A number has two bytes, the high one first; a port, a tag, an arity and what is said to have one byte have one. 'How many' is a number.
  *
- *    1  the program or clause record: has it 3 to 32,768 bytes, and do its first two say how many follow?
- *    2  is its version 1?
- *    3  is its body, from the first byte to the last, of the kind asked for?
- *    4  does it keep the record rules: order of definitions, variables?
- *   11  the query or event record: as 1
- *   12  as 2
- *   13  as 3
- *   14  does it keep the record rules: pairs of unifiers?
- *    5  is the output at least FOURPORT_RECORD bytes?
- *    6  can the walk go on? Not forward from exit or fail without ancestors, nor back from call without ancestors and bets
- *    7  does a rule match? Of a step back also: does the event found lead on to the given one?
- *    8  has each value at most 8,192 bytes?
- *    9  has each local of the body a number of at most 65,535? In a canonical program: has every definition at most 255 locals?
- *   10  does the result fit FOURPORT_RECORD bytes? Of an answer of a query: does it fit what is left of the output?
- *   20  of a text: may a token, or the space between tokens, hold each of its bytes?
- *   21  is the text of the grammar?
- *   22  has the text, or a query and its rules together, at most FOURPORT_TEXT bytes, and does its list of names fit the lent buffer?
- *   32  on the way back to a door: is a step left within the limit?
+ *   record      how many bytes follow, the version (1 byte, 1), the body: FOURPORT_RECORD bytes at most. No byte says which of the four bodies it has
+ *   query       a goal
+ *   event       the port, the goal, how many ancestors, these, the topmost first, how many bets, these, the topmost first
+ *   program     how many definitions, and these. A definition: its predicate's number, the arity n, how many locals (1 byte), a goal. In the goal the
+ *               variables below n are the arguments of the head, from 0, and those from n on the locals
+ *   clauses     how many clauses, and these. A clause: its predicate's number, the arity n, how many variables (1 byte, 0 to 64), the n terms of its
+ *               head, a goal, its body; a fact has the body true
  *
- * The questions are put in this order: 1 to 4, 11 to 14, 5, and then 6 to 10; the second part of 7 is put behind 10, and 32 last. Of texts: 20, 21, 22,
- * 3 (has each arity at most 16, and each clause at most 64 variables?), 5, 10.
+ * Terms, goals, ancestors and bets start with their kind byte; enum fourport_kind says what stands behind it. A predicate, and a symbol, is a number
+ * with an arity of 0 to 16. Half 1 of `A, B` and of `A ; B` is A, half 2 is B; a tag is the number of a half.
+ *
+ * The record rules, which questions 4 and 14 ask for: definitions rise by number and then by arity; a definition has no variables but those declared;
+ * the variables of a clause are those below their count, and each of these occurs; within a unifier the bound variables rise, and none of them occurs
+ * in a term of the same unifier.
+ *
+ * An example: the query `V0 = a`, where a is symbol 2, its first event, a call without ancestors and bets, and the event behind it, an exit with one
+ * bet, the unifier that binds V0 to a:
+ *
+ *   00 09 01  12 01 00 00 02 00 02 00
+ *   00 0E 01  01  12 01 00 00 02 00 02 00  00 00  00 00
+ *   00 17 01  02  12 01 00 00 02 00 02 00  00 00  00 01  20 00 01  00 00  02 00 02 00
+ *
+ * Numbers of questions. Each function of the archive but fourport_lookup answers FOURPORT_DONE, which is 0, or the number of the first question
+ * (SPECIFICATION 7) whose answer is no, one of enum fourport_number; fourport_words has them in words. The questions are put in this order: 1 to 4,
+ * 11 to 14, 5, and then 6 to 10; the second part of 7 is put behind 10, and 32 last. Of texts: 20, 21, 22, 3 (has each arity at most 16, and each
+ * clause at most 64 variables?), 5, 10.
  *
  * Duties of a caller, which nothing here can test:
  *  - A pointer is not null and points to as many readable bytes as the length beside it says, `out` and `names` to as many writable and initialised
@@ -36,8 +41,7 @@
  *  - What is written (`out`, `names`, `named`, `taken`, `written`, `at`, `part`, `greatest`, `counts`) overlaps nothing else that the call is given. What
  *    is only read may overlap.
  *  - Nobody else writes any of it during the call, or reads what the call writes.
- *  - The thread has the stack, of which nothing is proved: the deepest calls we know of need 1,616 KiB, so give
- *    4 MiB. Linux gives a main thread 8.
+ *  - The thread has the stack, of which nothing is proved: the deepest calls we know of need 1,616 KiB, so give 4 MiB. Linux gives a main thread 8.
  *
  * There is no state between calls, no heap and no input or output: calls on different data may run at the same time in any number of threads.
  * Every call ends.
@@ -48,11 +52,130 @@
 #include <stddef.h>
 #include <stdint.h>
 
+/* The version of this page and of the Rust crate over the same archive. */
+#define FOURPORT_VERSION_MAJOR 0
+#define FOURPORT_VERSION_MINOR 2
+#define FOURPORT_VERSION_PATCH 0
+#define FOURPORT_VERSION "0.2.0"
+
 /* The longest record, and the shortest output that passes question 5. */
 #define FOURPORT_RECORD 32768
 
 /* The longest text of clauses; a query and its rules may have as many bytes together. */
 #define FOURPORT_TEXT 65535
+
+/* The ports, as an event's record has them in byte FOURPORT_PORT_AT. */
+#define FOURPORT_PORT_AT 3
+#define FOURPORT_CALL 1
+#define FOURPORT_EXIT 2
+#define FOURPORT_FAIL 3
+#define FOURPORT_REDO 4
+
+/* The kind bytes, each with what stands behind it. */
+enum fourport_kind {
+    /* terms */
+    FOURPORT_KIND_VARIABLE = 0x01,      /* its number */
+    FOURPORT_KIND_SYMBOL = 0x02,        /* its number, the arity, each argument, a term */
+    /* goals */
+    FOURPORT_KIND_TRUE = 0x10,          /* nothing */
+    FOURPORT_KIND_FAIL = 0x11,          /* nothing */
+    FOURPORT_KIND_EQUALITY = 0x12,      /* two terms */
+    FOURPORT_KIND_CONJUNCTION = 0x13,   /* two goals */
+    FOURPORT_KIND_DISJUNCTION = 0x14,   /* two goals */
+    FOURPORT_KIND_ATOM = 0x15,          /* its predicate's number, the arity, each argument, a term. As an ancestor: an atom whose body is walked */
+    /* bets */
+    FOURPORT_KIND_UNIFIER = 0x20,       /* how many pairs, and these: the number of the bound variable, the term that it is bound to */
+    FOURPORT_KIND_OR = 0x21,            /* the tag of the half by which a disjunction exited */
+    FOURPORT_KIND_BY = 0x22,            /* the goal that was the body by which an atom exited */
+    /* ancestors beside the atom */
+    FOURPORT_KIND_IN_CONJUNCTION = 0x30,    /* the tag of the half that is walked, two goals */
+    FOURPORT_KIND_IN_DISJUNCTION = 0x31     /* the tag of the half that is walked, two goals */
+};
+
+/* What a function answers: done, or the question whose answer is no. */
+enum fourport_number {
+    FOURPORT_DONE = 0,
+    /* the program or clause record: has it 3 to 32,768 bytes, and do its first two say how many follow? */
+    FOURPORT_NO_PROGRAM_FRAME = 1,
+    /* is its version 1? */
+    FOURPORT_NO_PROGRAM_VERSION = 2,
+    /* is its body, from the first byte to the last, of the kind asked for? */
+    FOURPORT_NO_PROGRAM_GRAMMAR = 3,
+    /* does it keep the record rules: order of definitions, variables? */
+    FOURPORT_NO_PROGRAM_RULES = 4,
+    /* is the output at least FOURPORT_RECORD bytes? */
+    FOURPORT_NO_ROOM = 5,
+    /* can the walk go on? Not forward from exit or fail without ancestors, nor back from call without ancestors and bets */
+    FOURPORT_NO_WALK = 6,
+    /* does a rule match? Of a step back also: does the event found lead on to the given one? */
+    FOURPORT_NO_MATCH = 7,
+    /* has each value at most 8,192 bytes? */
+    FOURPORT_NO_VALUE = 8,
+    /* has each local of the body a number of at most 65,535? In a canonical program: has every definition at most 255 locals? */
+    FOURPORT_NO_LOCALS = 9,
+    /* does the result fit FOURPORT_RECORD bytes? Of an answer of a query: does it fit what is left of the output? */
+    FOURPORT_NO_FIT = 10,
+    /* the query or event record: as 1 */
+    FOURPORT_NO_EVENT_FRAME = 11,
+    /* as 2 */
+    FOURPORT_NO_EVENT_VERSION = 12,
+    /* as 3 */
+    FOURPORT_NO_EVENT_GRAMMAR = 13,
+    /* does it keep the record rules: pairs of unifiers? */
+    FOURPORT_NO_EVENT_RULES = 14,
+    /* of a text: may a token, or the space between tokens, hold each of its bytes? */
+    FOURPORT_NO_BYTE = 20,
+    /* is the text of the grammar? */
+    FOURPORT_NO_TEXT = 21,
+    /* has the text, or a query and its rules together, at most FOURPORT_TEXT bytes, and does its list of names fit the lent buffer? */
+    FOURPORT_NO_LENGTH = 22,
+    /* on the way back to a door: is a step left within the limit? */
+    FOURPORT_NO_LIMIT = 32
+};
+
+/* A number in words: `done`, the question, or `no such number`. */
+static inline const char *fourport_words(uint32_t number)
+{
+    switch (number) {
+    case FOURPORT_DONE: return "done";
+    case FOURPORT_NO_PROGRAM_FRAME:
+        return "the program or clause record: has the slice 3 to 32,768 bytes, and does its length field say how many follow?";
+    case FOURPORT_NO_PROGRAM_VERSION: return "the program or clause record: is the version 1?";
+    case FOURPORT_NO_PROGRAM_GRAMMAR: return "the program or clause record: is the body, from its first byte to its last, of the kind asked for?";
+    case FOURPORT_NO_PROGRAM_RULES: return "the program or clause record: does it keep the record rules: order, variables, pairs?";
+    case FOURPORT_NO_ROOM: return "has the output at least 32,768 bytes?";
+    case FOURPORT_NO_WALK: return "can the walk go on?";
+    case FOURPORT_NO_MATCH: return "does a rule match?";
+    case FOURPORT_NO_VALUE: return "has each value at most 8,192 bytes?";
+    case FOURPORT_NO_LOCALS:
+        return "has each new local a number of at most 65,535, or in a canonical form each definition at most 255 locals?";
+    case FOURPORT_NO_FIT: return "has the result at most 32,768 bytes, or an answer room in the output?";
+    case FOURPORT_NO_EVENT_FRAME: return "the query or event record: has the slice 3 to 32,768 bytes, and does its length field say how many follow?";
+    case FOURPORT_NO_EVENT_VERSION: return "the query or event record: is the version 1?";
+    case FOURPORT_NO_EVENT_GRAMMAR: return "the query or event record: is the body, from its first byte to its last, of the kind asked for?";
+    case FOURPORT_NO_EVENT_RULES: return "the query or event record: does it keep the record rules: order, variables, pairs?";
+    case FOURPORT_NO_BYTE: return "may a token, or the space between tokens, hold each byte of the text?";
+    case FOURPORT_NO_TEXT: return "is the text of the grammar?";
+    case FOURPORT_NO_LENGTH: return "has the text, a query with its rules, at most 65,535 bytes, and its list of names room?";
+    case FOURPORT_NO_LIMIT: return "is a step back left within the limit?";
+    default: return "no such number";
+    }
+}
+
+/* The number of two bytes, as records, answers and lists of names have it. */
+static inline uint16_t fourport_number_at(const uint8_t *bytes)
+{
+    return (uint16_t)(bytes[0] * 256 + bytes[1]);
+}
+
+/* How many bytes the record at the front of a buffer has, its length field included; 0 where no whole record is there. Nothing else is asked. */
+static inline size_t fourport_record_length(const uint8_t *bytes, size_t length)
+{
+    size_t record;
+    if (length < 2) return 0;
+    record = 2 + (size_t)fourport_number_at(bytes);
+    return record <= length ? record : 0;
+}
 
 /* The directions of a run. */
 #define FOURPORT_FORWARD 0

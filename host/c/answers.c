@@ -14,12 +14,6 @@
 
 static uint8_t file_bytes[2 * FOURPORT_RECORD], out[ROOM];
 
-/* The two-byte number at a place. */
-static size_t number_at(const uint8_t *bytes)
-{
-    return (size_t)bytes[0] * 256 + bytes[1];
-}
-
 /* Where so many terms, and behind them so many goals, end: what the desk wrote is well formed. */
 static const uint8_t *end_of(const uint8_t *at, size_t terms, size_t goals)
 {
@@ -27,10 +21,10 @@ static const uint8_t *end_of(const uint8_t *at, size_t terms, size_t goals)
         uint8_t kind = *at;
         if (terms > 0) terms--; else goals--;
         switch (kind) {
-        case 0x01: at += 3; break;
-        case 0x02: case 0x15: terms += at[3]; at += 4; break;
-        case 0x12: terms += 2; at++; break;
-        case 0x13: case 0x14: goals += 2; at++; break;
+        case FOURPORT_KIND_VARIABLE: at += 3; break;
+        case FOURPORT_KIND_SYMBOL: case FOURPORT_KIND_ATOM: terms += at[3]; at += 4; break;
+        case FOURPORT_KIND_EQUALITY: terms += 2; at++; break;
+        case FOURPORT_KIND_CONJUNCTION: case FOURPORT_KIND_DISJUNCTION: goals += 2; at++; break;
         default: at++;
         }
     }
@@ -45,17 +39,17 @@ static void print_bytes(const uint8_t *from, const uint8_t *to)
 /* Prints an answer, and gives where it ends. */
 static const uint8_t *print_answer(const uint8_t *at)
 {
-    size_t left = number_at(at);
+    size_t left = fourport_number_at(at);
     for (at += 2; left > 0; left--) {
         const uint8_t *term = at + 2, *end = end_of(term, 1, 0);
-        printf("  V%lu =", (unsigned long)number_at(at));
+        printf("  V%u =", (unsigned)fourport_number_at(at));
         print_bytes(term, end);
         printf("\n");
         at = end;
     }
-    left = number_at(at);
+    left = fourport_number_at(at);
     for (at += 2; left > 0; left--) {
-        int body = at[0] == 0x22;
+        int body = at[0] == FOURPORT_KIND_BY;
         const uint8_t *end = body ? end_of(at + 1, 0, 1) : at + 2;
         printf(body ? "  by the body" : "  by the branch");
         print_bytes(at + 1, end);
@@ -74,12 +68,14 @@ int main(int count, char **words)
     FILE *file = count == 2 ? fopen(words[1], "rb") : NULL;
     if (file == NULL) return fprintf(stderr, "give a file with a program record and a query record\n"), 1;
     length = fread(file_bytes, 1, sizeof file_bytes, file);
-    if (fclose(file) != 0 || length < 2 || (program = 2 + number_at(file_bytes)) > length) return fprintf(stderr, "there is no program record\n"), 1;
+    program = fourport_record_length(file_bytes, length);
+    if (fclose(file) != 0 || program == 0) return fprintf(stderr, "there is no program record\n"), 1;
     number = fourport_answers(file_bytes, program, file_bytes + program, length - program, STEPS, out, sizeof out, &written, &taken);
     while (at < out + written) {
         printf("answer %lu\n", ++found);
         at = print_answer(at);
     }
-    printf("stop %lu after %lu steps%s\n", (unsigned long)number, (unsigned long)taken, number == 6 ? ": these are all" : "");
+    printf("stop %lu after %lu steps: ", (unsigned long)number, (unsigned long)taken);
+    printf("%s\n", number == FOURPORT_NO_WALK ? "these are all" : number == FOURPORT_DONE ? "there may be more" : fourport_words(number));
     return fflush(stdout) != 0;
 }

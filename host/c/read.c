@@ -14,18 +14,16 @@
 
 static uint8_t rules[TEXT_ROOM], query[TEXT_ROOM], names[NAMES_ROOM], out[FOURPORT_RECORD];
 
-/* The bytes of a file, as many as there is room for; none where it cannot be read. */
-static size_t read_file(const char *path, uint8_t *to)
+/* The bytes of a file, as many as there is room for; whether it could be read. */
+static int read_file(const char *path, uint8_t *to, size_t *length)
 {
     FILE *file = fopen(path, "rb");
-    size_t length = 0;
     if (file == NULL) {
         perror(path);
         return 0;
     }
-    length = fread(to, 1, TEXT_ROOM, file);
-    fclose(file);
-    return length;
+    *length = fread(to, 1, TEXT_ROOM, file);
+    return fclose(file) == 0;
 }
 
 static void print_names(size_t named)
@@ -33,7 +31,7 @@ static void print_names(size_t named)
     const uint8_t *at = names;
     unsigned number = 0;
     while (at < names + named) {
-        int length = at[0] * 256 + at[1];
+        int length = fourport_number_at(at);
         printf("%u %.*s\n", number++, length, (const char *)at + 2);
         at += 2 + length;
     }
@@ -41,7 +39,7 @@ static void print_names(size_t named)
 
 static void print_record(const char *words)
 {
-    size_t i, length = 2 + (size_t)out[0] * 256 + out[1];
+    size_t i, length = fourport_record_length(out, sizeof out);
     printf("%s", words);
     for (i = 0; i < length; i++) printf(" %02X", out[i]);
     printf("\n");
@@ -49,21 +47,20 @@ static void print_record(const char *words)
 
 int main(int count, char **words)
 {
-    size_t named, rules_length, query_length;
+    size_t named = 0, rules_length = 0, query_length = 0;
     uint32_t number;
     if (count != 3) {
         fprintf(stderr, "c-read RULES QUERY\n");
         return 2;
     }
-    rules_length = read_file(words[1], rules);
-    query_length = read_file(words[2], query);
+    if (!read_file(words[1], rules, &rules_length) || !read_file(words[2], query, &query_length)) return 2;
     number = fourport_read(rules, rules_length, names, NAMES_ROOM, out, FOURPORT_RECORD, &named);
-    if (number == 0) {
+    if (number == FOURPORT_DONE) {
         print_record("clauses");
         number = fourport_read_query(rules, rules_length, query, query_length, names, NAMES_ROOM, out, FOURPORT_RECORD, &named);
     }
-    if (number != 0) {
-        fprintf(stderr, "refused by question %u\n", (unsigned)number);
+    if (number != FOURPORT_DONE) {
+        fprintf(stderr, "refused by %lu: %s\n", (unsigned long)number, fourport_words(number));
         return 1;
     }
     print_record("query");

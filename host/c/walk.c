@@ -10,65 +10,77 @@
 
 #include "fourport.h"
 
-/* A record, and how many bytes of the buffer it has. */
-struct record {
+#define MOST_STEPS 100000
+
+/* An event, and how many bytes of the buffer it has. */
+struct event {
     size_t length;
     uint8_t bytes[FOURPORT_RECORD];
 };
 
-static struct record program, query, first, here, next;
+static uint8_t file_bytes[2 * FOURPORT_RECORD];
+static size_t program_length;
+static struct event first, here, next;
 
-/* Reads a record by its length field; whether the file has it whole. */
-static int read_record(FILE *file, struct record *to)
+/* Finds the length of an event that a service wrote. */
+static void measure(struct event *event)
 {
-    if (fread(to->bytes, 1, 2, file) != 2) return 0;
-    to->length = 2 + (size_t)to->bytes[0] * 256 + to->bytes[1];
-    return to->length <= FOURPORT_RECORD && fread(to->bytes + 2, 1, to->length - 2, file) == to->length - 2;
+    event->length = fourport_record_length(event->bytes, sizeof event->bytes);
 }
 
-/* Finds the length of a record that a service wrote. */
-static void measure(struct record *r)
+static const char *port_word(uint8_t port)
 {
-    r->length = 2 + (size_t)r->bytes[0] * 256 + r->bytes[1];
+    switch (port) {
+    case FOURPORT_CALL: return "call";
+    case FOURPORT_EXIT: return "exit";
+    case FOURPORT_FAIL: return "fail";
+    default: return "redo";
+    }
 }
 
-/* An event's port is the first byte of its body. */
 static int print_event(long at)
 {
-    static const char *const words[] = {"call", "exit", "fail", "redo"};
-    return printf("%ld %s\n", at, words[here.bytes[3] - 1]) > 0;
+    return printf("%ld %s\n", at, port_word(here.bytes[FOURPORT_PORT_AT])) > 0;
 }
 
-/* Single steps in one direction until one is refused, forward at most 100,000. Gives the number that refused it, and `at` follows the walk. */
+/* Single steps in one direction until one is refused, forward at most MOST_STEPS. Gives the number that refused it, and `at` follows the walk. */
 static uint32_t walk(uint8_t back, long *at)
 {
     uint32_t number, taken = 0;
-    while (back != FOURPORT_FORWARD || *at < 100000) {
-        number = fourport_run(program.bytes, program.length, here.bytes, here.length, 1, back, next.bytes, sizeof next.bytes, &taken);
-        if (number != 0) return number;
+    while (back != FOURPORT_FORWARD || *at < MOST_STEPS) {
+        number = fourport_run(file_bytes, program_length, here.bytes, here.length, 1, back, next.bytes, sizeof next.bytes, &taken);
+        if (number != FOURPORT_DONE) return number;
         measure(&next);
         here = next;
         *at += back == FOURPORT_FORWARD ? 1 : -1;
-        if (!print_event(*at)) return 0;
+        if (!print_event(*at)) return FOURPORT_DONE;
     }
-    return 0;
+    return FOURPORT_DONE;
+}
+
+static int print_stop(uint32_t number)
+{
+    return printf("stop %lu: %s\n", (unsigned long)number, fourport_words(number)) > 0;
 }
 
 int main(int count, char **words)
 {
+    size_t length;
     uint32_t number;
     long at = 0;
     FILE *file = count == 2 ? fopen(words[1], "rb") : NULL;
-    if (file == NULL || !read_record(file, &program) || !read_record(file, &query) || fclose(file) != 0)
-        return fprintf(stderr, "give a file with a program record and a query record\n"), 1;
-    number = fourport_first(query.bytes, query.length, first.bytes, sizeof first.bytes);
-    if (number != 0) return fprintf(stderr, "the query is refused by %lu\n", (unsigned long)number), 1;
+    if (file == NULL) return fprintf(stderr, "give a file with a program record and a query record\n"), 1;
+    length = fread(file_bytes, 1, sizeof file_bytes, file);
+    program_length = fourport_record_length(file_bytes, length);
+    if (fclose(file) != 0 || program_length == 0) return fprintf(stderr, "there is no program record\n"), 1;
+    number = fourport_first(file_bytes + program_length, length - program_length, first.bytes, sizeof first.bytes);
+    if (number != FOURPORT_DONE) return fprintf(stderr, "refused by %lu: %s\n", (unsigned long)number, fourport_words(number)), 1;
     measure(&first);
     here = first;
     if (!print_event(at)) return 1;
     number = walk(FOURPORT_FORWARD, &at);
-    if (printf("stop %lu, and back\n", (unsigned long)number) < 0) return 1;
+    if (!print_stop(number) || printf("and back\n") < 0) return 1;
     number = walk(FOURPORT_BACK, &at);
-    if (printf("stop %lu\n", (unsigned long)number) < 0 || fflush(stdout) != 0) return 1;
-    return number != 6 || here.length != first.length || memcmp(here.bytes, first.bytes, first.length) != 0;
+    if (!print_stop(number) || fflush(stdout) != 0) return 1;
+    return number != FOURPORT_NO_WALK || here.length != first.length || memcmp(here.bytes, first.bytes, first.length) != 0;
 }

@@ -63,4 +63,6 @@ def is_made(name):
 
 
 def rule_texts(repository):
-    return sorted(pathlib.Path(repository, 'examples').glob('*.pl')) + sorted(pathlib.Path(__file__).parent.glob('programs/*.pl'))
+    """those that have a query beside them"""
+    queries = sorted(pathlib.Path(repository, 'examples').glob('*.query')) + sorted(pathlib.Path(__file__).parent.glob('programs/*.query'))
+    return [query.with_suffix('.pl') for query in queries]

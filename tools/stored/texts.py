@@ -12,7 +12,7 @@ NAMES = 1 << 18  # more bytes than the names of two texts take
 
 def named(folder):
     """the names of a folder's pairs of files"""
-    return sorted(file.removesuffix('.pl') for file in os.listdir(folder) if file.endswith('.pl'))
+    return sorted(file.removesuffix('.query') for file in os.listdir(folder) if file.endswith('.query'))
 
 
 def content(path):

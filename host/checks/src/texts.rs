@@ -186,7 +186,9 @@ pub fn shown_again(rules: &[u8], query: &[u8], steps: usize) -> Told<usize> {
     let (Ok((clauses, own)), Ok((query, names))) = (Clauses::from_text(rules), Query::from_text(rules, query)) else { return Ok(0) };
     let (Ok(program), Ok(start)) = (clauses.canonical(), Event::first(&query)) else { return Ok(0) };
     let mut looked = again(program.shown(&own).to_string(), |text| Clauses::from_text(text).map(|(read, names)| read.shown(&names).to_string()))?;
-    let goals = [start.goal()].into_iter().chain(program.walk(start).forwards().take(steps).map(|event| event.goal()).collect::<Vec<_>>());
+    let goals = [start.goal().to_goal()]
+        .into_iter()
+        .chain(program.walk(start).forwards().take(steps).map(|event| event.goal().to_goal()).collect::<Vec<_>>());
     for goal in goals {
         looked += again(goal.shown(&names).to_string(), |text| Query::from_text(rules, text).map(|(read, names)| read.shown(&names).to_string()))?;
     }

@@ -1,6 +1,6 @@
 //! Every answer of a query, and the branches and bodies that gave it.
 
-use crate::{raw, Program, Query, Refusal, Term, RECORD_LIMIT};
+use crate::{raw, Goal, Half, Program, Query, Refusal, Term, RECORD_LIMIT};
 use layout::{byte_at, goal_end, number_at, term_end, BY};
 use std::fmt;
 use std::iter::FusedIterator;
@@ -8,21 +8,15 @@ use std::iter::FusedIterator;
 /// The steps that are asked for first: a walk of so many costs little beside the call.
 const FIRST_STEPS: u32 = 1_024;
 
+/// So many times the steps are asked for next: all askings before the last one together cost little beside it, unless that one ends early.
+const STEPS_GROWTH: u32 = 16;
+
+/// The output that is lent first, and how many times as long the next one is.
+const FIRST_ROOM: usize = 1 << 20;
+const ROOM_GROWTH: usize = 4;
+
 /// The most bytes that a list of answers may have unless [`Answers::with_room`] says otherwise. A single answer has fewer than 90 million.
 pub const ANSWERS_ROOM: usize = 1 << 27;
-
-/// A half of a disjunction.
-#[derive(Clone, Copy, Debug, PartialEq, Eq, Hash)]
-pub enum Half {
-    /// the left one
-    First = 1,
-    /// the right one
-    Second = 2,
-}
-
-/// The bytes of a goal, without length or version.
-#[derive(Clone, Debug, PartialEq, Eq, Hash)]
-pub struct Goal(Vec<u8>);
 
 /// What an answer was given by: a bet OR or BY of its exit.
 #[derive(Clone, Debug, PartialEq, Eq, Hash)]
@@ -57,11 +51,12 @@ pub enum Stop {
 /// The answers of a query, one by one in the order of the walk: see [`Program::answers`].
 ///
 /// The desk keeps nothing between calls, so whoever wants more asks again from the start. The answers within fewer steps, or in a shorter output, are
-/// a front of those within more (SPECIFICATION 9.10), so those already given are passed over. The steps are doubled each time, so that all askings
-/// together cost at most some ten times the last one, and no answer waits for a walk of more than twice the steps that lead to it, or of 1,024.
+/// a front of those within more (SPECIFICATION 9.10), so those already given are passed over. Sixteen times the steps are asked for each time:
+/// a walk of 1,024 steps or fewer is walked once, and no walk is walked for more than some twice its steps, save where the output was too short. No answer
+/// waits for a walk of more than sixteen times the steps that lead to it, or of 1,024.
 ///
-/// The output is made longer, four times as long, only where 10 is answered and all answers before that are given, up to [`ANSWERS_ROOM`] bytes for all
-/// answers together.
+/// The output, of 1 MiB at first, is made longer, four times as long, only where 10 is answered and all answers before that are given, up to
+/// [`ANSWERS_ROOM`] bytes for all answers together.
 #[derive(Clone, Debug)]
 pub struct Answers<'a> {
     program: &'a Program,
@@ -77,6 +72,22 @@ pub struct Answers<'a> {
     /// the bytes of the answers given so far
     given: usize,
     end: Option<End>,
+    progress: Progress<'a>,
+}
+
+/// Who is told how far the list is. A clone of a list tells nobody.
+struct Progress<'a>(Option<Box<dyn FnMut(u32) + Send + Sync + 'a>>);
+
+impl Clone for Progress<'_> {
+    fn clone(&self) -> Self {
+        Progress(None)
+    }
+}
+
+impl fmt::Debug for Progress<'_> {
+    fn fmt(&self, f: &mut fmt::Formatter<'_>) -> fmt::Result {
+        f.write_str(if self.0.is_some() { "told" } else { "silent" })
+    }
 }
 
 /// What there is behind the last answer written.
@@ -90,8 +101,21 @@ enum End {
 
 impl<'a> Answers<'a> {
     pub(crate) fn new(program: &'a Program, query: &'a Query) -> Answers<'a> {
-        let (most_steps, most_room, out) = (u32::MAX, ANSWERS_ROOM, vec![0; RECORD_LIMIT]);
-        Answers { program, query, most_steps, most_room, out, steps: 0, number: 0, written: 0, taken: 0, given: 0, end: None }
+        let (most_steps, most_room, out) = (u32::MAX, ANSWERS_ROOM, vec![0; FIRST_ROOM]);
+        Answers {
+            program,
+            query,
+            most_steps,
+            most_room,
+            out,
+            steps: 0,
+            number: 0,
+            written: 0,
+            taken: 0,
+            given: 0,
+            end: None,
+            progress: Progress(None),
+        }
     }
 
     /// At most so many steps of the walk; unless this is said, 4,294,967,295. To be said before the first answer is asked for.
@@ -102,7 +126,25 @@ impl<'a> Answers<'a> {
     /// At most so many bytes for all answers together, but 32,768 at the least; unless this is said, [`ANSWERS_ROOM`]. To be said before the first
     /// answer is asked for.
     pub fn with_room(self, most: usize) -> Answers<'a> {
-        Answers { most_room: most.max(RECORD_LIMIT), ..self }
+        let most_room = most.max(RECORD_LIMIT);
+        Answers { most_room, out: vec![0; FIRST_ROOM.min(most_room)], ..self }
+    }
+
+    /// Before each asking, tells the steps that it is for: none of them are taken yet, and a walk that ends takes fewer. A clone of the list tells
+    /// nobody.
+    ///
+    /// ```
+    /// # use fourport::{Clauses, Query};
+    /// let rules = "light(red). light(green). light(blue).";
+    /// let program = Clauses::from_text(rules)?.0.canonical()?;
+    /// let (query, _) = Query::from_text(rules, "light(A), light(B), light(C), light(D)")?;
+    /// let mut told = Vec::new();
+    /// assert_eq!(program.answers(&query).with_progress(|steps| told.push(steps)).count(), 81);
+    /// assert_eq!(told, [1_024, 16_384]);
+    /// # Ok::<(), Box<dyn std::error::Error>>(())
+    /// ```
+    pub fn with_progress(self, progress: impl FnMut(u32) + Send + Sync + 'a) -> Answers<'a> {
+        Answers { progress: Progress(Some(Box::new(progress))), ..self }
     }
 
     /// The steps that the walk has taken. It may be ahead of the answers given.
@@ -117,15 +159,18 @@ impl<'a> Answers<'a> {
 
     fn ask(&mut self, steps: u32) {
         self.steps = steps;
+        if let Some(told) = &mut self.progress.0 {
+            told(steps);
+        }
         self.number = raw::answers(self.program.as_bytes(), self.query.as_bytes(), steps, &mut self.out, &mut self.written, &mut self.taken);
     }
 
-    /// Asks for twice the steps; or, where something did not fit, for more room.
+    /// Asks for more steps; or, where something did not fit, for more room.
     fn ask_on(&mut self) {
         if self.number == Refusal::Fit.number() {
             self.end = self.ask_for_room();
         } else {
-            self.ask(self.steps.saturating_mul(2).max(FIRST_STEPS).min(self.most_steps));
+            self.ask(self.steps.saturating_mul(STEPS_GROWTH).max(FIRST_STEPS).min(self.most_steps));
             self.end = self.reached();
         }
     }
@@ -135,7 +180,7 @@ impl<'a> Answers<'a> {
     fn ask_for_room(&mut self) -> Option<End> {
         let (before, room) = (self.written, self.out.len());
         if room < self.most_room {
-            self.out = vec![0; room.saturating_mul(4).min(self.most_room)];
+            self.out = vec![0; room.saturating_mul(ROOM_GROWTH).min(self.most_room)];
         }
         self.ask(self.taken);
         if self.number == 0 && self.written == before {
@@ -212,10 +257,9 @@ impl Answer {
         let mut bet = || {
             let (kind, from) = (byte_at(bytes, at), at + 1);
             at = if kind == BY { goal_end(bytes, from, |_| ()) } else { from + 1 };
-            match (kind, byte_at(bytes, from)) {
-                (BY, _) => Used::Body(Goal(part(bytes, from, at))),
-                (_, 1) => Used::Branch(Half::First),
-                _ => Used::Branch(Half::Second),
+            match kind {
+                BY => Used::Body(Goal::written(part(bytes, from, at))),
+                _ => Used::Branch(Half::of(byte_at(bytes, from))),
             }
         };
         let used = (0..count).map(|_| bet()).collect();
@@ -225,24 +269,6 @@ impl Answer {
 
 fn part(bytes: &[u8], from: usize, to: usize) -> Vec<u8> {
     bytes.get(from..to).unwrap_or_default().to_vec()
-}
-
-impl Goal {
-    /// A goal of a record that the desk wrote.
-    pub(crate) fn written(bytes: Vec<u8>) -> Goal {
-        Goal(bytes)
-    }
-
-    /// The goal's bytes.
-    pub fn as_bytes(&self) -> &[u8] {
-        &self.0
-    }
-}
-
-impl AsRef<[u8]> for Goal {
-    fn as_ref(&self) -> &[u8] {
-        &self.0
-    }
 }
 
 impl Stop {

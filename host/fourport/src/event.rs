@@ -1,8 +1,8 @@
 //! Event records, and what one asks of a single event.
 
 use crate::record::{record_type, written};
-use crate::{raw, Goal, Query, Refusal, RECORD_LIMIT};
-use layout::{ancestor_end, byte_at, goal_end, number_at, port, EVENT_GOAL_AT, NO_DEFINITIONS, PORT_AT};
+use crate::{raw, Ancestors, Bet, Bets, GoalView, Query, Refusal, Term, RECORD_LIMIT};
+use layout::{byte_at, number_at, port, EVENT_GOAL_AT, NO_DEFINITIONS, PORT_AT};
 use std::fmt;
 
 /// The four ports.
@@ -61,10 +61,6 @@ record_type! {
     puts: |event, out| raw::run(&NO_DEFINITIONS, event, 0, 0, out, &mut 0)
 }
 
-/// The bytes of a term, without length or version.
-#[derive(Clone, Debug, PartialEq, Eq, Hash)]
-pub struct Term(Vec<u8>);
-
 impl Event {
     /// The first event of a query; refused by [`Refusal::Fit`] only.
     ///
@@ -103,9 +99,52 @@ impl Event {
     /// assert_eq!(event.goal().as_bytes(), [0x10]);
     /// # Ok::<(), fourport::Refusal>(())
     /// ```
-    pub fn goal(&self) -> Goal {
-        let end = goal_end(&self.0, EVENT_GOAL_AT, |_| ());
-        Goal::written(self.0.get(EVENT_GOAL_AT..end).unwrap_or_default().to_vec())
+    pub fn goal(&self) -> GoalView<'_> {
+        self.split().0
+    }
+
+    /// The goals that the event's goal stands under, the nearest one first.
+    ///
+    /// ```
+    /// # use fourport::{Ancestor, Event};
+    /// // redo true, the first half of `true, fail`
+    /// let event = Event::from_bytes([0, 11, 1, 4, 0x10, 0, 1, 0x30, 1, 0x10, 0x11, 0, 0])?;
+    /// let Some(Ancestor::Conjunction { right, .. }) = event.ancestors().next() else { panic!("a conjunction") };
+    /// assert_eq!((right.to_string(), event.ancestors().len()), ("fail".into(), 1));
+    /// # Ok::<(), fourport::Refusal>(())
+    /// ```
+    pub fn ancestors(&self) -> Ancestors<'_> {
+        let rest = self.split().1;
+        Ancestors::new(number_at(rest, 0), rest.get(2..).unwrap_or_default())
+    }
+
+    /// The bets, the last one first.
+    ///
+    /// ```
+    /// # use fourport::{Bet, Event};
+    /// // exit V0 = a, with the unifier V0/a
+    /// let event = Event::from_bytes([0, 23, 1, 2, 0x12, 1, 0, 0, 2, 0, 2, 0, 0, 0, 0, 1, 0x20, 0, 1, 0, 0, 2, 0, 2, 0])?;
+    /// let Some(Bet::Unifier(mut pairs)) = event.bets().next() else { panic!("a unifier") };
+    /// let (variable, term) = pairs.next().unwrap();
+    /// assert_eq!((variable, term.to_string(), event.bets().len()), (0, "n2".into(), 1));
+    /// # Ok::<(), fourport::Refusal>(())
+    /// ```
+    pub fn bets(&self) -> Bets<'_> {
+        let rest = self.ancestors().behind();
+        Bets::new(number_at(rest, 0), rest.get(2..).unwrap_or_default())
+    }
+
+    /// Whether a unifier of the bets binds the variable.
+    ///
+    /// ```
+    /// # use fourport::Event;
+    /// // exit V1 = V0, with the unifier V1/V0
+    /// let event = Event::from_bytes([0, 21, 1, 2, 0x12, 1, 0, 1, 1, 0, 0, 0, 0, 0, 1, 0x20, 0, 1, 0, 1, 1, 0, 0])?;
+    /// assert_eq!([event.is_bound(0), event.is_bound(1)], [false, true]);
+    /// # Ok::<(), fourport::Refusal>(())
+    /// ```
+    pub fn is_bound(&self, v: u16) -> bool {
+        self.bets().any(|bet| matches!(bet, Bet::Unifier(pairs) if pairs.into_iter().any(|(bound, _)| bound == v)))
     }
 
     /// How many ancestors the event's goal stands under.
@@ -118,13 +157,17 @@ impl Event {
     /// # Ok::<(), fourport::Refusal>(())
     /// ```
     pub fn ancestor_count(&self) -> u16 {
-        number_at(&self.0, goal_end(&self.0, EVENT_GOAL_AT, |_| ()))
+        number_at(self.split().1, 0)
     }
 
     /// How many bets there are.
     pub fn bet_count(&self) -> u16 {
-        let ancestors_at = goal_end(&self.0, EVENT_GOAL_AT, |_| ()) + 2;
-        number_at(&self.0, (0..self.ancestor_count()).fold(ancestors_at, |at, _| ancestor_end(&self.0, at)))
+        number_at(self.ancestors().behind(), 0)
+    }
+
+    /// The goal, and the bytes of the stacks behind it.
+    fn split(&self) -> (GoalView<'_>, &[u8]) {
+        GoalView::split(self.0.get(EVENT_GOAL_AT..).unwrap_or_default())
     }
 
     /// S(v): what the event's bets make of a variable; refused by [`Refusal::Value`] only.
@@ -142,7 +185,7 @@ impl Event {
         Refusal::unless_done(raw::value(&self.0, v, &mut out, &mut length))?;
         out.truncate(length as usize);
         out.shrink_to_fit();
-        Ok(Term(out))
+        Ok(Term::written(out))
     }
 
     /// The greatest variable of the event, and the first of bets, goal and ancestors that holds it; nothing where the event has no variable. An
@@ -173,30 +216,5 @@ impl Event {
     pub(crate) fn replace(&mut self, out: &[u8]) {
         self.0.clear();
         self.0.extend_from_slice(layout::record_at(out));
-    }
-}
-
-impl Term {
-    /// A term that the desk wrote.
-    pub(crate) fn written(bytes: Vec<u8>) -> Term {
-        Term(bytes)
-    }
-
-    /// The term's bytes.
-    ///
-    /// ```
-    /// # use fourport::Event;
-    /// let event = Event::from_bytes([0, 7, 1, 1, 0x10, 0, 0, 0, 0])?;
-    /// assert_eq!(event.value(65_535)?.as_bytes(), [1, 255, 255]);
-    /// # Ok::<(), fourport::Refusal>(())
-    /// ```
-    pub fn as_bytes(&self) -> &[u8] {
-        &self.0
-    }
-}
-
-impl AsRef<[u8]> for Term {
-    fn as_ref(&self) -> &[u8] {
-        &self.0
     }
 }

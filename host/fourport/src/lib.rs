@@ -1,13 +1,16 @@
 //! The rule desk for Rust: safe calls into its proved archive (`rt staticlib fourport`).
 //!
 //! The desk walks a query through pure Prolog clauses, one port event after another (call, exit, fail, redo), forward and back. Every answer is the
-//! proved code's; this crate lends it memory and gives its numbers names. `docs/SPECIFICATION.md` says what the records are.
+//! proved code's; this crate lends it memory and gives its numbers names.
 //!
 //! - [`Clauses::from_text`] and [`Query::from_text`] read what a partner types. [`Names`] has the names that belong to the numbers of a record, `shown` of
 //!   each type gives its text again ([`Shown`]), and a [`TextRefusal`] says where a text is refused, and why.
 //! - [`Clauses`], [`Program`], [`Query`] and [`Event`] hold the bytes of a record that passed the gate's questions 1 to 4, so a program cannot be
 //!   lent as an event and what is lent later is never refused as a record.
-//! - [`Walk`] stands at an event and steps forward and back from there, and back to the door of its goal.
+//! - [`Event::goal`], [`Event::ancestors`], [`Event::bets`], [`Program::definitions`] and [`Clauses::iter`] look into a record without copying it:
+//!   [`GoalView::kind`] and [`TermView::kind`] say what a goal or a term is made of.
+//! - [`Walk`] stands at an event and steps forward and back from there: one step, many, to an event that is looked for, back to the door of its goal,
+//!   back to where a variable was bound.
 //! - [`Answers`] gives every answer of a query, with the branches and bodies that gave it.
 //! - [`Refusal`] is a no to one of the questions; its [`number`](Refusal::number) is the specification's.
 //! - [`raw`] is the same over byte slices with an output lent by the caller: any bytes, any length, no allocation.
@@ -37,6 +40,22 @@
 //! # Ok::<(), Box<dyn std::error::Error>>(())
 //! ```
 //!
+//! # Records
+//! The desk keeps nothing between calls: what it is lent and what it writes are records. A record is a row of 3 to 32,768 bytes: a length field of two
+//! bytes, high byte first, that says how many stand behind it; the version, 1; and a body. There are four kinds of body, and nothing in a record says
+//! which it has: whoever lends it knows.
+//!
+//! | kind | body | made by |
+//! |---|---|---|
+//! | [`Clauses`] | the clauses of a text, in its order | [`Clauses::from_text`] |
+//! | [`Program`] | one definition for each predicate, its clauses joined | [`Clauses::canonical`] |
+//! | [`Query`] | a goal | [`Query::from_text`] |
+//! | [`Event`] | a port, a goal, its ancestors and the bets | [`Event::first`], and each step from the event before or behind it |
+//!
+//! A record has numbers for names: [`Names`] has those that belong to them. It may be kept or sent as bytes (`as_bytes`, `into_bytes`), and `from_bytes`
+//! or `try_from` puts the questions to them again; [`split_record`] cuts the first record off a buffer. Equal records are equal bytes.
+//! `docs/SPECIFICATION.md`, section 1, has every byte.
+//!
 //! # Stack
 //! The desk recurses on nested terms. The deepest calls that we know need 1,616 KiB of native stack; a thread of [`STACK`] bytes has enough. The main thread of a
 //! Linux program usually has 8 MiB, Rust's other threads 2 MiB unless asked for more. A call that runs out of stack ends the process.
@@ -50,8 +69,11 @@
 mod answers;
 mod clauses;
 mod counts;
+mod definition;
 mod event;
+mod listed;
 mod names;
+mod printer;
 mod program;
 mod query;
 pub mod raw;
@@ -59,21 +81,33 @@ mod record;
 mod refusal;
 mod scanner;
 mod shown;
+mod stacks;
 #[allow(unsafe_code)]
 mod sys;
+mod terms;
 mod text;
+mod text_refusal;
+mod tokens;
+mod views;
 mod walk;
 
-pub use answers::{Answer, Answers, Goal, Half, Stop, Used, ANSWERS_ROOM};
-pub use clauses::Clauses;
+pub use answers::{Answer, Answers, Stop, Used, ANSWERS_ROOM};
+pub use clauses::{Clause, Clauses};
 pub use counts::Counts;
-pub use event::{Event, Part, Port, Term};
-pub use names::Names;
-pub use program::{Definition, Direction, Program, Run};
+pub use definition::Definition;
+pub use event::{Event, Part, Port};
+pub use names::{Names, Naming};
+pub use program::{Direction, Program, Run};
 pub use query::Query;
+pub use record::split_record;
 pub use refusal::{Refusal, Which};
 pub use shown::Shown;
-pub use text::{Place, TextRefusal, WhichText, TEXT_LIMIT};
+pub use stacks::{Ancestor, Ancestors, Bet, Bets, Half, Pairs};
+pub use terms::{Goal, Term};
+pub use text::TEXT_LIMIT;
+pub use text_refusal::{Place, TextRefusal, WhichText};
+pub use tokens::{tokens, Token, TokenKind};
+pub use views::{Arguments, GoalKind, GoalView, TermKind, TermView};
 pub use walk::{Backs, Forwards, Walk};
 
 /// The longest record, and the least output that question 5 lets pass.

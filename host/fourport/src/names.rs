@@ -1,6 +1,8 @@
 //! The names that belong to the numbers of a record.
 
+use crate::Term;
 use layout::number_at;
+use std::borrow::Cow;
 use std::collections::HashMap;
 
 /// The names of a text, by number, with the text's variables where it was a query.
@@ -89,15 +91,73 @@ impl Names {
         let place = self.variables.iter().position(|known| known == name && name != "_")?;
         u16::try_from(place).ok()
     }
+}
 
-    /// How a name is shown: where it has none, by a word with its number that is no other name.
-    pub(crate) fn shown(&self, number: u16) -> String {
-        self.name(number).map_or_else(|| format!("{}{number}", self.unnamed), String::from)
+/// How names and variables are shown.
+///
+/// [`Names`] is the usual one. One of one's own can give variables other names, or values, wherever `shown` is asked for.
+///
+/// ```
+/// use fourport::{Names, Naming, Query, Term};
+/// use std::borrow::Cow;
+///
+/// struct Filled(Names, Term);
+///
+/// impl Naming for Filled {
+///     fn name(&self, number: u16) -> Cow<'_, str> {
+///         Naming::name(&self.0, number)
+///     }
+///
+///     fn variable(&self, number: u16) -> Cow<'_, str> {
+///         Naming::variable(&self.0, number)
+///     }
+///
+///     fn value(&self, variable: u16) -> Option<&Term> {
+///         (variable == 0).then_some(&self.1)
+///     }
+/// }
+///
+/// let (query, names) = Query::from_text("", "light(Bay, Light), deck(Bay, red)")?;
+/// let value = Term::try_from(vec![2, 0, 1, 1, 1, 0, 0])?;
+/// assert_eq!(query.shown(&Filled(names, value)).to_string(), "light(deck(Bay), Light), deck(deck(Bay), red)");
+/// # Ok::<(), Box<dyn std::error::Error>>(())
+/// ```
+pub trait Naming {
+    /// How the name with the number is shown.
+    fn name(&self, number: u16) -> Cow<'_, str>;
+
+    /// How the variable with the number is shown.
+    fn variable(&self, number: u16) -> Cow<'_, str>;
+
+    /// What is shown in place of a variable, wherever it stands but in clauses and definitions, and but as the bound variable of a pair or an answer.
+    /// Variables within a value are shown by name.
+    fn value(&self, variable: u16) -> Option<&Term> {
+        let _ = variable;
+        None
+    }
+}
+
+/// Where there is no name, a word with the number that is no other name.
+impl Naming for Names {
+    fn name(&self, number: u16) -> Cow<'_, str> {
+        Names::name(self, number).map_or_else(|| format!("{}{number}", self.unnamed).into(), Cow::from)
     }
 
-    /// How a variable of a walk is shown.
-    pub(crate) fn shown_variable(&self, number: u16) -> String {
-        self.variable(number).map_or_else(|| format!("{}{number}", self.unnamed_variable), String::from)
+    fn variable(&self, number: u16) -> Cow<'_, str> {
+        Names::variable(self, number).map_or_else(|| format!("{}{number}", self.unnamed_variable).into(), Cow::from)
+    }
+}
+
+/// No names.
+pub(crate) struct Numbers;
+
+impl Naming for Numbers {
+    fn name(&self, number: u16) -> Cow<'_, str> {
+        format!("n{number}").into()
+    }
+
+    fn variable(&self, number: u16) -> Cow<'_, str> {
+        format!("V{number}").into()
     }
 }
 

@@ -2,8 +2,8 @@
 
 use crate::record::{record_type, written};
 use crate::{raw, Answers, Clauses, Event, Query, Refusal, Walk};
-use layout::{byte_at, number_at, ARITY_AT, CALL_TRUE, DEFINITION_GOAL_AT, LOCALS_AT, PREDICATE_AT};
-use std::ops::Range;
+use layout::CALL_TRUE;
+use std::borrow::Cow;
 
 record_type! {
     /// A program record that passed questions 1 to 4. It stays the same throughout a walk.
@@ -62,13 +62,6 @@ fn ran(desk: impl FnOnce(&mut [u8], &mut u32) -> u32) -> Result<Run, Refusal> {
         }
     })?;
     Ok(Run { event: Event::written(record), taken, stopped })
-}
-
-/// The definition that an atom names: a part of the program that it was found in.
-#[derive(Clone, Copy, Debug, PartialEq, Eq, Hash)]
-pub struct Definition<'p> {
-    bytes: &'p [u8],
-    at: usize,
 }
 
 impl Program {
@@ -156,25 +149,6 @@ impl Program {
         ran(|out, taken| raw::door(&self.0, event.as_bytes(), limit, out, taken))
     }
 
-    /// The definition that the event's goal names; nothing where the goal is no atom or has no definition.
-    ///
-    /// ```
-    /// # use fourport::{Event, Program, Query};
-    /// let program = Program::from_bytes([0, 8, 1, 0, 1, 0, 5, 0, 0, 0x10])?;
-    /// let event = Event::first(&Query::from_bytes([0, 5, 1, 0x15, 0, 5, 0])?)?;
-    /// let definition = program.definition(&event).unwrap();
-    /// assert_eq!((definition.predicate(), definition.arity(), definition.locals()), (5, 0, 0));
-    /// assert_eq!(definition.goal(), [0x10]);
-    /// assert_eq!(definition.place(), 5..10);
-    /// # Ok::<(), fourport::Refusal>(())
-    /// ```
-    pub fn definition(&self, event: &Event) -> Option<Definition<'_>> {
-        let mut at = 0;
-        let length = raw::lookup(&self.0, event.as_bytes(), &mut at);
-        let bytes = self.0.get(at..)?.get(..length)?;
-        (!bytes.is_empty()).then_some(Definition { bytes, at })
-    }
-
     /// Every answer of a query, as an iterator that asks the desk for more steps and more room by itself. It ends after the last answer there is, or
     /// gives a [`Stop`](crate::Stop) as its last item: the list is whole exactly where there is none. A walk need not end: [`Answers::with_steps`]
     /// limits it.
@@ -209,38 +183,24 @@ impl Program {
     /// # Ok::<(), fourport::Refusal>(())
     /// ```
     pub fn walk(&self, event: Event) -> Walk<'_> {
-        Walk::new(self, event)
-    }
-}
-
-impl<'p> Definition<'p> {
-    /// The definition's bytes: predicate, arity, locals, goal.
-    pub fn as_bytes(self) -> &'p [u8] {
-        self.bytes
+        Walk::new(Cow::Borrowed(self), event)
     }
 
-    /// Where these bytes stand in the program's record.
-    pub fn place(self) -> Range<usize> {
-        self.at..self.at + self.bytes.len()
-    }
-
-    /// The predicate's number.
-    pub fn predicate(self) -> u16 {
-        number_at(self.bytes, PREDICATE_AT)
-    }
-
-    /// The number of the head's variables.
-    pub fn arity(self) -> u8 {
-        byte_at(self.bytes, ARITY_AT)
-    }
-
-    /// The number of locals.
-    pub fn locals(self) -> u8 {
-        byte_at(self.bytes, LOCALS_AT)
-    }
-
-    /// The bytes of the goal.
-    pub fn goal(self) -> &'p [u8] {
-        self.bytes.get(DEFINITION_GOAL_AT..).unwrap_or_default()
+    /// A walk that stands at the event and keeps the program, to be held in a struct or sent to another thread.
+    ///
+    /// ```
+    /// # use fourport::{Clauses, Event, Query, Walk};
+    /// fn started(rules: &str, query: &str) -> Result<Walk<'static>, Box<dyn std::error::Error>> {
+    ///     let program = Clauses::from_text(rules)?.0.canonical()?;
+    ///     let (query, _) = Query::from_text(rules, query)?;
+    ///     Ok(program.into_walk(Event::first(&query)?))
+    /// }
+    ///
+    /// let mut walk = started("taken(bay1).", "taken(Bay)")?;
+    /// assert_eq!(std::thread::spawn(move || walk.forwards().count()).join().unwrap(), 7);
+    /// # Ok::<(), Box<dyn std::error::Error>>(())
+    /// ```
+    pub fn into_walk(self, event: Event) -> Walk<'static> {
+        Walk::new(Cow::Owned(self), event)
     }
 }

@@ -21,6 +21,29 @@ macro_rules! record_type {
             pub fn as_bytes(&self) -> &[u8] {
                 &self.0
             }
+
+            /// The whole record, without a copy.
+            pub fn into_bytes(self) -> Vec<u8> {
+                self.0
+            }
+        }
+
+        /// As `from_bytes`.
+        impl TryFrom<Vec<u8>> for $name {
+            type Error = Refusal;
+
+            fn try_from(bytes: Vec<u8>) -> Result<$name, Refusal> {
+                $name::from_bytes(bytes)
+            }
+        }
+
+        /// As `from_bytes`, with a copy.
+        impl TryFrom<&[u8]> for $name {
+            type Error = Refusal;
+
+            fn try_from(bytes: &[u8]) -> Result<$name, Refusal> {
+                $name::from_bytes(bytes)
+            }
         }
 
         impl AsRef<[u8]> for $name {
@@ -39,6 +62,24 @@ pub fn passed(puts: impl FnOnce(&[u8], &mut [u8]) -> u32, bytes: &[u8]) -> Resul
         None | Some(Refusal::Locals | Refusal::Fit) => Ok(()),
         Some(refusal) => Err(refusal),
     }
+}
+
+/// The first record of a buffer, by its length field, and the bytes behind it; nothing where the buffer does not hold all of it. Whether it is a record
+/// of the kind one wants is asked by `from_bytes` of that kind.
+///
+/// ```
+/// use fourport::{split_record, Program, Query};
+/// // the walk program's input: a program, and behind it a query
+/// let input = [0, 3, 1, 0, 0, 0, 2, 1, 0x10];
+/// let (program, rest) = split_record(&input).unwrap();
+/// let (query, rest) = split_record(rest).unwrap();
+/// assert!(Program::from_bytes(program).is_ok() && Query::from_bytes(query).is_ok() && rest.is_empty());
+/// assert_eq!(split_record(&input[..4]), None);
+/// assert_eq!(split_record(&[0]), None);
+/// ```
+pub fn split_record(bytes: &[u8]) -> Option<(&[u8], &[u8])> {
+    let (record, rest) = layout::split_record(bytes);
+    (record.len() == 2 + usize::from(layout::number_at(bytes, 0))).then_some((record, rest))
 }
 
 /// The record that a service wrote into an output of 32,768 bytes.

@@ -1,5 +1,5 @@
-//! The garages of the repository's examples: each input of the walk program is what the product makes of the rules and the query, and each story has
-//! the numbers of the names and events of the walk.
+//! The little garages of the repository's examples, those with a query beside their rules: each input of the walk program is what the product makes of
+//! rules and query, and each story has the numbers of the names and events of the walk.
 
 use fourport::{Clauses, Event, Names, Program, Query};
 use std::fs;
@@ -27,7 +27,7 @@ fn story(name: &str) -> String {
 
 fn garages() -> Vec<Garage> {
     let files = fs::read_dir(folder()).expect("the examples").filter_map(|file| file.ok()?.file_name().into_string().ok());
-    let mut names: Vec<String> = files.filter_map(|file| file.strip_suffix(".pl").map(String::from)).collect();
+    let mut names: Vec<String> = files.filter_map(|file| file.strip_suffix(".query").map(String::from)).collect();
     names.sort();
     assert_eq!(names.len(), 6);
     names.into_iter().map(garage).collect()

@@ -98,7 +98,10 @@ fn words(refused: Result<(Clauses, Names), TextRefusal>) -> String {
 
 #[test]
 fn refusals_in_words() {
-    assert_eq!(words(Clauses::from_text("p(\"a\").")), "the rules, line 1, column 3: `\"` stands in no text (question 20)");
+    assert_eq!(
+        words(Clauses::from_text("p(\"a\").")),
+        "the rules, line 1, column 3: `\"` stands in no text: there are no quoted names (question 20)"
+    );
     assert_eq!(words(Clauses::from_text(b"p.\x00")), "the rules, line 1, column 3: byte 0 stands in no text (question 20)");
     assert_eq!(words(Clauses::from_text("p :- ")), "the rules, line 1, column 6: the text ends within a clause (question 21)");
     assert_eq!(words(Clauses::from_text(" ".repeat(65_536))), "the rules: a text has at most 65,535 bytes (question 22)");

@@ -60,7 +60,7 @@ fn a_definition_is_a_part_of_the_program() {
     let definition = program.definition(&start).expect("sheet has one");
     assert_eq!(definition.predicate(), 4);
     assert_eq!(program.as_bytes()[definition.place()].as_ptr(), definition.as_bytes().as_ptr());
-    assert_eq!(definition.as_bytes().len(), 4 + definition.goal().len());
+    assert_eq!(definition.as_bytes().len(), 4 + definition.goal().as_bytes().len());
     let none = Program::from_bytes(NO_DEFINITIONS).expect("no definitions");
     assert_eq!(none.definition(&start), None);
     let called = program.forward(&start).expect("the body");

@@ -2,6 +2,10 @@
 
 use crate::{ATOM, CONJUNCTION, DISJUNCTION, EQUALITY, IN_CONJUNCTION, IN_DISJUNCTION, OR, SYMBOL, UNIFIER, VARIABLE};
 
+/// The body of a record starts here: a query's goal, or the count of definitions or clauses.
+pub const BODY_AT: usize = 3;
+/// The definitions of a program, or the clauses of a clause record, start here.
+pub const LIST_AT: usize = 5;
 /// An event's port stands here.
 pub const PORT_AT: usize = 3;
 /// An event's goal starts here.
@@ -12,6 +16,10 @@ pub const PREDICATE_AT: usize = 0;
 pub const ARITY_AT: usize = 2;
 pub const LOCALS_AT: usize = 3;
 pub const DEFINITION_GOAL_AT: usize = 4;
+
+// Places within a clause, which has its predicate and arity where a definition has them: the number of variables, head terms and body.
+pub const VARIABLE_COUNT_AT: usize = 3;
+pub const HEAD_AT: usize = 4;
 
 pub fn byte_at(bytes: &[u8], at: usize) -> u8 {
     bytes.get(at).copied().unwrap_or_default()
@@ -57,6 +65,16 @@ pub fn bet_end(bytes: &[u8], at: usize) -> usize {
         OR => at + 2,
         _ => goal_end(bytes, at + 1, |_| ()),
     }
+}
+
+/// Where the definition at a place ends.
+pub fn definition_end(bytes: &[u8], at: usize) -> usize {
+    goal_end(bytes, at + DEFINITION_GOAL_AT, |_| ())
+}
+
+/// Where the clause at a place ends.
+pub fn clause_end(bytes: &[u8], at: usize) -> usize {
+    end(bytes, at + HEAD_AT, usize::from(byte_at(bytes, at + ARITY_AT)), 1, |_| ())
 }
 
 /// Where so many terms, and behind them so many goals, end. Terms are read first, since no goal stands within a term.

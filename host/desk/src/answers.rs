@@ -1,0 +1,105 @@
+//! `desk answers`: every answer of a query, with the clauses that gave it, and whether these are all.
+
+use crate::derivation::{gave, Called};
+use crate::diagnostic::refusal_words;
+use crate::garage::Garage;
+use crate::naming::EventNames;
+use crate::progress::Progress;
+use crate::sheet::{Ending, Form, Row, UsedClause};
+use crate::status::{counted, Status};
+use fourport::{Answer, Stop, TermKind};
+use std::collections::HashSet;
+use std::io::{self, Write};
+
+/// What is asked for.
+#[derive(Clone, Copy, Debug)]
+pub struct Order {
+    /// the most answers
+    pub limit: u64,
+    /// the most steps
+    pub steps: u32,
+    pub form: Form,
+}
+
+/// Prints the list.
+pub fn answers(garage: &Garage, order: Order, out: &mut dyn Write) -> io::Result<Status> {
+    let variables = garage.query_variables();
+    let (progress, mut given, mut stop) = (Progress::new(), 0, None);
+    let mut list = garage.program.answers(&garage.query).with_steps(order.steps).with_progress(Box::new(progress.asking()));
+    let names: Vec<String> = variables.iter().map(|(name, _)| name.clone()).collect();
+    order.form.head(out, &garage.query.shown(&garage.names).to_string(), &names)?;
+    while given < order.limit {
+        match list.next() {
+            Some(Ok(answer)) => {
+                progress.answer();
+                order.form.row(out, &row(garage, &variables, &answer), given == 0)?;
+                out.flush()?;
+                given += 1;
+            }
+            Some(Err(stopped)) => {
+                stop = Some(stopped);
+                break;
+            }
+            None => break,
+        }
+    }
+    // no step is made to find out whether there is one more
+    let cut = given == order.limit && !(list.is_whole() && list.next().is_none());
+    drop(progress);
+    let ending = ending(given, list.taken(), if cut { Cut::Limit } else { stop.map_or(Cut::Whole, Cut::Stopped) });
+    order.form.tail(out, &ending)?;
+    out.flush()?;
+    Ok(match (ending.whole, given) {
+        (true, 0) => Status::NoAnswer,
+        (true, _) => Status::Done,
+        (false, _) => Status::Stopped,
+    })
+}
+
+/// What ended a list.
+#[derive(Clone, Copy)]
+enum Cut {
+    Whole,
+    Limit,
+    Stopped(Stop),
+}
+
+fn ending(answers: u64, steps: u32, cut: Cut) -> Ending {
+    let (given, walked) = (counted(answers, "answer"), counted(steps.into(), "step"));
+    let (number, words) = match cut {
+        Cut::Whole => (Some(6), format!("{given}; the list is whole: the walk ended after {walked} (number 6)")),
+        Cut::Limit => (None, format!("{given}; stopped by --limit: there may be more")),
+        Cut::Stopped(Stop::Steps) => (Some(0), format!("{given}; stopped by --steps after {walked} (number 0): there may be more")),
+        Cut::Stopped(stop @ Stop::Room) => {
+            (Some(stop.number()), format!("{given}; stopped after {walked} (number {}): the answers have too many bytes together", stop.number()))
+        }
+        Cut::Stopped(Stop::Refused(refusal)) => {
+            let (number, why) = (refusal.number(), refusal_words(refusal));
+            (Some(number), format!("{given}; stopped after {walked} (number {number}): {why}; there may be more answers"))
+        }
+    };
+    Ending { answers, steps, number, whole: matches!(cut, Cut::Whole), words }
+}
+
+fn row(garage: &Garage, variables: &[(String, u16)], answer: &Answer) -> Row {
+    let gave = gave(garage, answer);
+    let names = EventNames::of_answer(garage, &gave);
+    let value = |number| match answer.value(number) {
+        Some(term) if term.view().kind() != TermKind::Variable(number) => term.shown(&names).to_string(),
+        _ => "_".into(),
+    };
+    let values = variables.iter().map(|(name, number)| (name.clone(), value(*number))).collect();
+    Row { values, clauses: used(garage, &gave) }
+}
+
+/// The clauses in the order in which they were called, each once.
+fn used(garage: &Garage, gave: &[Called<'_>]) -> Vec<UsedClause> {
+    let mut met = HashSet::new();
+    let first = gave.iter().filter(|called| met.insert((called.predicate, called.clause)));
+    let shown = first.filter_map(|called| {
+        let outline = garage.clause(called.predicate, called.clause)?;
+        let (predicate, line) = (garage.shown_predicate(called.predicate), garage.rules.line_of(outline.span.from));
+        Some(UsedClause { predicate, file: garage.rules.name().into(), line })
+    });
+    shown.collect()
+}

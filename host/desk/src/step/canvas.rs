@@ -1,0 +1,112 @@
+//! The terminal's screen: held while the program has it, drawn row by row, and watched for Ctrl-C while a move is under way.
+
+use super::fit::{cut, plain};
+use super::screen::{Line, Look, Size};
+use crate::status::grouped;
+use crate::style::Style;
+use crossterm::cursor::MoveTo;
+use crossterm::event::{self, Event, KeyCode, KeyModifiers};
+use crossterm::style::Print;
+use crossterm::terminal::{self, Clear, ClearType, EnterAlternateScreen, LeaveAlternateScreen};
+use crossterm::{execute, queue};
+use std::io::{self, stdout, Write};
+use std::time::{Duration, Instant};
+
+/// The size where the terminal does not tell.
+const USUAL: (u16, u16) = (80, 24);
+/// The rows below the screen: a message, and the line that one types.
+pub const BELOW: usize = 2;
+/// A move that takes longer tells how far it is, and listens for Ctrl-C. What is typed before waits for the prompt.
+const PATIENCE: Duration = Duration::from_millis(500);
+
+/// The screen as long as this lives; afterwards the terminal is as it was.
+#[derive(Debug)]
+pub struct Canvas {
+    style: Style,
+}
+
+impl Canvas {
+    /// Keys come one by one and unechoed, so that Ctrl-C is a key and ends nothing.
+    pub fn take() -> io::Result<Canvas> {
+        terminal::enable_raw_mode()?;
+        let canvas = Canvas { style: Style::of(&stdout()) };
+        execute!(stdout(), EnterAlternateScreen)?;
+        Ok(canvas)
+    }
+
+    /// The size of what is above the message.
+    pub fn size(&self) -> Size {
+        let (columns, rows) = terminal::size().ok().filter(|&(columns, rows)| columns > 0 && rows > 0).unwrap_or(USUAL);
+        Size { columns: usize::from(columns), rows: usize::from(rows).saturating_sub(BELOW) }
+    }
+
+    /// All rows anew: the lines, the message, and an empty row in which the cursor stays.
+    pub fn draw(&self, lines: &[Line], message: &str) -> io::Result<()> {
+        let (size, mut out) = (self.size(), stdout().lock());
+        for (row, place) in (0..size.rows).zip(0u16..) {
+            let text = lines.get(row).map(|line| self.styled(line)).unwrap_or_default();
+            queue!(out, MoveTo(0, place), Clear(ClearType::CurrentLine), Print(text))?;
+        }
+        put_message(&mut out, size, message)?;
+        queue!(out, MoveTo(0, row_below(size, 1)), Clear(ClearType::CurrentLine))?;
+        out.flush()
+    }
+
+    /// A question for the pieces of a move that starts now: is it to stop?
+    pub fn watch(&self) -> impl FnMut(u64) -> bool {
+        let (start, size) = (Instant::now(), self.size());
+        move |number| {
+            if start.elapsed() < PATIENCE {
+                return false;
+            }
+            let mut out = stdout().lock();
+            // a message that cannot be written is no reason to stop
+            let _ = put_message(&mut out, size, &format!("at event {}; Ctrl-C stops here", grouped(number))).and_then(|()| out.flush());
+            ctrl_c_is_pressed()
+        }
+    }
+
+    fn styled(&self, line: &Line) -> String {
+        let style = self.style;
+        match (line.look, &line.marked) {
+            (_, Some(marked)) => {
+                let part = |from: usize, to: usize| line.text.chars().skip(from).take(to.saturating_sub(from)).collect::<String>();
+                let (before, goal, behind) = (part(0, marked.start), part(marked.start, marked.end), part(marked.end, usize::MAX));
+                format!("{before}{}{behind}", style.marked(&goal))
+            }
+            (Look::Head(_) | Look::Strong, None) => style.strong(&line.text),
+            (Look::Title, None) => style.quiet(&line.text),
+            (Look::Mark, None) => style.marked(&line.text),
+            (Look::Plain, None) => line.text.clone(),
+        }
+    }
+}
+
+impl Drop for Canvas {
+    fn drop(&mut self) {
+        // where the terminal is gone there is nothing to put back
+        let _ = execute!(stdout(), LeaveAlternateScreen);
+        let _ = terminal::disable_raw_mode();
+    }
+}
+
+/// The row so many below the screen.
+fn row_below(size: Size, below: usize) -> u16 {
+    u16::try_from(size.rows + below).unwrap_or(u16::MAX)
+}
+
+fn put_message(out: &mut impl Write, size: Size, message: &str) -> io::Result<()> {
+    queue!(out, MoveTo(0, row_below(size, 0)), Clear(ClearType::CurrentLine), Print(cut(&plain(message), size.columns)))
+}
+
+/// Reads the keys that wait; whether Ctrl-C is among them.
+fn ctrl_c_is_pressed() -> bool {
+    while event::poll(Duration::ZERO).unwrap_or(false) {
+        match event::read() {
+            Ok(Event::Key(key)) if key.code == KeyCode::Char('c') && key.modifiers.contains(KeyModifiers::CONTROL) => return true,
+            Ok(_) => (),
+            Err(_) => return false,
+        }
+    }
+    false
+}

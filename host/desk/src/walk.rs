@@ -1,0 +1,104 @@
+//! `desk walk`: the walk of a query in words, a line for each event.
+
+use crate::diagnostic::refusal_words;
+use crate::garage::{Garage, Predicate};
+use crate::position::predicate;
+use crate::status::{grouped, Status};
+use fourport::{Direction, Event, Port, Refusal, Walk};
+use std::io::{self, Write};
+
+/// What is asked for.
+#[derive(Clone, Debug)]
+pub struct Order {
+    /// past the first answer
+    pub all: bool,
+    /// the first and the last event that are shown
+    pub from: u64,
+    pub to: u64,
+    /// the ports that are shown; all where none is named
+    pub ports: Vec<Port>,
+    /// the predicates whose atoms are shown; all goals where none is named
+    pub spied: Vec<Predicate>,
+}
+
+impl Order {
+    fn shows(&self, event: &Event) -> bool {
+        let spied = || predicate(event.goal()).is_some_and(|of| self.spied.contains(&of));
+        (self.ports.is_empty() || self.ports.contains(&event.port())) && (self.spied.is_empty() || spied())
+    }
+}
+
+/// Why a walk is not shown further.
+enum End {
+    Answer,
+    /// the last event that was asked for
+    Shown,
+    Refused(Refusal),
+}
+
+/// Prints the events.
+pub fn walk(garage: &Garage, order: &Order, out: &mut dyn Write) -> io::Result<Status> {
+    let mut walk = garage.program.walk(garage.first().clone());
+    let (mut number, end) = skipped(garage, order, &mut walk);
+    let end = match end {
+        Some(end) => end,
+        None => loop {
+            if order.shows(walk.event()) {
+                writeln!(out, "{}", garage.event_line(number, walk.event()))?;
+            }
+            if !order.all && garage.is_answer(walk.event()) {
+                break End::Answer;
+            }
+            if number >= order.to {
+                break End::Shown;
+            }
+            if let Err(refusal) = walk.forward() {
+                break End::Refused(refusal);
+            }
+            number += 1;
+        },
+    };
+    writeln!(out, "{}", ending(walk.event(), number, &end))?;
+    out.flush()?;
+    Ok(match end {
+        End::Answer | End::Shown => Status::Done,
+        End::Refused(Refusal::Walk) if has_answer(garage) => Status::Done,
+        End::Refused(Refusal::Walk) => Status::NoAnswer,
+        End::Refused(_) => Status::Stopped,
+    })
+}
+
+/// Whether a walk that has ended came past an answer.
+fn has_answer(garage: &Garage) -> bool {
+    garage.program.answers(&garage.query).next().is_some_and(|answer| answer.is_ok())
+}
+
+/// Goes to the first event that is shown. Without `--all` an answer before it ends the walk.
+fn skipped(garage: &Garage, order: &Order, walk: &mut Walk<'_>) -> (u64, Option<End>) {
+    let mut number = 0;
+    while number < order.from {
+        if !order.all && garage.is_answer(walk.event()) {
+            return (number, Some(End::Answer));
+        }
+        let steps = if order.all { u32::try_from(order.from - number).unwrap_or(u32::MAX) } else { 1 };
+        match walk.run(steps, Direction::Forward) {
+            Ok(taken) => number += u64::from(taken),
+            Err(refusal) => return (number, Some(End::Refused(refusal))),
+        }
+        if let Some(refusal) = walk.stopped() {
+            return (number, Some(End::Refused(refusal)));
+        }
+    }
+    (number, None)
+}
+
+/// The last line.
+fn ending(event: &Event, number: u64, end: &End) -> String {
+    let at = grouped(number);
+    match end {
+        End::Answer => format!("an answer at event {at}; --all goes on from there"),
+        End::Shown => format!("shown up to event {at}; --to goes further"),
+        End::Refused(Refusal::Walk) if event.port() == Port::Fail => format!("the walk ends at event {at} (number 6): there is no other answer"),
+        End::Refused(refusal) => format!("the walk stops at event {at} (number {}): {}", refusal.number(), refusal_words(*refusal)),
+    }
+}

@@ -3,15 +3,21 @@
 use crate::sheet::Form;
 use clap::{value_parser, Arg, ArgAction, ArgGroup, ArgMatches, Command};
 
-/// The steps that `desk answers` walks unless it is told otherwise, and the last event that `desk walk` shows.
+/// The steps that `desk answers` walks unless it is told otherwise.
 const USUAL_STEPS: &str = "10000000";
-const USUAL_LAST: &str = "100000";
+/// The events behind the first one that `desk walk` shows then.
+const USUAL_EVENTS: u64 = 100_000;
 
 const ABOUT: &str = "Walks a query through a garage's rules, forward and back";
-const AFTER: &str = "RULES is a file of clauses. QUERY is a goal without a full stop, such as 'light(bay7, Light)', or @FILE for a file that has it.
+const AFTER: &str = "\
+RULES is a file of clauses. QUERY is a goal without a full stop, such as
+'light(bay7, Light)', or @FILE for a file that has one.
 
-Rules are pure Prolog: facts, rules, `,` `;` `=` and brackets around goals; no lists, numbers to reckon with, negation or cut. A comment goes from % to the end of its line; \
-the desk puts blanks in its place before the library reads, so comments count towards the 65,535 bytes that rules and query may have together.
+Rules are pure Prolog: facts, rules, `,` `;` `=` and brackets around goals; no
+lists, arithmetic, negation or cut. A comment goes from % to the end of its
+line. The library knows no comments: the desk puts blanks in their place before
+it reads, so they count towards the 65,535 bytes that rules and query may have
+together.
 
 Exit status: 0 done, 1 no answer, 2 refused input, 3 a limit stopped the walk.";
 
@@ -42,7 +48,7 @@ fn walk() -> Command {
     texts(Command::new("walk").about("Prints the walk in words, a line for each event, up to the first answer"))
         .arg(Arg::new("all").long("all").action(ArgAction::SetTrue).help("Goes on past the first answer"))
         .arg(number("from", "N", "The first event that is shown").default_value("0"))
-        .arg(number("to", "N", "The last event that is shown").default_value(USUAL_LAST))
+        .arg(number("to", "N", "The last event that is shown [default: 100,000 behind the first]"))
         .arg(
             Arg::new("ports")
                 .long("ports")
@@ -60,6 +66,11 @@ fn walk() -> Command {
         )
 }
 
+fn step() -> Command {
+    texts(Command::new("step").about("Steps forward and back at a prompt; commands may come from a pipe"))
+        .arg(number("at", "N", "The event at which it starts").default_value("0"))
+}
+
 fn command() -> Command {
     Command::new("desk")
         .about(ABOUT)
@@ -69,14 +80,14 @@ fn command() -> Command {
         .arg_required_else_help(true)
         .subcommand(answers())
         .subcommand(walk())
-        .subcommand(texts(Command::new("step").about("Steps forward and back at a prompt; commands may come from a pipe")))
+        .subcommand(step())
 }
 
 /// What was asked for.
 pub enum Asked {
     Answers { limit: u64, steps: u32, form: Form },
     Walk { all: bool, from: u64, to: u64, ports: Vec<String>, spied: Vec<String> },
-    Step,
+    Step { at: u64 },
 }
 
 /// The command line, read.
@@ -114,14 +125,12 @@ pub fn read(arguments: impl IntoIterator<Item = std::ffi::OsString>) -> Result<A
             let steps = matches.get_one::<u32>("steps").copied().unwrap_or(u32::MAX);
             Asked::Answers { limit: number_of(matches, "limit").unwrap_or(u64::MAX), steps, form }
         }
-        "walk" => Asked::Walk {
-            all: matches.get_flag("all"),
-            from: number_of(matches, "from").unwrap_or_default(),
-            to: number_of(matches, "to").unwrap_or(u64::MAX),
-            ports: words(matches, "ports"),
-            spied: words(matches, "spy"),
-        },
-        _ => Asked::Step,
+        "walk" => {
+            let from = number_of(matches, "from").unwrap_or_default();
+            let to = number_of(matches, "to").unwrap_or(from.saturating_add(USUAL_EVENTS));
+            Asked::Walk { all: matches.get_flag("all"), from, to, ports: words(matches, "ports"), spied: words(matches, "spy") }
+        }
+        _ => Asked::Step { at: number_of(matches, "at").unwrap_or_default() },
     };
     Ok(Arguments { rules: word(matches, "rules"), query: word(matches, "query"), asked })
 }

@@ -33,7 +33,7 @@ pub struct Diagnostic {
     level: Level,
     file: Option<String>,
     words: String,
-    extract: Option<Extract>,
+    extract: Option<Box<Extract>>,
     notes: Vec<String>,
 }
 
@@ -50,7 +50,7 @@ impl Diagnostic {
 
     /// About a part of a text.
     pub fn at(level: Level, source: &Source, span: Span, words: impl Into<String>) -> Diagnostic {
-        Diagnostic { level, extract: Some(Extract::of(source, span)), ..Diagnostic::of_file(source.name(), words) }
+        Diagnostic { level, extract: Some(Box::new(Extract::of(source, span))), ..Diagnostic::of_file(source.name(), words) }
     }
 
     /// A text that the library refused.
@@ -84,7 +84,7 @@ impl Diagnostic {
         }));
         let level = if self.level == Level::Error { style.error("error:") } else { style.warning("warning:") };
         text += &format!("{level} {}\n", self.words);
-        if let Some(Extract { line, shown, indent, mark, .. }) = &self.extract {
+        if let Some(Extract { line, shown, indent, mark, .. }) = self.extract.as_deref() {
             _ = writeln!(text, "{line:>5} | {shown}\n      | {indent}{}", style.marked(mark));
         }
         text.extend(self.notes.iter().map(|note| format!("      = {note}\n")));

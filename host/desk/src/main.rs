@@ -106,9 +106,9 @@ fn run(Arguments { rules, query, asked }: Arguments) -> Result<Status, Failure> 
             let ports = [Port::Call, Port::Exit, Port::Fail, Port::Redo].into_iter().filter(|port| ports.contains(&port.to_string())).collect();
             walk::walk(&garage, &walk::Order { all, from, to, ports, spied }, &mut out)?
         }
-        Asked::Step => {
+        Asked::Step { at } => {
             drop(out);
-            step::step(&garage)?
+            step::step(&garage, at)?
         }
     })
 }

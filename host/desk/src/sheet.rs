@@ -84,7 +84,30 @@ fn lines(out: &mut dyn Write, row: &Row) -> io::Result<()> {
     if clauses.is_empty() {
         return Ok(());
     }
-    writeln!(out, "    by {}", clauses.join(", "))
+    writeln!(out, "{BY}{}", wrapped(&clauses))
+}
+
+/// What stands before the clauses of an answer, and the most columns of their lines.
+const BY: &str = "    by ";
+const COLUMNS: usize = 80;
+
+/// Parts with commas between them, in lines that begin below the first part.
+fn wrapped(parts: &[String]) -> String {
+    let (mut text, mut column) = (String::new(), BY.len());
+    for (i, part) in parts.iter().enumerate() {
+        let comma = usize::from(i + 1 < parts.len());
+        if i > 0 && column + 1 + part.len() + comma > COLUMNS {
+            text = text + "\n" + &" ".repeat(BY.len());
+            column = BY.len();
+        } else if i > 0 {
+            text.push(' ');
+            column += 1;
+        }
+        text += part;
+        text += if comma == 1 { "," } else { "" };
+        column += part.len() + comma;
+    }
+    text
 }
 
 impl UsedClause {
@@ -134,6 +157,14 @@ fn json(text: &str) -> String {
 #[cfg(test)]
 mod tests {
     use super::*;
+
+    #[test]
+    fn clauses_are_wrapped() {
+        let parts: Vec<String> = (0..9).map(|i| format!("light/2 a.pl:{i}")).collect();
+        let text = format!("{BY}{}", wrapped(&parts));
+        assert_eq!(text.lines().map(str::len).collect::<Vec<_>>(), [70, 70, 21]);
+        assert_eq!(text.replace(",\n       ", ", "), format!("{BY}{}", parts.join(", ")));
+    }
 
     #[test]
     fn quoting() {

@@ -33,6 +33,8 @@ enum End {
     Answer,
     /// the last event that was asked for
     Shown,
+    /// no event was asked for
+    Nothing,
     Refused(Refusal),
 }
 
@@ -40,6 +42,7 @@ enum End {
 pub fn walk(garage: &Garage, order: &Order, out: &mut dyn Write) -> io::Result<Status> {
     let mut walk = garage.program.walk(garage.first().clone());
     let (mut number, end) = skipped(garage, order, &mut walk);
+    let end = end.or((order.to < order.from).then_some(End::Nothing));
     let end = match end {
         Some(end) => end,
         None => loop {
@@ -62,6 +65,7 @@ pub fn walk(garage: &Garage, order: &Order, out: &mut dyn Write) -> io::Result<S
     out.flush()?;
     Ok(match end {
         End::Answer | End::Shown => Status::Done,
+        End::Nothing => Status::Refused,
         End::Refused(Refusal::Walk) if has_answer(garage) => Status::Done,
         End::Refused(Refusal::Walk) => Status::NoAnswer,
         End::Refused(_) => Status::Stopped,
@@ -98,6 +102,7 @@ fn ending(event: &Event, number: u64, end: &End) -> String {
     match end {
         End::Answer => format!("an answer at event {at}; --all goes on from there"),
         End::Shown => format!("shown up to event {at}; --to goes further"),
+        End::Nothing => "nothing is shown: --to stands before --from".into(),
         End::Refused(Refusal::Walk) if event.port() == Port::Fail => format!("the walk ends at event {at} (number 6): there is no other answer"),
         End::Refused(refusal) => format!("the walk stops at event {at} (number {}): {}", refusal.number(), refusal_words(*refusal)),
     }

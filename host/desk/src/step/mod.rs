@@ -1,5 +1,6 @@
 //! `desk step`: along the walk of a query, forward and back, by typed commands, by keys, or by a script from a pipe.
 
+mod binding;
 mod breaks;
 mod canvas;
 mod clause;
@@ -7,6 +8,7 @@ mod command;
 mod extent;
 mod fit;
 mod help;
+mod inside;
 mod keys;
 mod moves;
 mod questions;
@@ -23,7 +25,7 @@ use crate::style::Style;
 use screen::Size;
 use session::Session;
 use std::env;
-use std::io::{self, IsTerminal};
+use std::io::{self, IsTerminal, Write};
 
 /// What stands before a typed command.
 const PROMPT: &str = "(desk) ";
@@ -32,17 +34,21 @@ const COLUMNS: usize = 80;
 /// The rows of a screen that is written to a pipe: those that a terminal of 24 rows has for it.
 const ROWS: usize = 24 - canvas::BELOW;
 
-/// Commands from the standard input until it ends. A script with a command that is not understood is refused input.
-pub fn step(garage: &Garage) -> io::Result<Status> {
+/// Commands from the standard input until it ends, from the event of a number on. A script with a command that is not understood is refused input.
+pub fn step(garage: &Garage, at: u64) -> io::Result<Status> {
     let extent = extent::extent(garage);
-    let mut session = Session::new(garage);
+    let (mut session, words) = Session::start_at(garage, at);
     if is_interactive() {
         let predicates = garage.program.definitions().map(|known| garage.shown_predicate((known.predicate(), known.arity()))).collect();
         let warnings = garage.warnings().iter().map(|warning| warning.lines(Style::PLAIN)).collect::<String>();
-        return terminal::run(&mut session, &extent, predicates, &warnings).map(|()| Status::Done);
+        return terminal::run(&mut session, &extent, predicates, &warnings, words).map(|()| Status::Done);
     }
     let columns = env::var("COLUMNS").ok().and_then(|columns| columns.parse().ok()).filter(|&columns| columns > 0).unwrap_or(COLUMNS);
-    let understood = script::run(&mut session, &extent, Size { columns, rows: ROWS }, &mut io::stdin().lock(), &mut io::stdout().lock())?;
+    let mut output = io::stdout().lock();
+    if let Some(words) = words {
+        writeln!(output, "{words}")?;
+    }
+    let understood = script::run(&mut session, &extent, Size { columns, rows: ROWS }, &mut io::stdin().lock(), &mut output)?;
     Ok(if understood { Status::Done } else { Status::Refused })
 }
 

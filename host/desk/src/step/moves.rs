@@ -1,7 +1,9 @@
 //! Moves along the walk: each by the library's own steps and runs, in pieces, so that a long one can be stopped.
 
+use super::binding::own_bets;
+use super::inside::inside;
 use crate::garage::Garage;
-use fourport::{Ancestor, Direction, Event, Half, Port, Refusal, Walk};
+use fourport::{Ancestor, Direction, Event, Half, Port, Program, Refusal, Walk};
 
 /// The most steps of a move that has no number of steps.
 pub const MOST_STEPS: u64 = 10_000_000;
@@ -34,12 +36,13 @@ pub enum Ended {
 /// Where one stands in the walk of 'Q, fail': its number is 0 at the call of Q.
 #[derive(Debug)]
 pub struct Stand<'g> {
+    program: &'g Program,
     walk: Walk<'g>,
 }
 
 impl<'g> Stand<'g> {
     pub fn new(garage: &'g Garage) -> Stand<'g> {
-        Stand { walk: garage.program.walk(garage.first().clone()) }
+        Stand { program: &garage.program, walk: garage.program.walk(garage.first().clone()) }
     }
 
     pub fn event(&self) -> &Event {
@@ -106,38 +109,138 @@ impl<'g> Stand<'g> {
         Ended::Spent
     }
 
-    /// From an entry of the goal to its next end; elsewhere one step. Every event in between is inside the goal and has more ancestors.
+    /// From an entry of the goal to its next end; elsewhere one step.
     pub fn over(&mut self, pulse: Pulse) -> Ended {
-        let ancestors = self.event().ancestor_count();
         match self.event().port() {
-            Port::Call | Port::Redo => self.until(Direction::Forward, |event| event.ancestor_count() <= ancestors, pulse),
+            Port::Call | Port::Redo => self.within(0, Direction::Forward, pulse),
             Port::Exit | Port::Fail => self.run(1, Direction::Forward, pulse),
         }
     }
 
     /// From an end of the goal back to the entry before it; elsewhere one step back.
     pub fn back_over(&mut self, pulse: Pulse) -> Ended {
-        let ancestors = self.event().ancestor_count().max(QUERY_ANCESTORS);
         match self.event().port() {
-            Port::Exit | Port::Fail => self.until(Direction::Back, |event| event.ancestor_count() <= ancestors, pulse),
-            Port::Call | Port::Redo => self.run(1, Direction::Back, pulse),
+            Port::Exit | Port::Fail if !self.is_last() => self.within(0, Direction::Back, pulse),
+            _ => self.run(1, Direction::Back, pulse),
         }
     }
 
     /// From an entry of the goal to its next end; from an end to the next end of the atom around it, or of the query where there is none.
     pub fn finish(&mut self, pulse: Pulse) -> Ended {
-        match self.event().port() {
-            Port::Call | Port::Redo => self.over(pulse),
-            Port::Exit | Port::Fail => {
-                let below = below_the_atom(self.event());
-                self.until(Direction::Forward, |event| is_end_below(event, below), pulse)
+        let around = self.event().ancestors().position(|ancestor| matches!(ancestor, Ancestor::Atom(_)));
+        match (self.event().port(), around.and_then(|above| u16::try_from(above + 1).ok())) {
+            (Port::Call | Port::Redo, _) => self.over(pulse),
+            (Port::Exit | Port::Fail, Some(kept)) => self.within(kept, Direction::Forward, pulse),
+            (Port::Exit | Port::Fail, None) => self.finish_the_query(pulse),
+        }
+    }
+
+    /// To the next answer, or to the end of the walk.
+    pub fn next_answer(&mut self, pulse: Pulse) -> Ended {
+        loop {
+            match self.finish_the_query(pulse) {
+                Ended::There if self.event().port() != Port::Exit => (),
+                ended => return ended,
             }
         }
     }
 
+    /// To the answer before, or to the first event.
+    pub fn previous_answer(&mut self, pulse: Pulse) -> Ended {
+        loop {
+            let ended = match self.event().port() {
+                Port::Call | Port::Redo if self.is_around(Half::First) => self.run(1, Direction::Back, pulse),
+                _ if self.is_around(Half::Second) || self.is_last() => self.run(1, Direction::Back, pulse),
+                _ => self.within(self.event().ancestor_count() - QUERY_ANCESTORS, Direction::Back, pulse),
+            };
+            if ended != Ended::There || (self.event().port() == Port::Exit && self.is_around(Half::First)) {
+                return ended;
+            }
+        }
+    }
+
+    /// From inside the query to its next end; from an end of it to the one after, or to the last event of all.
+    fn finish_the_query(&mut self, pulse: Pulse) -> Ended {
+        loop {
+            let is_entry = matches!(self.event().port(), Port::Call | Port::Redo);
+            let asks_on = self.is_around(Half::Second) || (self.is_around(Half::First) && !is_entry);
+            if !asks_on && !self.is_last() {
+                return self.within(self.event().ancestor_count() - QUERY_ANCESTORS, Direction::Forward, pulse);
+            }
+            let ended = self.run(1, Direction::Forward, pulse);
+            if ended != Ended::There || self.is_last() {
+                return ended;
+            }
+        }
+    }
+
+    /// Whether the event is of 'Q, fail' itself: of Q, its first half, or of the fail that asks for another answer.
+    fn is_around(&self, half: Half) -> bool {
+        let mut ancestors = self.event().ancestors();
+        self.event().ancestor_count() == QUERY_ANCESTORS && ancestors.next().and_then(Ancestor::half) == Some(half)
+    }
+
+    /// Whether the event is the fail of 'Q, fail', behind which there is nothing.
+    fn is_last(&self) -> bool {
+        self.event().ancestor_count() < QUERY_ANCESTORS
+    }
+
+    /// To the next end, or back to the entry before, of the goal that stands under all but so many of the nearest ancestors: this goal, where none is
+    /// kept. A run without what is around that goal finds how far it is.
+    fn within(&mut self, kept: u16, direction: Direction, pulse: Pulse) -> Ended {
+        let Some(mut alone) = inside(self.event(), kept) else { return self.within_by_steps(kept, direction, pulse) };
+        let mut left = MOST_STEPS;
+        while left > 0 {
+            let Ok(found) = self.program.run(&alone, u32::try_from(PIECE.min(left)).unwrap_or(u32::MAX), direction) else { break };
+            let ended = self.run(u64::from(found.taken), direction, &mut |_| false);
+            match found.stopped {
+                _ if ended != Ended::There => return ended,
+                Some(Refusal::Match) => return Ended::There,
+                // the event as it is is longer: it is refused no later
+                Some(_) => return self.run(1, direction, pulse),
+                None => (),
+            }
+            alone = found.event;
+            left = left.saturating_sub(u64::from(found.taken));
+            if pulse(self.number()) {
+                return Ended::Stopped;
+            }
+        }
+        Ended::Spent
+    }
+
+    /// The same by single steps, for an event that leaves no room in a record for what [`inside`] puts there.
+    fn within_by_steps(&mut self, kept: u16, direction: Direction, pulse: Pulse) -> Ended {
+        let around = self.event().ancestor_count().saturating_sub(kept);
+        self.until(direction, |event| event.ancestor_count() <= around, pulse)
+    }
+
+    /// Back to the exit that put a bet on, with so many bets below it: by the doors of goals that did not put it on, whose calls have it too, and into the
+    /// goal that did.
+    pub fn back_to_bet(&mut self, below: u16, pulse: Pulse) -> Ended {
+        while self.number() > 0 {
+            let has_it_from_before = match self.event().port() {
+                Port::Call => false,
+                Port::Fail => true,
+                Port::Exit | Port::Redo => below < self.event().bet_count().saturating_sub(own_bets(self.event())),
+            };
+            let ended = if has_it_from_before { self.door(pulse) } else { self.run(1, Direction::Back, pulse) };
+            if ended != Ended::There {
+                return ended;
+            }
+            if self.event().bet_count() <= below {
+                return self.run(1, Direction::Forward, pulse);
+            }
+            if pulse(self.number()) {
+                return Ended::Stopped;
+            }
+        }
+        Ended::First
+    }
+
     /// Back to the door of the goal, as the library finds it. The last event of all is no goal of the planner's: its door is the query's call.
     pub fn door(&mut self, pulse: Pulse) -> Ended {
-        if self.event().ancestor_count() < QUERY_ANCESTORS {
+        if self.is_last() {
             return self.go_to(0, pulse);
         }
         let mut limit = DOOR_STEPS;
@@ -155,19 +258,4 @@ impl<'g> Stand<'g> {
             }
         }
     }
-}
-
-/// An end that has no more ancestors than so many. The end of the `fail` that asks for another answer is none.
-fn is_end_below(event: &Event, below: u16) -> bool {
-    let count = event.ancestor_count();
-    let asks_on = || count == QUERY_ANCESTORS && event.ancestors().next().and_then(|bottom| bottom.half()) == Some(Half::Second);
-    matches!(event.port(), Port::Exit | Port::Fail) && count <= below && !asks_on()
-}
-
-/// How many ancestors the nearest atom among them has; those of the query where there is none.
-fn below_the_atom(event: &Event) -> u16 {
-    let count = event.ancestor_count();
-    let above = event.ancestors().position(|ancestor| matches!(ancestor, Ancestor::Atom(_)));
-    let below = above.and_then(|above| u16::try_from(above + 1).ok()).and_then(|above| count.checked_sub(above));
-    below.unwrap_or(QUERY_ANCESTORS)
 }

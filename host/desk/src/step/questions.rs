@@ -5,29 +5,41 @@ use super::reply::Reply;
 use crate::garage::Garage;
 use crate::portrait::Portrait;
 use crate::position::Position;
-use fourport::{Bet, Event, TermKind};
-use std::collections::HashMap;
+use fourport::Event;
 
 /// The value of one variable, or of all that the screen shows.
 pub fn print(garage: &Garage, portrait: &Portrait, event: &Event, name: Option<&str>) -> Reply {
-    let Some(name) = name else {
-        return match portrait.values.is_empty() {
-            true => Reply::said("there are no variables here"),
-            false => Reply::listed(portrait.values.iter().map(|(name, value)| format!("{name} = {value}")).collect()),
-        };
-    };
+    let Some(name) = name else { return print_all(portrait) };
     match garage.variable_named(event, name) {
         Some(variable) => Reply::listed(vec![format!("{name} = {}", garage.value_shown(event, variable))]),
         None => no_variable(portrait, name),
     }
 }
 
+fn print_all(portrait: &Portrait) -> Reply {
+    let of_query = if portrait.values.is_empty() { "" } else { "   of the query" };
+    let own = portrait.values.iter().map(|(name, value)| format!("{name} = {value}"));
+    let lines: Vec<String> = own.chain(portrait.query_values.iter().map(|(name, value)| format!("{name} = {value}{of_query}"))).collect();
+    if lines.is_empty() {
+        return Reply::said("there are no variables here");
+    }
+    Reply::listed(lines)
+}
+
+/// The names of the variables that the screen shows, each once.
+pub fn names(portrait: &Portrait) -> Vec<&str> {
+    let mut names: Vec<&str> = portrait.values.iter().chain(&portrait.query_values).map(|(name, _)| name.as_str()).collect();
+    names.sort_unstable();
+    names.dedup();
+    names
+}
+
 /// Says that there is no such variable, and which there are.
 pub fn no_variable(portrait: &Portrait, name: &str) -> Reply {
-    let known: Vec<&str> = portrait.values.iter().map(|(name, _)| name.as_str()).collect();
+    let known = names(portrait);
     match known.is_empty() {
         true => Reply::misunderstood(format!("no variable is called `{name}` here, and there is no other")),
-        false => Reply::misunderstood(format!("no variable is called `{name}` here: there are {}", known.join(", "))),
+        false => Reply::misunderstood(format!("no variable is called `{name}` here; there are {}", known.join(", "))),
     }
 }
 
@@ -56,23 +68,4 @@ pub fn clause(garage: &Garage, event: &Event) -> Reply {
             Reply::listed([extract.title].into_iter().chain(lines).collect())
         }
     }
-}
-
-/// The variable whose binding gave this one its value: itself, or where it was made the same as another one, that one, and so on. Nothing where the
-/// last of them is unbound.
-pub fn bound_last(event: &Event, variable: u16) -> Option<u16> {
-    let mut same_as: HashMap<u16, Option<u16>> = HashMap::new();
-    for bet in event.bets() {
-        let Bet::Unifier(pairs) = bet else { continue };
-        same_as.extend(pairs.map(|(bound, term)| match term.kind() {
-            TermKind::Variable(other) => (bound, Some(other)),
-            TermKind::Symbol(..) => (bound, None),
-        }));
-    }
-    let mut last = variable;
-    // each variable is left at once, so that the way ends also where bets go round
-    while let Some(next) = same_as.remove(&last)? {
-        last = next;
-    }
-    Some(last)
 }

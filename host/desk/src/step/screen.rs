@@ -12,6 +12,9 @@ const INDENT: &str = "  ";
 /// What stands between two values on a line, and before the place of an ancestor.
 const BETWEEN: &str = "   ";
 
+/// Ancestors, the values of the clause, those of the query, the clause.
+const SECTIONS: usize = 4;
+
 /// Columns and rows.
 #[derive(Clone, Copy, Debug, PartialEq, Eq)]
 pub struct Size {
@@ -83,20 +86,19 @@ fn cut_before_place(text: &str, columns: usize) -> String {
     }
 }
 
-/// How many lines the three sections would have if there were room.
-fn wants(portrait: &Portrait, columns: usize) -> [usize; 3] {
+/// How many lines the sections would have if there were room.
+fn wants(portrait: &Portrait, columns: usize) -> [usize; SECTIONS] {
     let clause = portrait.clause.as_ref().map_or(0, |extract| extract.lines.len() + usize::from(extract.mark.is_some()));
-    [portrait.ancestor_count, packed(portrait, columns).len(), clause]
+    [portrait.ancestor_count, packed(&portrait.values, columns).len(), packed(&portrait.query_values, columns).len(), clause]
 }
 
 /// The room divided: what one section leaves of an equal share, the others have.
-fn shares(wants: [usize; 3], mut room: usize) -> [usize; 3] {
-    let mut order = [0, 1, 2];
-    order.sort_by_key(|&section| wants.get(section));
-    let mut shares = [0; 3];
-    for (done, section) in order.into_iter().enumerate() {
-        let wanted = wants.get(section).copied().unwrap_or_default();
-        let share = wanted.min(room / (3 - done));
+fn shares(wants: [usize; SECTIONS], mut room: usize) -> [usize; SECTIONS] {
+    let mut order: Vec<(usize, usize)> = wants.into_iter().zip(0..).collect();
+    order.sort_unstable();
+    let mut shares = [0; SECTIONS];
+    for (done, (wanted, section)) in order.into_iter().enumerate() {
+        let share = wanted.min(room / (SECTIONS - done));
         room -= share;
         if let Some(place) = shares.get_mut(section) {
             *place = share;
@@ -105,10 +107,13 @@ fn shares(wants: [usize; 3], mut room: usize) -> [usize; 3] {
     shares
 }
 
-fn sections(portrait: &Portrait, [ancestors, values, clause]: [usize; 3], columns: usize) -> [Section; 3] {
+fn sections(portrait: &Portrait, [ancestors, values, query_values, clause]: [usize; SECTIONS], columns: usize) -> [Section; SECTIONS] {
     let shown = |text: &String| indented(text, Look::Plain, columns);
     let placed = |text: &String| indented(&cut_before_place(text, columns.saturating_sub(INDENT.len())), Look::Plain, columns);
-    let packed = packed(portrait, columns);
+    let valued = |values: &[(String, String)], most| {
+        let packed = packed(values, columns);
+        listed(&packed, packed.len(), most, shown)
+    };
     let extract = portrait.clause.as_ref();
     let title = extract.map(|extract| plain(&extract.title)).unwrap_or_default();
     let mut lines = Vec::new();
@@ -119,7 +124,8 @@ fn sections(portrait: &Portrait, [ancestors, values, clause]: [usize; 3], column
     }
     [
         ("ancestors".into(), listed(&portrait.ancestors, portrait.ancestor_count, ancestors, placed)),
-        ("values".into(), listed(&packed, packed.len(), values, shown)),
+        ("values".into(), valued(&portrait.values, values)),
+        ("values of the query".into(), valued(&portrait.query_values, query_values)),
         (title, lines),
     ]
 }
@@ -135,10 +141,10 @@ fn listed(list: &[String], all: usize, most: usize, shown: impl Fn(&String) -> L
 }
 
 /// Values, several on a line where they fit.
-fn packed(portrait: &Portrait, columns: usize) -> Vec<String> {
+fn packed(values: &[(String, String)], columns: usize) -> Vec<String> {
     let most = columns.saturating_sub(INDENT.len());
     let mut lines: Vec<String> = Vec::new();
-    for (name, value) in &portrait.values {
+    for (name, value) in values {
         let text = cut(&plain(&format!("{name} = {value}")), most);
         match lines.last_mut() {
             Some(last) if width(last) + BETWEEN.len() + width(&text) <= most => {
@@ -168,6 +174,7 @@ mod tests {
             ancestors: many("ancestor", 40),
             ancestor_count: 90,
             values: many("value", 60).into_iter().map(|value| ("Name".into(), value)).collect(),
+            query_values: vec![("Light".into(), "red".into())],
             clause: Some(Extract { title: "clause".into(), first_line: 7, lines: many("line", 50), mark: Some(Mark { line: 45, from: 50, to: 52 }) }),
         }
     }
@@ -187,7 +194,7 @@ mod tests {
         assert_eq!(lines.len(), 22);
         assert_eq!(lines[0].text, "event 12,345 of 99,999  redo  depth 40  1 bet");
         let texts: Vec<&str> = lines.iter().map(|line| line.text.as_str()).collect();
-        assert!(texts.contains(&"  .. 85 more"));
+        assert!(texts.contains(&"  .. 86 more"));
         assert_eq!(lines.iter().filter(|line| line.marked.is_some()).count(), 1);
         assert_eq!(lines.iter().filter(|line| line.look == Look::Mark).count(), 1);
     }
@@ -200,9 +207,9 @@ mod tests {
 
     #[test]
     fn room_is_divided() {
-        assert_eq!(shares([2, 3, 4], 20), [2, 3, 4]);
-        assert_eq!(shares([40, 2, 50], 16), [7, 2, 7]);
-        assert_eq!(shares([0, 0, 50], 16), [0, 0, 16]);
-        assert_eq!(shares([5, 5, 5], 0), [0, 0, 0]);
+        assert_eq!(shares([2, 3, 4, 1], 20), [2, 3, 4, 1]);
+        assert_eq!(shares([40, 2, 1, 50], 17), [7, 2, 1, 7]);
+        assert_eq!(shares([0, 0, 0, 50], 16), [0, 0, 0, 16]);
+        assert_eq!(shares([5, 5, 5, 5], 0), [0, 0, 0, 0]);
     }
 }

@@ -1,5 +1,6 @@
 //! A session: where one stands, the breaks, and the way back to where commands were given.
 
+use super::binding::bets_below_the_binding;
 use super::breaks::{Break, Breaks};
 use super::command::Command;
 use super::help;
@@ -10,7 +11,7 @@ use crate::diagnostic::refusal_words;
 use crate::garage::Garage;
 use crate::portrait::Portrait;
 use crate::status::grouped;
-use fourport::{Direction, Event, Port, Refusal};
+use fourport::{Direction, Port, Refusal};
 
 /// The whole state of `desk step`. What is shown of an event depends on none of it but the event and its number.
 #[derive(Debug)]
@@ -23,8 +24,16 @@ pub struct Session<'g> {
 }
 
 impl<'g> Session<'g> {
-    pub fn new(garage: &'g Garage) -> Session<'g> {
+    fn new(garage: &'g Garage) -> Session<'g> {
         Session { garage, stand: Stand::new(garage), breaks: Breaks::default(), trail: Vec::new() }
+    }
+
+    /// A session that starts at another event than the first; in words where the walk does not come so far.
+    pub fn start_at(garage: &'g Garage, number: u64) -> (Session<'g>, Option<String>) {
+        let mut session = Session::new(garage);
+        let ended = session.stand.go_to(number, &mut |_| false);
+        let words = session.words(ended);
+        (session, words)
     }
 
     /// What is shown of the event where one stands.
@@ -72,8 +81,7 @@ impl<'g> Session<'g> {
 
     /// Makes a move and says what is to be said of its end.
     fn go(&mut self, command: &Command, pulse: Pulse) -> Option<String> {
-        let (garage, stand) = (self.garage, &mut self.stand);
-        let is_answer = |event: &Event| event.port() == Port::Exit && garage.is_answer(event);
+        let stand = &mut self.stand;
         let ended = match command {
             Command::Step(steps) | Command::Run(Some(steps)) => stand.run(*steps, Direction::Forward, pulse),
             Command::Back(steps) | Command::Reverse(Some(steps)) => stand.run(*steps, Direction::Back, pulse),
@@ -82,10 +90,10 @@ impl<'g> Session<'g> {
             Command::Finish => stand.finish(pulse),
             Command::Door => stand.door(pulse),
             Command::Goto(number) => stand.go_to(*number, pulse),
-            Command::NextAnswer => stand.until(Direction::Forward, is_answer, pulse),
-            Command::PreviousAnswer => stand.until(Direction::Back, is_answer, pulse),
-            Command::Run(None) => return self.to_a_break(Direction::Forward, pulse),
-            Command::Reverse(None) => return self.to_a_break(Direction::Back, pulse),
+            Command::NextAnswer => stand.next_answer(pulse),
+            Command::PreviousAnswer => stand.previous_answer(pulse),
+            Command::Run(None) => return self.run_to_break(Direction::Forward, pulse),
+            Command::Reverse(None) => return self.run_to_break(Direction::Back, pulse),
             _ => Ended::There,
         };
         match (command, ended) {
@@ -95,7 +103,7 @@ impl<'g> Session<'g> {
         }
     }
 
-    fn to_a_break(&mut self, direction: Direction, pulse: Pulse) -> Option<String> {
+    fn run_to_break(&mut self, direction: Direction, pulse: Pulse) -> Option<String> {
         let (stand, breaks) = (&mut self.stand, &self.breaks);
         if !breaks.is_empty() {
             let ended = stand.until(direction, |event| breaks.met(event).is_some(), pulse);
@@ -135,17 +143,15 @@ impl<'g> Session<'g> {
         let Some(variable) = self.garage.variable_named(self.stand.event(), name) else {
             return questions::no_variable(&self.portrait(), name);
         };
-        let Some(bound) = questions::bound_last(self.stand.event(), variable) else {
+        let Some(below) = bets_below_the_binding(self.stand.event(), variable) else {
             return Reply::said(format!("{name} has no value here"));
         };
         let value = self.garage.value_shown(self.stand.event(), variable);
         self.moved(|session| {
-            // the last event behind which the variable is not bound yet; at the first event none is
-            let ended = session.stand.until(Direction::Back, |event| !event.is_bound(bound), pulse);
+            let ended = session.stand.back_to_bet(below, pulse);
             if ended != Ended::There {
                 return session.words(ended);
             }
-            session.stand.run(1, Direction::Forward, pulse);
             let portrait = session.portrait();
             let by = portrait.clause.as_ref().map(|clause| format!(", {}", clause.title)).unwrap_or_default();
             Some(format!("{name} = {value} since this event, by {}{by}", portrait.goal))

@@ -4,6 +4,7 @@ use super::canvas::Canvas;
 use super::command::Command;
 use super::fit::{plain, wrapped};
 use super::keys::{bind, Pressed, Words};
+use super::questions::names;
 use super::reply::Reply;
 use super::screen::{self, Line, Look};
 use super::session::Session;
@@ -29,11 +30,11 @@ struct Desk<'s, 'g> {
 }
 
 /// Commands as they are typed, until one of them is `quit` or the input ends. Warnings are shown first, since the screen hides what was written before.
-pub fn run(session: &mut Session, extent: &str, predicates: Vec<String>, warnings: &str) -> io::Result<()> {
+pub fn run(session: &mut Session, extent: &str, predicates: Vec<String>, warnings: &str, words: Option<String>) -> io::Result<()> {
     let mut editor = Editor::with_config(Config::builder().bracketed_paste(false).build());
     editor.set_helper(Some(Words { predicates, variables: Vec::new() }));
     let pressed = bind(&mut editor);
-    let mut desk = Desk { session, extent, canvas: Canvas::take()?, message: WELCOME.into(), page: Vec::new(), last: None };
+    let mut desk = Desk { session, extent, canvas: Canvas::take()?, message: words.unwrap_or(WELCOME.into()), page: Vec::new(), last: None };
     if !warnings.is_empty() {
         desk.take(Reply::listed(warnings.lines().map(String::from).collect()));
     }
@@ -51,7 +52,7 @@ impl Desk<'_, '_> {
     /// The next line, or the command of a key; nothing where the input has ended.
     fn typed(&mut self, editor: &mut Editor<Words>, pressed: &Pressed) -> io::Result<Option<String>> {
         if let Some(words) = editor.helper_mut() {
-            words.variables = self.session.portrait().values.into_iter().map(|(name, _)| name).collect();
+            words.variables = names(&self.session.portrait()).into_iter().map(String::from).collect();
         }
         loop {
             match editor.readline(PROMPT) {

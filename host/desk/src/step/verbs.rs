@@ -112,7 +112,7 @@ pub const ENTRIES: [Entry; 22] = [
         "back to the break before, or to event 0; with N, N steps",
         &["Without N it stops after 10,000,000 steps, and at Ctrl-C. With N no break stops it."],
     ),
-    entry(Verb::Goto, "goto", &["g"], "N", "to event N, forward or back", &["Event 0 is the query's call."]),
+    entry(Verb::Goto, "goto", &["g"], "N", "to event N, forward or back", &["Event 0 is the query's call. `desk step --at N` starts at event N."]),
     entry(Verb::Answer, "answer", &["a"], "", "forward to the next answer, as `next answer`", &["An answer is an exit of the query."]),
     entry(
         Verb::Why,

@@ -1,0 +1,161 @@
+//! `desk step` in a real terminal: keys, typed lines, history, pages, sizes, colour, Ctrl-C.
+
+use crate::stepping::{garage, written, Garage};
+use crate::tmux::Terminal;
+
+const DESK: &str = env!("CARGO_BIN_EXE_desk");
+
+fn bays() -> Garage {
+    garage("three-bays", "sheet(A, B, C)")
+}
+
+/// The desk in a terminal, with settings such as `NO_COLOR=1`.
+fn start(garage: &Garage, columns: usize, rows: usize, settings: &[&str]) -> Terminal {
+    let rules = garage.rules.to_str().unwrap();
+    let terminal = Terminal::start(columns, rows, &[&["env", "-u", "NO_COLOR"], settings, &[DESK, "step", rules, garage.query]].concat());
+    terminal.wait("the first screen", |shown| is_ready(shown, rows) && is_at(shown, 0));
+    terminal
+}
+
+/// Whether a prompt waits for a line, in the last row.
+fn is_ready(shown: &[String], rows: usize) -> bool {
+    shown.get(rows - 1).is_some_and(|row| row == "(desk)")
+}
+
+fn is_at(shown: &[String], number: usize) -> bool {
+    shown.first().is_some_and(|row| row.starts_with(&format!("event {number} of ")))
+}
+
+/// Waits until the screen shows an event, from the first row on.
+fn wait_for(terminal: &Terminal, number: usize) -> Vec<String> {
+    terminal.wait(&format!("event {number}"), |shown| is_at(shown, number) && is_ready(shown, 24))
+}
+
+#[test]
+fn keys_move() {
+    let terminal = start(&bays(), 80, 24, &[]);
+    for (key, number) in [("Right", 1), ("Right", 2), ("Left", 1), ("End", 119), ("PageUp", 0), ("PageDown", 119), ("Right", 120), ("Home", 0)] {
+        terminal.press(&[key]);
+        wait_for(&terminal, number);
+    }
+    // in a line that is begun they move the cursor: 1, then 7 before it
+    terminal.press(&["g", "Space", "1", "Left", "7", "Right", "Enter"]);
+    wait_for(&terminal, 71);
+}
+
+#[test]
+fn typed_lines_history_and_repetition() {
+    let terminal = start(&bays(), 80, 24, &[]);
+    terminal.type_line("goto 62");
+    wait_for(&terminal, 62);
+    terminal.type_line("step 3");
+    wait_for(&terminal, 65);
+    terminal.press(&["Enter"]);
+    wait_for(&terminal, 68);
+    terminal.press(&["Up"]);
+    terminal.wait("the last line", |shown| shown[23] == "(desk) step 3");
+    terminal.press(&["Up"]);
+    terminal.wait("the line before", |shown| shown[23] == "(desk) goto 62");
+    terminal.press(&["Enter"]);
+    wait_for(&terminal, 62);
+    terminal.press(&["u", "n", "d", "Tab"]);
+    terminal.wait("the completed line", |shown| shown[23] == "(desk) undo");
+    terminal.press(&["C-c"]);
+    terminal.wait("an empty line", |shown| is_ready(shown, 24) && is_at(shown, 62));
+    terminal.type_line("why B");
+    let shown = terminal.wait("what why says", |shown| shown[22].starts_with("B = right since this event, by ") && is_ready(shown, 24));
+    assert!(is_at(&shown, 62));
+}
+
+/// A terminal of 80 columns and 24 rows shows what a pipe is given, and nothing scrolls.
+#[test]
+fn the_terminal_shows_what_a_pipe_is_given() {
+    let garage = garage("riverside", "light(Bay, light_a2)");
+    let numbers = [0, 1, 40, 300, 1_204, 5_000, 9_999];
+    let terminal = start(&garage, 80, 24, &[]);
+    let (scripted, _) = garage.step(&numbers.map(|number| format!("goto {number}")));
+    for (shown, number) in scripted[1..].iter().zip(numbers).filter(|(shown, _)| shown.screen.is_some()) {
+        let screen = shown.screen.as_ref().unwrap();
+        terminal.type_line(&shown.command);
+        let head = screen.text.lines().next().unwrap();
+        let rows = terminal.wait(head, |rows| rows[0] == head && is_ready(rows, 24));
+        assert_eq!(screen.number, number);
+        assert_eq!(rows[..22].join("\n").trim_end(), screen.text.trim_end());
+        assert_eq!(rows.len() - 1, 24);
+    }
+}
+
+#[test]
+fn a_larger_terminal() {
+    let garage = garage("riverside", "light(Bay, light_a2)");
+    let terminal = start(&garage, 100, 40, &[]);
+    terminal.type_line("goto 40");
+    let rows = terminal.wait("event 40", |shown| is_at(shown, 40) && is_ready(shown, 40));
+    assert!(rows.iter().any(|row| row.chars().count() > 80), "{}", rows.join("\n"));
+    assert!(rows.iter().all(|row| row.chars().count() <= 100));
+}
+
+#[test]
+fn colour_unless_it_is_refused() {
+    for (settings, is_coloured) in [(&[][..], true), (&["NO_COLOR=1"][..], false)] {
+        let terminal = start(&bays(), 80, 24, settings);
+        terminal.type_line("goto 114");
+        let rows = wait_for(&terminal, 114);
+        assert_eq!(terminal.coloured().contains('\u{1b}'), is_coloured);
+        // the goal is marked without colour too
+        assert!(rows.iter().any(|row| row.trim().starts_with("^^^^")));
+    }
+}
+
+#[test]
+fn long_listings_have_pages() {
+    let terminal = start(&bays(), 80, 24, &[]);
+    terminal.type_line("help");
+    terminal.wait("the first page", |shown| shown[0].starts_with("step s [N] ") && shown[22].ends_with("an empty line shows them"));
+    terminal.press(&["Enter"]);
+    terminal.wait("the second page", |shown| shown.iter().any(|row| row.starts_with("Keys, ")) && is_ready(shown, 24));
+    terminal.press(&["Enter"]);
+    wait_for(&terminal, 0);
+}
+
+#[test]
+fn the_end_gives_the_terminal_back() {
+    for keys in [&["q", "Enter"][..], &["C-d"][..]] {
+        let terminal = start(&bays(), 80, 24, &[]);
+        terminal.press(keys);
+        assert_eq!(terminal.status(), 0);
+        assert!(!terminal.rows().iter().any(|row| row.starts_with("event ")), "{}", terminal.rows().join("\n"));
+        // what is typed is echoed again
+        terminal.press(&["a", "b", "c"]);
+        terminal.wait("the echo", |shown| shown.iter().any(|row| row == "abc"));
+    }
+}
+
+/// Warnings are not lost behind the screen.
+#[test]
+fn warnings_come_first() {
+    let garage = garage("typo", "light(bay1, Light)");
+    let rules = garage.rules.to_str().unwrap();
+    let terminal = Terminal::start(80, 24, &[DESK, "step", rules, garage.query]);
+    terminal.wait("the warnings", |shown| shown.iter().any(|row| row.contains("typo.pl:")) && is_ready(shown, 24));
+    terminal.press(&["Enter"]);
+    wait_for(&terminal, 0);
+}
+
+/// A query with 2 to the power of 40 ways to fail: only Ctrl-C ends a move to its answer.
+#[test]
+fn ctrl_c_stops_a_long_move() {
+    let rules = written("bit(a).\nbit(b).\nneither(c).\n", "").rules;
+    let bits: String = (0..40).map(|number| format!("bit(X{number}), ")).collect();
+    let query = format!("{bits}neither(X0)");
+    let terminal = Terminal::start(80, 24, &[DESK, "step", rules.to_str().unwrap(), &query]);
+    wait_for(&terminal, 0);
+    terminal.type_line("answer");
+    terminal.wait("how far it is", |shown| shown[22].ends_with("; Ctrl-C stops here"));
+    terminal.press(&["C-c"]);
+    let rows = terminal.wait("the stop", |shown| shown[22].starts_with("stopped at event ") && is_ready(shown, 24));
+    let number = rows[22].strip_prefix("stopped at event ").unwrap();
+    assert!(rows[0].starts_with(&format!("event {number} of more than 100,000")), "{}", rows.join("\n"));
+    terminal.type_line("undo");
+    wait_for(&terminal, 0);
+}

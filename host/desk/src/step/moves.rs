@@ -7,8 +7,9 @@ use fourport::{Ancestor, Direction, Event, Half, Port, Program, Refusal, Walk};
 
 /// The most steps of a move that has no number of steps.
 pub const MOST_STEPS: u64 = 10_000_000;
-/// The steps between two looks at whether the move is to be stopped.
+/// The steps between two looks at whether the move is to be stopped: of runs, and of single steps, which take many times as long.
 const PIECE: u64 = 20_000;
+const STEPS_PIECE: u64 = 500;
 /// The steps within which a door is looked for at first, and how many times more each time after.
 const DOOR_STEPS: u32 = 100_000;
 const DOOR_GROWTH: u32 = 4;
@@ -91,7 +92,7 @@ impl<'g> Stand<'g> {
         let mut left = MOST_STEPS;
         while left > 0 {
             let before = self.number();
-            let piece = PIECE.min(left);
+            let piece = STEPS_PIECE.min(left);
             let there = match direction {
                 Direction::Forward => self.walk.forward_until(piece, &mut met),
                 Direction::Back if before == 0 => return Ended::First,
@@ -191,12 +192,16 @@ impl<'g> Stand<'g> {
         let Some(mut alone) = inside(self.event(), kept) else { return self.within_by_steps(kept, direction, pulse) };
         let mut left = MOST_STEPS;
         while left > 0 {
-            let Ok(found) = self.program.run(&alone, u32::try_from(PIECE.min(left)).unwrap_or(u32::MAX), direction) else { break };
+            let Ok(found) = self.program.run(&alone, u32::try_from(PIECE.min(left)).unwrap_or(u32::MAX), direction) else {
+                return self.within_by_steps(kept, direction, pulse);
+            };
             let ended = self.run(u64::from(found.taken), direction, &mut |_| false);
             match found.stopped {
                 _ if ended != Ended::There => return ended,
+                // an event that nothing goes on from is no end of a goal that one is inside
+                Some(Refusal::Match) if found.taken == 0 && left == MOST_STEPS => return self.within_by_steps(kept, direction, pulse),
                 Some(Refusal::Match) => return Ended::There,
-                // the event as it is is longer: it is refused no later
+                // the event as it is is no shorter, and refused no later
                 Some(_) => return self.run(1, direction, pulse),
                 None => (),
             }
@@ -209,7 +214,7 @@ impl<'g> Stand<'g> {
         Ended::Spent
     }
 
-    /// The same by single steps, for an event that leaves no room in a record for what [`inside`] puts there.
+    /// The same by single steps, where [`inside`] gives no event to run.
     fn within_by_steps(&mut self, kept: u16, direction: Direction, pulse: Pulse) -> Ended {
         let around = self.event().ancestor_count().saturating_sub(kept);
         self.until(direction, |event| event.ancestor_count() <= around, pulse)

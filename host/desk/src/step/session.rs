@@ -125,7 +125,7 @@ impl<'g> Session<'g> {
             Ended::First => "this is the first event".into(),
             Ended::Refused(Refusal::Walk) => "the walk ends here (question 6): there is no other answer".into(),
             Ended::Refused(refusal) => format!("the walk cannot go on from here (question {}): {}", refusal.number(), refusal_words(refusal)),
-            Ended::Spent => format!("stopped at event {number} after {} steps; the same command goes on", grouped(MOST_STEPS)),
+            Ended::Spent => format!("stopped at event {number} after {} steps", grouped(MOST_STEPS)),
             Ended::Stopped => format!("stopped at event {number}"),
         })
     }

@@ -83,7 +83,9 @@ impl Naming for EventNames<'_> {
     }
 
     fn variable(&self, number: u16) -> Cow<'_, str> {
-        match self.local(number).filter(|_| self.garage.names.variable(number).is_none()) {
+        let of_query = number < self.garage.variables;
+        let lone = of_query && self.garage.names.variable(number).is_none();
+        match if lone { Some("_") } else { self.local(number).filter(|_| !of_query) } {
             Some(name) => Cow::Owned(format!("{}{}{number}", if name == "_" { "" } else { name }, self.garage.parting)),
             None => Naming::variable(&self.garage.names, number),
         }

@@ -163,3 +163,12 @@ fn generated_garages() {
     println!("{whole} of {GENERATED} garages have a whole list with answers, of at most {most}");
     assert!(whole > GENERATED / 3 && most > 20);
 }
+
+/// Clauses stand in the order of their first calls, each once.
+#[test]
+fn the_order_of_clauses() {
+    let path = written("answers/order.pl", "p(X) :- q(X), (fail ; r), q(X).\nq(b) :- s.\nq(a) :- r, s.\nr.\ns :- r.\n");
+    let (found, _) = printed(&desk(&["answers", &path, "r, p(a)"]).out);
+    let clauses: Vec<&str> = found.iter().map(|answer| answer.clauses.as_str()).collect();
+    assert_eq!(clauses, ["r/0 order.pl:4, p/1 order.pl:1, q/1 order.pl:3, s/0 order.pl:5"]);
+}

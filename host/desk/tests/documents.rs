@@ -111,7 +111,7 @@ fn documents_have_what_is_printed() {
         counts.push((path, count));
     }
     println!("{counts:?}");
-    assert!(counts.iter().filter(|(path, _)| path.ends_with("TUTORIAL.md")).all(|(_, count)| *count > 0), "no command in the tutorial");
+    assert!(counts.iter().any(|(path, count)| path.ends_with("TUTORIAL.md") && *count > 0), "no command in the tutorial");
     assert!(env::var_os("FOURPORT_BLESS").is_some() || wrong.is_empty(), "{}", wrong.join("\n"));
 }
 

@@ -62,6 +62,8 @@ pub struct ToldWalk {
     file: String,
     asked: String,
     clauses: HashMap<(u16, u8), Vec<Clause>>,
+    /// the query's variables that are `_`, as they are shown
+    lone: HashMap<u16, String>,
 }
 
 /// The variables of a clause by first appearance; each `_` is another one.
@@ -88,14 +90,15 @@ impl ToldWalk {
             let predicate = (names.number(name).expect("a name that is known"), clause.arity());
             clauses.entry(predicate).or_default().push(Clause { line, variables: variables(text) });
         }
-        ToldWalk { program, query: goal, names, file: file.into(), asked: asked.into(), clauses }
+        let lone = (0..).zip(variables(query)).filter(|(_, name)| name == "_").map(|(number, _)| (number, format!("_{number}"))).collect();
+        ToldWalk { program, query: goal, names, file: file.into(), asked: asked.into(), clauses, lone }
     }
 
     /// The events up to a number, and what refused the next step where there are no more.
     pub fn events(&self, most: usize) -> (Vec<Expected>, Option<Refusal>) {
         let first = Event::first(&self.query.then_fail().expect("a short query")).expect("a short query");
         let mut walk = self.program.walk(first);
-        let (mut locals, mut listed) = (HashMap::new(), Vec::new());
+        let (mut locals, mut listed) = (self.lone.clone(), Vec::new());
         while listed.len() <= most {
             let before = walk.event().clone();
             match walk.forward() {

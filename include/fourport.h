@@ -64,6 +64,12 @@
 /* The longest text of clauses; a query and its rules may have as many bytes together. */
 #define FOURPORT_TEXT 65535
 
+/* A buffer of so many bytes has room for the list of names of any text, or of a query and its rules. */
+#define FOURPORT_NAMES (3 * FOURPORT_TEXT)
+
+/* Where an event's record has its goal; fourport_goal_end says where that ends, and the count of ancestors starts. */
+#define FOURPORT_GOAL_AT 4
+
 /* The ports, as an event's record has them in byte FOURPORT_PORT_AT. */
 #define FOURPORT_PORT_AT 3
 #define FOURPORT_CALL 1
@@ -99,7 +105,8 @@ enum fourport_number {
     FOURPORT_NO_PROGRAM_FRAME = 1,
     /* is its version 1? */
     FOURPORT_NO_PROGRAM_VERSION = 2,
-    /* is its body, from the first byte to the last, of the kind asked for? */
+    /* is its body, from the first byte to the last, of the kind asked for? Of a text, of rules or of a query, where no record is lent: has each name
+     * at most 16 arguments, and each clause at most 64 variables? */
     FOURPORT_NO_PROGRAM_GRAMMAR = 3,
     /* does it keep the record rules: order of definitions, variables? */
     FOURPORT_NO_PROGRAM_RULES = 4,
@@ -127,7 +134,8 @@ enum fourport_number {
     FOURPORT_NO_BYTE = 20,
     /* is the text of the grammar? */
     FOURPORT_NO_TEXT = 21,
-    /* has the text, or a query and its rules together, at most FOURPORT_TEXT bytes, and does its list of names fit the lent buffer? */
+    /* has the text, or a query and its rules together, at most FOURPORT_TEXT bytes, and does its list of names fit the lent buffer? One of
+     * FOURPORT_NAMES bytes it always fits */
     FOURPORT_NO_LENGTH = 22,
     /* on the way back to a door: is a step left within the limit? */
     FOURPORT_NO_LIMIT = 32
@@ -141,7 +149,9 @@ static inline const char *fourport_words(uint32_t number)
     case FOURPORT_NO_PROGRAM_FRAME:
         return "the program or clause record: has the slice 3 to 32,768 bytes, and does its length field say how many follow?";
     case FOURPORT_NO_PROGRAM_VERSION: return "the program or clause record: is the version 1?";
-    case FOURPORT_NO_PROGRAM_GRAMMAR: return "the program or clause record: is the body, from its first byte to its last, of the kind asked for?";
+    case FOURPORT_NO_PROGRAM_GRAMMAR:
+        return "the program or clause record: is the body, from its first byte to its last, of the kind asked for? "
+               "Of a text: has each name at most 16 arguments, and each clause at most 64 variables?";
     case FOURPORT_NO_PROGRAM_RULES: return "the program or clause record: does it keep the record rules: order, variables, pairs?";
     case FOURPORT_NO_ROOM: return "has the output at least 32,768 bytes?";
     case FOURPORT_NO_WALK: return "can the walk go on?";
@@ -165,7 +175,9 @@ static inline const char *fourport_words(uint32_t number)
 /* The number of two bytes, as records, answers and lists of names have it. */
 static inline uint16_t fourport_number_at(const uint8_t *bytes)
 {
-    return (uint16_t)(bytes[0] * 256 + bytes[1]);
+    unsigned number = bytes[0];
+    number = number * 256u + bytes[1];
+    return number & 0xFFFFu;
 }
 
 /* How many bytes the record at the front of a buffer has, its length field included; 0 where no whole record is there. Nothing else is asked. */
@@ -173,8 +185,30 @@ static inline size_t fourport_record_length(const uint8_t *bytes, size_t length)
 {
     size_t record;
     if (length < 2) return 0;
-    record = 2 + (size_t)fourport_number_at(bytes);
+    record = fourport_number_at(bytes);
+    record += 2;
     return record <= length ? record : 0;
+}
+
+/* Where the goal ends, of an event the one at its byte FOURPORT_GOAL_AT; and where the term ends. Both read what the desk wrote or accepted: of other
+ * bytes they may read past the end. Parts stand behind what they are parts of, so that nothing recurses. */
+static inline const uint8_t *fourport_goal_end(const uint8_t *goal)
+{
+    size_t parts;
+    for (parts = 1; parts > 0; parts--) {
+        switch (*goal) {
+        case FOURPORT_KIND_VARIABLE: goal += 3; break;
+        case FOURPORT_KIND_SYMBOL: case FOURPORT_KIND_ATOM: parts += goal[3]; goal += 4; break;
+        case FOURPORT_KIND_EQUALITY: case FOURPORT_KIND_CONJUNCTION: case FOURPORT_KIND_DISJUNCTION: parts += 2; goal++; break;
+        default: goal++;
+        }
+    }
+    return goal;
+}
+
+static inline const uint8_t *fourport_term_end(const uint8_t *term)
+{
+    return fourport_goal_end(term);
 }
 
 /* The directions of a run. */
@@ -189,14 +223,17 @@ extern "C" {
  * 0: the clause record stands at the start of `out`. At the start of `names` each name stands behind its length of two bytes, the high one first, in
  * order of first appearance; a name's place in this list, from 0, is its number in the record, as a symbol and as a predicate. `named` is the length of
  * the list. The bytes after the record and after the list are untouched.
- * 20, 21, 22, 3, 5, 10: `names` and `out` are untouched, and `named` is 0. */
+ * 20, 21, 22, 3, 5, 10: `names` and `out` are untouched, and `named` is 0. The number is all that a refusal says: nothing here gives the place in the
+ * text or helps to find it. The Rust crate gives line and column, by a table of its own that is proved nowhere. */
 uint32_t fourport_read(const uint8_t *text, size_t text_length, uint8_t *names, size_t names_length, uint8_t *out, size_t out_length, size_t *named);
 
 /* A query as text: `query` is a goal, without a full stop, and is read as the body of one more clause behind the clauses of `rules`. Both texts are
  * asked 20, then both 21; 22 is about both together, and 3, 5 and 10 are about the query alone.
  * 0: the query record stands at the start of `out`, its variables numbered from 0 as they first appear in the query, and the list of names at the start
  * of `names`: the names of the rules first, as fourport_read lists them, and behind them those that are new in the query. `named` is the length of the
- * list. The bytes after the record and after the list are untouched.
+ * list. The bytes after the record and after the list are untouched. The names of variables are in no list: whoever shows them finds them in the
+ * text, where each new one gets the next number, and `_` a new number each time. A name that is new in the query has a number of this query alone:
+ * another query may have the same number for another name.
  * 20, 21, 22, 3, 5, 10: `names` and `out` are untouched, and `named` is 0. */
 uint32_t fourport_read_query(const uint8_t *rules, size_t rules_length, const uint8_t *query, size_t query_length, uint8_t *names, size_t names_length,
                              uint8_t *out, size_t out_length, size_t *named);
@@ -211,7 +248,7 @@ uint32_t fourport_canonical(const uint8_t *clauses, size_t clauses_length, uint8
  * 11 to 13, 5, 10: `out` is untouched. */
 uint32_t fourport_first(const uint8_t *query, size_t query_length, uint8_t *out, size_t out_length);
 
-/* One step forward.
+/* One step forward. Each call reads program and event anew: to go many steps without a look at each, fourport_run is many times faster.
  * 0: the record of the next event stands at the start of `out`, whose bytes after it are untouched.
  * 1 to 10, 11 to 14: `out` is untouched. */
 uint32_t fourport_forward(const uint8_t *program, size_t program_length, const uint8_t *event, size_t event_length, uint8_t *out, size_t out_length);
@@ -242,9 +279,9 @@ uint32_t fourport_door(const uint8_t *program, size_t program_length, const uint
  * An answer has two bytes that count the variables of Q, each variable by rising number (two bytes) with its value (a term), and then two bytes that
  * count the bets BY and OR, and these with their kind bytes, the oldest first. Answers stand one behind the other in `out`, in the order of the walk;
  * one that needs the last byte of the output still fits.
- * 0: all steps were taken. 6: the walk ended in fail, and there is no other answer. 7 to 10: the number that refused the next step, or the answer at
- * the exit that the last step came to, 8 for a value over 8,192 bytes. In all these cases the answers before that stand at the start of `out`, whose
- * bytes after them are untouched, `written` is their length, and `taken` is the number of steps taken.
+ * 0: all steps were taken, and the list may go on. 6: the walk ended in fail, and the list is whole; no other number says so. 7 to 10: the number
+ * that refused the next step, or the answer at the exit that the last step came to, 8 for a value over 8,192 bytes. In all these cases the answers
+ * before that stand at the start of `out`, whose bytes after them are untouched, `written` is their length, and `taken` is the number of steps taken.
  * 1 to 5, 11 to 13, and 10 where the first event of 'Q, fail' is too long: `out` is untouched, and `written` and `taken` are 0. */
 uint32_t fourport_answers(const uint8_t *program, size_t program_length, const uint8_t *query, size_t query_length, uint32_t steps,
                           uint8_t *out, size_t out_length, size_t *written, uint32_t *taken);

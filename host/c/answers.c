@@ -14,23 +14,6 @@
 
 static uint8_t file_bytes[2 * FOURPORT_RECORD], out[ROOM];
 
-/* Where so many terms, and behind them so many goals, end: what the desk wrote is well formed. */
-static const uint8_t *end_of(const uint8_t *at, size_t terms, size_t goals)
-{
-    while (terms + goals > 0) {
-        uint8_t kind = *at;
-        if (terms > 0) terms--; else goals--;
-        switch (kind) {
-        case FOURPORT_KIND_VARIABLE: at += 3; break;
-        case FOURPORT_KIND_SYMBOL: case FOURPORT_KIND_ATOM: terms += at[3]; at += 4; break;
-        case FOURPORT_KIND_EQUALITY: terms += 2; at++; break;
-        case FOURPORT_KIND_CONJUNCTION: case FOURPORT_KIND_DISJUNCTION: goals += 2; at++; break;
-        default: at++;
-        }
-    }
-    return at;
-}
-
 static void print_bytes(const uint8_t *from, const uint8_t *to)
 {
     for (; from < to; from++) printf(" %02X", *from);
@@ -41,7 +24,7 @@ static const uint8_t *print_answer(const uint8_t *at)
 {
     size_t left = fourport_number_at(at);
     for (at += 2; left > 0; left--) {
-        const uint8_t *term = at + 2, *end = end_of(term, 1, 0);
+        const uint8_t *term = at + 2, *end = fourport_term_end(term);
         printf("  V%u =", (unsigned)fourport_number_at(at));
         print_bytes(term, end);
         printf("\n");
@@ -50,7 +33,7 @@ static const uint8_t *print_answer(const uint8_t *at)
     left = fourport_number_at(at);
     for (at += 2; left > 0; left--) {
         int body = at[0] == FOURPORT_KIND_BY;
-        const uint8_t *end = body ? end_of(at + 1, 0, 1) : at + 2;
+        const uint8_t *end = body ? fourport_goal_end(at + 1) : at + 2;
         printf(body ? "  by the body" : "  by the branch");
         print_bytes(at + 1, end);
         printf("\n");

@@ -8,11 +8,10 @@
 
 #include "fourport.h"
 
-/* One byte more than the longest text, so that a longer one is seen; in the list a name takes at most three times its bytes in a text. */
+/* One byte more than the longest text, so that a longer one is seen. */
 #define TEXT_ROOM (FOURPORT_TEXT + 1)
-#define NAMES_ROOM (6 * FOURPORT_TEXT)
 
-static uint8_t rules[TEXT_ROOM], query[TEXT_ROOM], names[NAMES_ROOM], out[FOURPORT_RECORD];
+static uint8_t rules[TEXT_ROOM], query[TEXT_ROOM], names[FOURPORT_NAMES], out[FOURPORT_RECORD];
 
 /* The bytes of a file, as many as there is room for; whether it could be read. */
 static int read_file(const char *path, uint8_t *to, size_t *length)
@@ -54,10 +53,10 @@ int main(int count, char **words)
         return 2;
     }
     if (!read_file(words[1], rules, &rules_length) || !read_file(words[2], query, &query_length)) return 2;
-    number = fourport_read(rules, rules_length, names, NAMES_ROOM, out, FOURPORT_RECORD, &named);
+    number = fourport_read(rules, rules_length, names, FOURPORT_NAMES, out, FOURPORT_RECORD, &named);
     if (number == FOURPORT_DONE) {
         print_record("clauses");
-        number = fourport_read_query(rules, rules_length, query, query_length, names, NAMES_ROOM, out, FOURPORT_RECORD, &named);
+        number = fourport_read_query(rules, rules_length, query, query_length, names, FOURPORT_NAMES, out, FOURPORT_RECORD, &named);
     }
     if (number != FOURPORT_DONE) {
         fprintf(stderr, "refused by %lu: %s\n", (unsigned long)number, fourport_words(number));

@@ -1,4 +1,5 @@
-/* Walks a query forward to where it stops, one step at a time, and then back to its first event, and prints the port of each event on the way.
+/* Walks a query forward to where it stops, one step at a time, and then back to its first event, and prints each event on the way: its port, and under
+ * how many ancestors its goal stands.
  * The file has two records, the program and behind it the query, as those under examples/ have.
  *
  *   rt staticlib fourport
@@ -40,7 +41,8 @@ static const char *port_word(uint8_t port)
 
 static int print_event(long at)
 {
-    return printf("%ld %s\n", at, port_word(here.bytes[FOURPORT_PORT_AT])) > 0;
+    unsigned ancestors = fourport_number_at(fourport_goal_end(here.bytes + FOURPORT_GOAL_AT));
+    return printf("%ld %s under %u\n", at, port_word(here.bytes[FOURPORT_PORT_AT]), ancestors) > 0;
 }
 
 /* Single steps in one direction until one is refused, forward at most MOST_STEPS. Gives the number that refused it, and `at` follows the walk. */

@@ -32,7 +32,7 @@ fn copied() -> Result<(), String> {
     fs::copy(&archive, copy).map(|_| ()).map_err(|_| {
         format!(
             "there is no archive of the desk at {}: no program that uses fourport can be linked. `rt staticlib fourport`, run in the repository's \
-             root, makes the archive; FOURPORT_ARCHIVE names one that stands elsewhere",
+             root, makes the archive; FOURPORT_ARCHIVE, a whole path from the root of the file system, names one that stands elsewhere",
             archive.display()
         )
     })

@@ -1,96 +1,28 @@
-//! The header for C and C++: it and the programs of host/c compile without a warning, its constants and words are those of the Rust side, and the
-//! programs print what the typed crate answers. It needs `cc` and `c++`.
+//! The header for C and C++: it and the programs of host/c compile without a warning, its constants and words are those of the Rust side, its inline
+//! functions find what the Rust side finds, and the programs print what the typed crate answers. It needs `cc` and `c++`.
 
-use fourport::{Clauses, Event, Program, Query, Refusal, Used, Which, RECORD_LIMIT, TEXT_LIMIT};
-use std::path::{Path, PathBuf};
-use std::process::{Command, Output};
-use std::sync::atomic::{AtomicUsize, Ordering};
-use std::{env, fs};
+#[path = "header/compiled.rs"]
+mod compiled;
+#[path = "header/programs.rs"]
+mod programs;
 
-/// The compilers, each with its language.
-const LANGUAGES: [(&str, &str, &str); 3] = [("cc", "c", "c99"), ("cc", "c", "c11"), ("c++", "c++", "c++17")];
-const WARNINGS: [&str; 4] = ["-Wall", "-Wextra", "-Wpedantic", "-Werror"];
+use compiled::{body_prints, compiled_strictly, file, header, made, printed, text, LANGUAGES};
+use fourport::{Event, Program, Query, Refusal, Which, NAMES_LIMIT, RECORD_LIMIT, TEXT_LIMIT};
+
 /// The numbers that are put into words: those in use and some that are not.
 const NUMBERS: std::ops::RangeInclusive<u32> = 0..=40;
-/// The steps of host/c/answers.c.
-const STEPS: u32 = 100_000;
 
-fn repository() -> PathBuf {
-    PathBuf::from(env!("CARGO_MANIFEST_DIR")).join("../..")
-}
-
-fn file(name: &str) -> Vec<u8> {
-    let path = repository().join(name);
-    fs::read(&path).unwrap_or_else(|error| panic!("{}: {error}", path.display()))
-}
-
-fn header() -> String {
-    String::from_utf8(file("include/fourport.h")).expect("text")
-}
-
-fn archive() -> PathBuf {
-    env::var_os("FOURPORT_ARCHIVE").map_or_else(|| repository().join("target/staticlib/libfourport.a"), PathBuf::from)
-}
-
-// ---- Compiling and running
-/// A path for what a test makes.
-fn made(name: &str) -> PathBuf {
-    Path::new(env!("CARGO_TARGET_TMPDIR")).join(name)
-}
-
-/// The program of a source, in one of the languages. Each has a name of its own, since tests run beside each other.
-fn compiled(source: &Path, (compiler, language, standard): (&str, &str, &str)) -> PathBuf {
-    let stem = source.file_stem().and_then(|stem| stem.to_str()).expect("a name");
-    static COMPILED: AtomicUsize = AtomicUsize::new(0);
-    let program = made(&format!("{stem}-{standard}-{}", COMPILED.fetch_add(1, Ordering::Relaxed)));
-    let mut command = Command::new(compiler);
-    command.arg(format!("-std={standard}")).args(WARNINGS).arg("-I").arg(repository().join("include"));
-    command.args(["-x", language]).arg(source).args(["-x", "none"]).arg(archive()).arg("-o").arg(&program);
-    let done = command.output().unwrap_or_else(|error| panic!("{compiler}, which a package of C compilers has: {error}"));
-    assert!(done.status.success(), "{compiler} -std={standard} {}:\n{}", source.display(), String::from_utf8_lossy(&done.stderr));
-    program
-}
-
-fn run(program: &Path, words: &[&Path]) -> Output {
-    Command::new(program).args(words).output().unwrap_or_else(|error| panic!("{}: {error}", program.display()))
-}
-
-fn text(bytes: Vec<u8>) -> String {
-    String::from_utf8(bytes).expect("text")
-}
-
-/// What a program prints that ends well.
-fn printed(program: &Path, words: &[&Path]) -> String {
-    let done = run(program, words);
-    assert!(done.status.success() && done.stderr.is_empty(), "{}: {}", program.display(), String::from_utf8_lossy(&done.stderr));
-    text(done.stdout)
-}
-
-/// What each language's build of a program of host/c prints, which is one text.
-fn each_prints(name: &str, words: &[&str], due: &str) {
-    let paths: Vec<PathBuf> = words.iter().map(|word| repository().join(word)).collect();
-    let words: Vec<&Path> = paths.iter().map(PathBuf::as_path).collect();
-    for language in LANGUAGES {
-        let program = compiled(&repository().join("host/c").join(format!("{name}.c")), language);
-        assert_eq!(printed(&program, &words), due, "{name}, {language:?}");
-    }
-}
-
-/// What a C program prints that includes the header and has this body; one text in all languages.
-fn body_prints(name: &str, body: &str) -> String {
-    let source = made(&format!("{name}.c"));
-    fs::write(&source, format!("#include \"fourport.h\"\n#include \"fourport.h\"\n#include <stdio.h>\nint main(void)\n{{\n{body}return 0;\n}}\n"))
-        .expect("a source");
-    let texts = LANGUAGES.map(|language| printed(&compiled(&source, language), &[]));
-    assert!(texts.iter().all(|text| *text == texts[0]), "{name}: {texts:?}");
-    texts.into_iter().next().unwrap_or_default()
+fn hex(bytes: &[u8]) -> String {
+    bytes.iter().map(|byte| format!(" {byte:02X}")).collect()
 }
 
 // ---- Constants and words
 /// Every constant of the header but the version, with what the Rust side has for it.
 fn constants() -> Vec<(&'static str, u32)> {
     use layout::port;
-    let sizes = [("RECORD", RECORD_LIMIT), ("TEXT", TEXT_LIMIT), ("PORT_AT", layout::PORT_AT)].map(|(name, size)| (name, size as u32));
+    let sizes =
+        [("RECORD", RECORD_LIMIT), ("TEXT", TEXT_LIMIT), ("NAMES", NAMES_LIMIT), ("PORT_AT", layout::PORT_AT), ("GOAL_AT", layout::EVENT_GOAL_AT)];
+    let sizes = sizes.map(|(name, size)| (name, size as u32));
     let bytes = [
         ("CALL", port::CALL),
         ("EXIT", port::EXIT),
@@ -215,73 +147,33 @@ fn lengths_of_records() {
     assert_eq!(body_prints("lengths", &format!("static uint8_t bytes[70000];\n{body}")), due);
 }
 
-// ---- The programs of host/c
-fn hex(bytes: &[u8]) -> String {
-    bytes.iter().map(|byte| format!(" {byte:02X}")).collect()
-}
-
-fn one_bay() -> (Program, Query) {
-    let bytes = file("examples/one-bay.in");
-    let program = layout::record_at(&bytes);
-    (Program::from_bytes(program).expect("a program"), Query::from_bytes(&bytes[program.len()..]).expect("a query"))
-}
-
+/// Terms and goals by their bytes, and where each ends with something behind it; among them the deepest goal that a record holds.
 #[test]
-fn walk_program() {
-    let (program, query) = one_bay();
-    let mut walk = program.walk(Event::first(&query).expect("a first event"));
-    let there: Vec<Event> = std::iter::once(walk.event().clone()).chain(walk.forwards().collect::<Vec<_>>()).collect();
-    let lines: Vec<String> = there.iter().enumerate().map(|(at, event)| format!("{at} {}\n", event.port())).collect();
-    let back: String = lines.iter().rev().skip(1).map(String::as_str).collect();
-    let stop = format!("stop {}: {}\n", Refusal::Walk.number(), Refusal::Walk.question());
-    each_prints("walk", &["examples/one-bay.in"], &format!("{}{stop}and back\n{back}{stop}", lines.concat()));
-}
-
-#[test]
-fn answers_program() {
-    let (program, query) = one_bay();
-    let mut answers = program.answers(&query).with_steps(STEPS);
-    let mut due = String::new();
-    for (ordinal, answer) in answers.by_ref().enumerate() {
-        let answer = answer.expect("a whole list");
-        due += &format!("answer {}\n", ordinal + 1);
-        due.extend(answer.values.iter().map(|(variable, value)| format!("  V{variable} ={}\n", hex(value.as_bytes()))));
-        due.extend(answer.used.iter().map(|used| match used {
-            Used::Body(body) => format!("  by the body{}\n", hex(body.as_bytes())),
-            Used::Branch(half) => format!("  by the branch{}\n", hex(&[*half as u8])),
-        }));
-    }
-    due += &format!("stop {} after {} steps: these are all\n", Refusal::Walk.number(), answers.taken());
-    each_prints("answers", &["examples/one-bay.in"], &due);
-}
-
-#[test]
-fn read_program() {
-    let (rules, goal) = (file("examples/one-bay.pl"), file("examples/one-bay.query"));
-    let (clauses, _) = Clauses::from_text(&rules).expect("clauses");
-    let (query, names) = Query::from_text(&rules, &goal).expect("a query");
-    let listed: String = names.iter().enumerate().map(|(number, name)| format!("{number} {name}\n")).collect();
-    let due = format!("clauses{}\nquery{}\n{listed}", hex(clauses.as_bytes()), hex(query.as_bytes()));
-    each_prints("read", &["examples/one-bay.pl", "examples/one-bay.query"], &due);
-}
-
-/// Each program says by which number it is refused, and in words.
-#[test]
-fn refusals_in_words() {
-    let damaged = made("damaged.in");
-    fs::write(&damaged, [&layout::NO_DEFINITIONS[..], &[0, 2, 9, 0x10]].concat()).expect("a file");
-    let refusal = Refusal::Version(Which::Event).number();
-    let said = |name: &str, words: &[&Path]| {
-        let done = run(&compiled(&repository().join("host/c").join(format!("{name}.c")), LANGUAGES[0]), words);
-        (done.status.code(), text(done.stdout), text(done.stderr))
+fn ends_of_terms_and_goals() {
+    use layout::{atom, conjunction, constant, disjunction, equality, symbol, variable, FAIL, TRUE};
+    let depth = (RECORD_LIMIT - 4) / 2;
+    let deepest = [vec![layout::CONJUNCTION; depth], vec![layout::TRUTH; depth + 1]].concat();
+    let (pair, bay) = (symbol(0x1315, &[variable(0x0102), constant(0x0202)]), constant(9));
+    let goal = disjunction(&conjunction(&equality(&pair, &bay), &atom(0x1010, &[pair.clone(), variable(7)])), &FAIL);
+    let terms = [variable(1), bay, symbol(1, &[pair.clone(), pair.clone()]), pair];
+    let cases: Vec<(&str, Vec<u8>)> =
+        terms.into_iter().map(|term| ("term", term)).chain([TRUE.to_vec(), goal, deepest].into_iter().map(|goal| ("goal", goal))).collect();
+    let line = |(kind, bytes): &(&str, Vec<u8>)| {
+        let listed: String = bytes.iter().chain(&[2, 0, 0, 0]).map(|byte| format!("{byte},")).collect();
+        format!("{{ static const uint8_t bytes[] = {{{listed}}}; printf(\"%lu\\n\", (unsigned long)(fourport_{kind}_end(bytes) - bytes)); }}\n")
     };
-    let refused = format!("refused by {refusal}: {}\n", words_of(refusal));
-    assert_eq!(said("walk", &[&damaged]), (Some(1), String::new(), refused));
-    let stopped = format!("stop {refusal} after 0 steps: {}\n", words_of(refusal));
-    assert_eq!(said("answers", &[&damaged]), (Some(0), stopped, String::new()));
-    let (byte, rules) = (Refusal::Byte.number(), repository().join("examples/one-bay.in"));
-    let refused = format!("refused by {byte}: {}\n", words_of(byte));
-    assert_eq!(said("read", &[&rules, &rules]), (Some(1), String::new(), refused));
+    let due: String = cases.iter().map(|(_, bytes)| format!("{}\n", bytes.len())).collect();
+    assert_eq!(body_prints("ends", &cases.iter().map(line).collect::<String>()), due);
+}
+
+/// The header alone bears warnings that are not asked of host/c.
+#[test]
+fn strict_warnings() {
+    let source = made("strict.c");
+    let body = "static const uint8_t bytes[] = {1, 16, 7};\nreturn fourport_number_at(bytes) == 272 && fourport_record_length(bytes, 3) == 0\n\
+                && fourport_term_end(bytes) == bytes + 3 && fourport_goal_end(bytes + 1) == bytes + 2 && fourport_words(0)[0] == 'd' ? 0 : 1;\n";
+    std::fs::write(&source, format!("#include \"fourport.h\"\nint main(void)\n{{\n{body}}}\n")).expect("a source");
+    LANGUAGES.iter().for_each(|language| assert_eq!(printed(&compiled_strictly(&source, *language), &[]), ""));
 }
 
 /// The rows of bytes in the header's example are the query, its first event and the next one.

@@ -77,6 +77,9 @@ fn ending(answers: u64, steps: u32, cut: Cut) -> Ending {
             let (number, why) = (refusal.number(), refusal_words(refusal));
             (Some(number), format!("{given}; stopped after {walked} (number {number}): {why}; there may be more answers"))
         }
+        Cut::Stopped(other) => {
+            (Some(other.number()), format!("{given}; stopped after {walked} (number {}): {other}; there may be more answers", other.number()))
+        }
     };
     Ending { answers, steps, number, whole: matches!(cut, Cut::Whole), words }
 }

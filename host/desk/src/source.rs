@@ -1,6 +1,6 @@
 //! A text and where it is from: its bytes as they stand, the bytes that the library reads, and its lines.
 
-use fourport::Place;
+use fourport::{without_comments, Place};
 use std::fs::File;
 use std::io::{self, Read};
 
@@ -83,20 +83,6 @@ impl Source {
     pub fn short_name(&self) -> &str {
         self.name.rsplit('/').next().unwrap_or(&self.name)
     }
-}
-
-/// Blanks in place of each comment, from `%` to the end of its line. No token holds a `%`, so it starts nothing else.
-fn without_comments(bytes: &[u8]) -> Vec<u8> {
-    let mut within = false;
-    let blanked = |&byte: &u8| {
-        within = byte != b'\n' && (within || byte == b'%');
-        if within && byte != b'\r' {
-            b' '
-        } else {
-            byte
-        }
-    };
-    bytes.iter().map(blanked).collect()
 }
 
 #[cfg(test)]

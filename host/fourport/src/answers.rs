@@ -1,6 +1,6 @@
 //! Every answer of a query, and the branches and bodies that gave it.
 
-use crate::{raw, Goal, Half, Program, Query, Refusal, Term, RECORD_LIMIT};
+use crate::{raw, Goal, Half, Program, Query, Refusal, Stop, Term, RECORD_LIMIT};
 use layout::{byte_at, goal_end, number_at, term_end, BY};
 use std::fmt;
 use std::iter::FusedIterator;
@@ -34,18 +34,6 @@ pub struct Answer {
     pub values: Vec<(u16, Term)>,
     /// the branches and bodies that gave it, the oldest first
     pub used: Vec<Used>,
-}
-
-/// Why a list of answers ended before it was whole.
-#[derive(Clone, Copy, Debug, PartialEq, Eq, Hash)]
-pub enum Stop {
-    /// the steps allowed are spent
-    Steps,
-    /// the next answer is beyond the bytes allowed
-    Room,
-    /// question 8 refused a value of the next answer, or 8, 9 or 10 the next step of the walk; 10 also a query that has no first event with `, fail`
-    /// behind it
-    Refused(Refusal),
 }
 
 /// The answers of a query, one by one in the order of the walk: see [`Program::answers`].
@@ -270,31 +258,3 @@ impl Answer {
 fn part(bytes: &[u8], from: usize, to: usize) -> Vec<u8> {
     bytes.get(from..to).unwrap_or_default().to_vec()
 }
-
-impl Stop {
-    /// The desk's number: 0 where the steps are spent.
-    ///
-    /// ```
-    /// # use fourport::{Refusal, Stop};
-    /// assert_eq!([Stop::Steps, Stop::Room, Stop::Refused(Refusal::Value)].map(Stop::number), [0, 10, 8]);
-    /// ```
-    pub fn number(self) -> u32 {
-        match self {
-            Stop::Steps => 0,
-            Stop::Room => Refusal::Fit.number(),
-            Stop::Refused(refusal) => refusal.number(),
-        }
-    }
-}
-
-impl fmt::Display for Stop {
-    fn fmt(&self, f: &mut fmt::Formatter<'_>) -> fmt::Result {
-        match self {
-            Stop::Steps => f.write_str("the steps allowed are spent"),
-            Stop::Room => f.write_str("the next answer is beyond the bytes allowed"),
-            Stop::Refused(refusal) => refusal.fmt(f),
-        }
-    }
-}
-
-impl std::error::Error for Stop {}

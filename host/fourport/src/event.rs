@@ -91,7 +91,8 @@ impl Event {
         }
     }
 
-    /// The event's goal.
+    /// The event's goal, as it stands in the query or in the body of its definition: a variable that is bound is a variable here, and its value is in
+    /// the bets. [`Event::goal_value`] has the values in it.
     ///
     /// ```
     /// # use fourport::Event;

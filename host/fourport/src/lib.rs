@@ -8,7 +8,8 @@
 //! - [`Clauses`], [`Program`], [`Query`] and [`Event`] hold the bytes of a record that passed the gate's questions 1 to 4, so a program cannot be
 //!   lent as an event and what is lent later is never refused as a record.
 //! - [`Event::goal`], [`Event::ancestors`], [`Event::bets`], [`Program::definitions`] and [`Clauses::iter`] look into a record without copying it:
-//!   [`GoalView::kind`] and [`TermView::kind`] say what a goal or a term is made of.
+//!   [`GoalView::kind`] and [`TermView::kind`] say what a goal or a term is made of. [`Event::value`] and [`Event::goal_value`] have what the bets make
+//!   of a variable and of the goal.
 //! - [`Walk`] stands at an event and steps forward and back from there: one step, many, to an event that is looked for, back to the door of its goal,
 //!   back to where a variable was bound.
 //! - [`Answers`] gives every answer of a query, with the branches and bodies that gave it.
@@ -56,6 +57,11 @@
 //! or `try_from` puts the questions to them again; [`split_record`] cuts the first record off a buffer. Equal records are equal bytes.
 //! `docs/SPECIFICATION.md`, section 1, has every byte.
 //!
+//! Keep beside events that are stored: the text of the rules and the text of the query, since no record has names and [`Names`] has no bytes of its
+//! own, and the number of the event if it matters, since a walk that is made at a stored event counts from 0. Both texts read again give the same
+//! program, query and names. The crate `layout`, on which this one stands, lays records out for the repository's own crates; to make terms, goals and
+//! programs of your own, read them from text.
+//!
 //! # Stack
 //! The desk recurses on nested terms. The deepest calls that we know need 1,616 KiB of native stack; a thread of [`STACK`] bytes has enough. The main thread of a
 //! Linux program usually has 8 MiB, Rust's other threads 2 MiB unless asked for more. A call that runs out of stack ends the process.
@@ -68,9 +74,11 @@
 
 mod answers;
 mod clauses;
+mod comments;
 mod counts;
 mod definition;
 mod event;
+mod goal_value;
 mod listed;
 mod names;
 mod printer;
@@ -82,6 +90,7 @@ mod refusal;
 mod scanner;
 mod shown;
 mod stacks;
+mod stop;
 #[allow(unsafe_code)]
 mod sys;
 mod terms;
@@ -90,9 +99,11 @@ mod text_refusal;
 mod tokens;
 mod views;
 mod walk;
+mod ways;
 
-pub use answers::{Answer, Answers, Stop, Used, ANSWERS_ROOM};
+pub use answers::{Answer, Answers, Used, ANSWERS_ROOM};
 pub use clauses::{Clause, Clauses};
+pub use comments::without_comments;
 pub use counts::Counts;
 pub use definition::Definition;
 pub use event::{Event, Part, Port};
@@ -103,8 +114,9 @@ pub use record::split_record;
 pub use refusal::{Refusal, Which};
 pub use shown::Shown;
 pub use stacks::{Ancestor, Ancestors, Bet, Bets, Half, Pairs};
+pub use stop::Stop;
 pub use terms::{Goal, Term};
-pub use text::TEXT_LIMIT;
+pub use text::{NAMES_LIMIT, TEXT_LIMIT};
 pub use text_refusal::{Place, TextRefusal, WhichText};
 pub use tokens::{tokens, Token, TokenKind};
 pub use views::{Arguments, GoalKind, GoalView, TermKind, TermView};

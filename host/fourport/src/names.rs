@@ -22,6 +22,25 @@ use std::collections::HashMap;
 /// assert_eq!((names.variable(0), names.variable(1), names.variable_number("Light")), (Some("Light"), None, Some(0)));
 /// # Ok::<(), fourport::TextRefusal>(())
 /// ```
+///
+/// A name that is new in a query has a number of that query alone: another query has the same number for another name. Do not compare the records of
+/// two queries, or show one with the names of the other, where they may have such names. To compare a goal with those of a walk, read both as one text,
+/// `(QUERY), (GOAL)`: the first half is the query's own goal again, and the names fit both.
+///
+/// ```
+/// use fourport::{GoalKind, Query};
+/// let rules = "taken(bay1).";
+/// let (query, _) = Query::from_text(rules, "taken(bay9), taken(Bay)")?;
+/// let (other, names) = Query::from_text(rules, "taken(bay8), taken(Bay)")?;
+/// // number 2 is bay9 in one and bay8 in the other
+/// assert_eq!((&query, query.shown(&names).to_string()), (&other, "taken(bay8), taken(Bay)".into()));
+///
+/// let (both, names) = Query::from_text(rules, "(taken(bay9), taken(Bay)), (taken(bay8))")?;
+/// let GoalKind::Conjunction(first, goal) = both.goal().kind() else { panic!("a conjunction") };
+/// assert_eq!((query.goal(), query.shown(&names).to_string()), (first, "taken(bay9), taken(Bay)".into()));
+/// assert_eq!((goal.shown(&names).to_string(), names.number("bay9"), names.number("bay8")), ("taken(bay8)".into(), Some(2), Some(3)));
+/// # Ok::<(), fourport::TextRefusal>(())
+/// ```
 #[derive(Clone, Debug, PartialEq, Eq)]
 pub struct Names {
     list: Vec<String>,

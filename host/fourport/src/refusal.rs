@@ -11,7 +11,8 @@ pub enum Which {
     Event,
 }
 
-/// A no to one of the gate's questions. `Display` puts the question in words.
+/// A no to one of the gate's questions. `Display` puts the question in words. Later versions of the desk may have more questions, so a `match` needs
+/// an arm for any other.
 ///
 /// ```
 /// use fourport::{Program, Refusal, Which};
@@ -21,12 +22,14 @@ pub enum Which {
 /// assert_eq!(refusal.to_string(), "no to question 2, put to the program or clause record: is the version 1?");
 /// ```
 #[derive(Clone, Copy, Debug, PartialEq, Eq, Hash)]
+#[non_exhaustive]
 pub enum Refusal {
     /// 1 or 11: has the slice 3 to 32,768 bytes, and does its length field say how many stand behind it?
     Frame(Which),
     /// 2 or 12: is byte 2, the version, a 1?
     Version(Which),
-    /// 3 or 13: is the body, from its first to its last byte, of the kind that was asked for (SPECIFICATION 1.2 to 1.9)?
+    /// 3 or 13: is the body, from its first to its last byte, of the kind that was asked for (SPECIFICATION 1.2 to 1.9)? 3 of a text, of rules or of a
+    /// query: has each name at most 16 arguments, and each clause at most 64 variables? No record was lent then.
     Grammar(Which),
     /// 4 or 14: are the record rules kept: the order of definitions, the variables, the pairs of unifiers (SPECIFICATION 1.10)?
     Rules(Which),
@@ -120,12 +123,16 @@ impl Refusal {
         }
     }
 
-    /// The record that was refused; nothing where it was not a record but the output or the work itself.
+    /// The record that was refused; nothing where it was not a record but the output or the work itself. Of a text this says nothing, since 3 is a
+    /// number of texts too: [`TextRefusal::text`](crate::TextRefusal::text) says which text it was.
     ///
     /// ```
-    /// # use fourport::{Refusal, Which};
+    /// # use fourport::{Query, Refusal, Which, WhichText};
     /// assert_eq!(Refusal::Rules(Which::Event).record(), Some(Which::Event));
     /// assert_eq!(Refusal::Walk.record(), None);
+    /// // 17 arguments
+    /// let refused = Query::from_text("", "p(a, a, a, a, a, a, a, a, a, a, a, a, a, a, a, a, a)").unwrap_err();
+    /// assert_eq!((refused.refusal, refused.text), (Refusal::Grammar(Which::Program), WhichText::Query));
     /// ```
     pub fn record(self) -> Option<Which> {
         match self {
@@ -144,7 +151,11 @@ impl Refusal {
         match self {
             Refusal::Frame(_) => "has the slice 3 to 32,768 bytes, and does its length field say how many follow?",
             Refusal::Version(_) => "is the version 1?",
-            Refusal::Grammar(_) => "is the body, from its first byte to its last, of the kind asked for?",
+            Refusal::Grammar(Which::Program) => {
+                "is the body, from its first byte to its last, of the kind asked for? Of a text: has each name at most 16 arguments, and each clause at \
+                 most 64 variables?"
+            }
+            Refusal::Grammar(Which::Event) => "is the body, from its first byte to its last, of the kind asked for?",
             Refusal::Rules(_) => "does it keep the record rules: order, variables, pairs?",
             Refusal::Room => "has the output at least 32,768 bytes?",
             Refusal::Walk => "can the walk go on?",

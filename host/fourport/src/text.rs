@@ -6,9 +6,15 @@ use crate::{raw, scanner, Clauses, Names, Query, Refusal, TextRefusal, WhichText
 /// The longest text, in bytes; a query and the rules that it stands behind count together.
 pub const TEXT_LIMIT: usize = 65_535;
 
-/// The bytes of names that are enough for the texts: in the list a name takes two more than in a text, where it has at least one.
+/// A name in the list takes two bytes more than in a text, where it has at least one.
+const NAMES_GROWTH: usize = 3;
+
+/// The bytes of names that are enough for any text, or for a query with its rules: what [`raw::read`] and [`raw::read_query`] are to be lent.
+pub const NAMES_LIMIT: usize = NAMES_GROWTH * TEXT_LIMIT;
+
+/// The bytes of names that are enough for the texts.
 fn enough(texts: &[Lent<'_>]) -> usize {
-    3 * texts.iter().map(|lent| lent.text.len()).sum::<usize>().min(TEXT_LIMIT)
+    NAMES_LIMIT.min(NAMES_GROWTH * texts.iter().map(|lent| lent.text.len()).sum::<usize>())
 }
 
 /// The list of names and the record that a service wrote.
@@ -26,7 +32,8 @@ fn written(texts: &[Lent<'_>], service: impl FnOnce(&mut [u8], &mut [u8], &mut u
 }
 
 impl Clauses {
-    /// The clauses of a text, and its names.
+    /// The clauses of a text, and its names. A text has no comments (question 20): [`without_comments`](crate::without_comments) blanks those that
+    /// start with `%`, and places stay right.
     ///
     /// ```
     /// use fourport::{Clauses, Query};
@@ -51,7 +58,8 @@ impl Clauses {
 
 impl Query {
     /// The goal of a text, read as the body of one more clause behind those of `rules`, and the names: those of the rules first, so that they fit the
-    /// [`Clauses`] of the same rules, and with them those of the query's variables.
+    /// [`Clauses`] of the same rules, and with them those of the query's variables. A name that is new in the query has a number of this query alone:
+    /// [`Names`] says how to compare the goals of two texts.
     ///
     /// ```
     /// use fourport::{Query, Refusal};

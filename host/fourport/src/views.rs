@@ -168,18 +168,21 @@ fn applied(bytes: &[u8]) -> Arguments<'_> {
     Arguments::new(byte_at(bytes, 3), bytes.get(4..).unwrap_or_default())
 }
 
-/// The variables of the terms or goals: parts stand behind one another, so no tree has to be followed.
-fn variables(mut bytes: &[u8]) -> impl Iterator<Item = u16> + '_ {
-    std::iter::from_fn(move || loop {
-        let (kind, number) = (*bytes.first()?, number_at(bytes, 1));
-        let length = match kind {
+/// The terms and goals of which terms or goals are made, each without its parts: these stand behind it, so no tree has to be followed.
+pub(crate) fn nodes(mut bytes: &[u8]) -> impl Iterator<Item = &[u8]> + '_ {
+    std::iter::from_fn(move || {
+        let length = match *bytes.first()? {
             VARIABLE => 3,
             SYMBOL | ATOM => 4,
             _ => 1,
         };
-        bytes = bytes.get(length..).unwrap_or_default();
-        if kind == VARIABLE {
-            return Some(number);
-        }
+        let (node, rest) = bytes.split_at(length.min(bytes.len()));
+        bytes = rest;
+        Some(node)
     })
+}
+
+/// The variables of the terms or goals.
+fn variables(bytes: &[u8]) -> impl Iterator<Item = u16> + '_ {
+    nodes(bytes).filter(|node| node.first() == Some(&VARIABLE)).map(|node| number_at(node, 1))
 }

@@ -23,6 +23,34 @@ use std::iter::FusedIterator;
 /// assert_eq!((walk.stopped(), walk.net()), (Some(Refusal::Walk), 0));
 /// # Ok::<(), Refusal>(())
 /// ```
+///
+/// The walk of a query ends at its first answer, so [`Walk::run`] leads there: it stops at an exit, or at a fail where there is none. The walk of
+/// [`Query::then_fail`](crate::Query::then_fail) goes on from each answer to the next, and ends in fail behind the last one.
+///
+/// ```
+/// # use fourport::{Clauses, Direction, Event, Port, Query, Refusal};
+/// let rules = "free(bay1). free(bay2).";
+/// let program = Clauses::from_text(rules)?.0.canonical()?;
+/// let (query, names) = Query::from_text(rules, "free(Bay)")?;
+/// let mut walk = program.walk(Event::first(&query)?);
+/// walk.run(u32::MAX, Direction::Forward)?;
+/// assert_eq!((walk.event().port(), walk.event().value(0)?.shown(&names).to_string()), (Port::Exit, "bay1".into()));
+///
+/// let mut walk = program.walk(Event::first(&query.then_fail()?)?);
+/// let is_answer = |event: &Event| event.port() == Port::Exit && event.ancestor_count() == 1 && event.goal() == query.goal();
+/// let mut answers = Vec::new();
+/// while walk.forward_until(1_000, is_answer) == Ok(true) {
+///     answers.push((walk.net(), walk.event().value(0)?.shown(&names).to_string()));
+/// }
+/// assert_eq!(answers, [(10, "bay1".into()), (28, "bay2".into())]);
+/// assert_eq!((walk.stopped(), walk.event().port()), (Some(Refusal::Walk), Port::Fail));
+/// # Ok::<(), Box<dyn std::error::Error>>(())
+/// ```
+///
+/// # Cost
+/// The desk keeps nothing between calls, so each single step reads program and event anew: some 3 microseconds in a small garage, and 70 where both have
+/// some 5,000 bytes. [`Walk::run`] reads them once, and its steps take about one microsecond in either. Single steps are those of [`Walk::forward`],
+/// [`Walk::forwards`], [`Walk::forward_until`] and their ways back. To go a known number of steps, or to where the walk ends, use `run`.
 #[derive(Clone, Debug)]
 pub struct Walk<'p> {
     program: Cow<'p, Program>,
@@ -43,12 +71,46 @@ impl<'p> Walk<'p> {
         &self.event
     }
 
+    /// The program of the walk.
+    ///
+    /// ```
+    /// # use fourport::{Clauses, Event, Query};
+    /// let rules = "free(bay1). free(bay2).";
+    /// let (query, _) = Query::from_text(rules, "free(Bay)")?;
+    /// let walk = Clauses::from_text(rules)?.0.canonical()?.into_walk(Event::first(&query)?);
+    /// assert_eq!(walk.program().answers(&query).count(), 2);
+    /// # Ok::<(), Box<dyn std::error::Error>>(())
+    /// ```
+    pub fn program(&self) -> &Program {
+        &self.program
+    }
+
+    /// Stands at another event, one that was kept or stored, without a step: [`Walk::net`] starts again at 0, and [`Walk::stopped`] is nothing. Gives
+    /// the event that was left. A clone of the walk is a bookmark too, one that keeps both.
+    ///
+    /// ```
+    /// # use fourport::{Event, Program, Query, Refusal};
+    /// let program = Program::from_bytes([0, 3, 1, 0, 0])?;
+    /// let start = Event::first(&Query::from_bytes([0, 2, 1, 0x10])?)?;
+    /// let mut walk = program.into_walk(start.clone());
+    /// walk.forwards().for_each(drop);
+    /// assert_eq!((walk.stopped(), walk.net()), (Some(Refusal::Walk), 1));
+    /// let last = walk.stand_at(start.clone());
+    /// assert_eq!((walk.event(), walk.stopped(), walk.net()), (&start, None, 0));
+    /// assert_eq!(walk.forward()?, &last);
+    /// # Ok::<(), Refusal>(())
+    /// ```
+    pub fn stand_at(&mut self, event: Event) -> Event {
+        (self.net, self.stopped) = (0, None);
+        std::mem::replace(&mut self.event, event)
+    }
+
     /// The event where the walk stands, without the walk.
     pub fn into_event(self) -> Event {
         self.event
     }
 
-    /// The steps forward less the steps back that were accepted so far.
+    /// The steps forward less the steps back that were accepted since the walk was made, or was last told where to [stand](Walk::stand_at).
     pub fn net(&self) -> i64 {
         self.net
     }
@@ -112,8 +174,8 @@ impl<'p> Walk<'p> {
         self.stopped.map_or(Ok(&self.event), Err)
     }
 
-    /// So many steps, or as many as are accepted, by the desk's own run: many times faster than single steps. Gives the steps taken; where they are
-    /// fewer, [`Walk::stopped`] says why. An error occurs only where a record is refused, which a `Program` and an `Event` are not.
+    /// So many steps, or as many as are accepted, by the desk's own run: many times faster than single steps ([cost](#cost)). Gives the steps taken;
+    /// where they are fewer, [`Walk::stopped`] says why. An error occurs only where a record is refused, which a `Program` and an `Event` are not.
     ///
     /// ```
     /// # use fourport::{Direction, Event, Program, Query, Refusal};
@@ -134,80 +196,7 @@ impl<'p> Walk<'p> {
         Ok(run.taken)
     }
 
-    /// Forward to the next event that is met by `met`, by at most so many steps. Gives whether it was found: where not, the steps are spent. The event
-    /// at which the walk stands is not looked at. An error is what refused the next step. In each case the walk stands at the last event it came to.
-    ///
-    /// ```
-    /// # use fourport::{Clauses, Event, Port, Query, Refusal};
-    /// let rules = "light(bay1, red). light(bay2, green).";
-    /// let program = Clauses::from_text(rules)?.0.canonical()?;
-    /// let (query, names) = Query::from_text(rules, "light(bay2, Light)")?;
-    /// let mut walk = program.walk(Event::first(&query)?);
-    /// assert!(walk.forward_until(1_000, |event| event.port() == Port::Fail)?);
-    /// assert_eq!((walk.net(), walk.event().shown(&names).to_string()), (4, "fail bay2 = bay1".into()));
-    /// assert!(!walk.forward_until(1, |event| event.port() == Port::Exit)?);
-    /// assert_eq!(walk.forward_until(1_000, |event| event.port() == Port::Redo), Err(Refusal::Walk));
-    /// assert_eq!(walk.event().shown(&names).to_string(), "exit light(bay2, Light)");
-    /// # Ok::<(), Box<dyn std::error::Error>>(())
-    /// ```
-    pub fn forward_until(&mut self, limit: u64, met: impl FnMut(&Event) -> bool) -> Result<bool, Refusal> {
-        self.until(limit, met, Walk::forward)
-    }
-
-    /// Back to the nearest event before this one that is met by `met`: as [`Walk::forward_until`].
-    ///
-    /// ```
-    /// # use fourport::{Event, Port, Program, Query, Refusal};
-    /// let program = Program::from_bytes([0, 3, 1, 0, 0])?;
-    /// // true, true
-    /// let mut walk = program.walk(Event::first(&Query::from_bytes([0, 4, 1, 0x13, 0x10, 0x10])?)?);
-    /// walk.forwards().for_each(drop);
-    /// assert!(walk.back_until(1_000, |event| event.port() == Port::Call)?);
-    /// assert_eq!(walk.net(), 3);
-    /// assert_eq!(walk.back_until(1_000, |event| event.port() == Port::Fail), Err(Refusal::Walk));
-    /// assert_eq!(walk.net(), 0);
-    /// # Ok::<(), Refusal>(())
-    /// ```
-    pub fn back_until(&mut self, limit: u64, met: impl FnMut(&Event) -> bool) -> Result<bool, Refusal> {
-        self.until(limit, met, Walk::back)
-    }
-
-    fn until(&mut self, limit: u64, mut met: impl FnMut(&Event) -> bool, step: fn(&mut Self) -> Result<&Event, Refusal>) -> Result<bool, Refusal> {
-        for _ in 0..limit {
-            if met(step(self)?) {
-                return Ok(true);
-            }
-        }
-        Ok(false)
-    }
-
-    /// Back to the event at which the variable was bound, the exit of an equality: the nearest one, itself included, with an event before it in which
-    /// the variable is not bound. Gives false, and does not move, where it is not bound here. An error is what refused a step back, which of an event
-    /// that a walk reaches none does; the walk then stands at the last event it came to.
-    ///
-    /// ```
-    /// # use fourport::{Clauses, Event, Query};
-    /// let rules = "bay(bay1). bay(bay2). light(Bay, red) :- bay(Bay).";
-    /// let program = Clauses::from_text(rules)?.0.canonical()?;
-    /// let (query, names) = Query::from_text(rules, "light(Bay, Light), Bay = bay2")?;
-    /// let mut walk = program.walk(Event::first(&query)?);
-    /// walk.forwards().for_each(drop);
-    /// let light = names.variable_number("Light").unwrap();
-    /// assert!(walk.back_to_binding(light)?);
-    /// assert_eq!((walk.net(), walk.event().shown(&names).to_string()), (7, "exit Light = red".into()));
-    /// walk.back()?;
-    /// assert!(!walk.back_to_binding(light)?);
-    /// # Ok::<(), Box<dyn std::error::Error>>(())
-    /// ```
-    pub fn back_to_binding(&mut self, v: u16) -> Result<bool, Refusal> {
-        if !self.event.is_bound(v) {
-            return Ok(false);
-        }
-        self.back_until(u64::MAX, |event| !event.is_bound(v))?;
-        self.forward().map(|_| true)
-    }
-
-    /// The events ahead, one step forward for each, up to the first that is refused: see [`Walk::stopped`] then. A walk need not end.
+    /// The events ahead, one step forward for each ([cost](#cost)), up to the first that is refused: see [`Walk::stopped`] then. A walk need not end.
     ///
     /// ```
     /// # use fourport::{Event, Program, Query};
@@ -221,7 +210,7 @@ impl<'p> Walk<'p> {
         Forwards(self)
     }
 
-    /// The events behind, one step back for each, up to the first that is refused: see [`Walk::stopped`] then.
+    /// The events behind, one step back for each ([cost](#cost)), up to the first that is refused: see [`Walk::stopped`] then.
     ///
     /// ```
     /// # use fourport::{Event, Program, Query};

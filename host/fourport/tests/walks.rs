@@ -125,3 +125,19 @@ fn an_owned_walk() {
     assert_eq!(thread::spawn(move || other.forwards().collect::<Vec<_>>()).join().expect("no failure"), due);
     assert_eq!((walk.net(), walk.forwards().last().as_ref()), (0, due.last()));
 }
+
+/// A walk that is told where to stand goes on from there as one that is made there, and counts from there.
+#[test]
+fn standing_elsewhere() {
+    let (program, events) = events();
+    let mut walk = program.clone().into_walk(events[0].clone());
+    assert_eq!(walk.program(), &program);
+    for (here, event) in events.iter().enumerate().rev() {
+        let left = walk.event().clone();
+        assert_eq!(walk.stand_at(event.clone()), left);
+        assert_eq!((walk.event(), walk.net(), walk.stopped()), (event, 0, None));
+        let ahead = (events.len() - 1 - here) as u32;
+        assert_eq!(walk.run(u32::MAX, Direction::Forward), Ok(ahead), "event {here}");
+        assert_eq!((walk.event(), walk.net(), walk.stopped()), (&events[events.len() - 1], ahead.into(), Some(Refusal::Walk)));
+    }
+}

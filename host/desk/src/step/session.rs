@@ -10,6 +10,7 @@ use super::reply::Reply;
 use crate::diagnostic::refusal_words;
 use crate::garage::Garage;
 use crate::portrait::Portrait;
+use crate::short::short;
 use crate::status::grouped;
 use fourport::{Direction, Port, Refusal};
 
@@ -146,15 +147,16 @@ impl<'g> Session<'g> {
         let Some(below) = bets_below_the_binding(self.stand.event(), variable) else {
             return Reply::said(format!("{name} has no value here"));
         };
-        let value = self.garage.value_shown(self.stand.event(), variable);
+        let value = short(self.garage.value_shown(self.stand.event(), variable));
         self.moved(|session| {
             let ended = session.stand.back_to_bet(below, pulse);
             if ended != Ended::There {
                 return session.words(ended);
             }
             let portrait = session.portrait();
-            let by = portrait.clause.as_ref().map(|clause| format!(", {}", clause.title)).unwrap_or_default();
-            Some(format!("{name} = {value} since this event, by {}{by}", portrait.goal))
+            // the goal itself stands on the screen
+            let by = portrait.clause.map_or(portrait.goal, |clause| clause.title);
+            Some(format!("{name} = {value} since this event, by {by}"))
         })
     }
 

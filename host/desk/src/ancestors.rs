@@ -1,89 +1,87 @@
-//! Ancestors in words, the nearest first, each with the half that the walk is in. The halves by which a clause was chosen share a line, and so do those
-//! of its head: they are the canonical form's, and a planner's text has no goal for each.
+//! Ancestors in words, the nearest first: a line for each atom that is being walked, with the halves that lead from its body to what stands above it, and
+//! one for the query where it has halves itself.
 
-use crate::garage::{Garage, Predicate};
+use crate::garage::Garage;
 use crate::naming::EventNames;
 use crate::position::Position;
 use crate::short::short;
 use fourport::{Ancestor, Event, GoalView, Half};
 
-/// The most halves that are shown one by one.
-const MOST_HALVES: usize = 8;
+/// Halves that are alike are counted where there are as many in a row.
+const MANY: usize = 4;
 
-/// Ancestors that share a line.
-enum Line<'e> {
-    Atom(GoalView<'e>, Position),
-    /// a conjunction or a disjunction of the text, with the half and what stands between its halves
-    Pair(Half, GoalView<'e>, &'static str, GoalView<'e>, Position),
-    /// halves of the clauses of a predicate, the nearest first, and the clause that they come to
-    Choice(Vec<Half>, Predicate, usize),
-    /// halves of the head of a clause, the nearest first
-    Head(Vec<Half>, Predicate, usize),
+/// An atom, or nothing for the query; the halves within it, the nearest first; and how many ancestors stand above it.
+struct Line<'e> {
+    atom: Option<GoalView<'e>>,
+    halves: Vec<Half>,
+    above: usize,
 }
 
 impl Garage {
-    /// The lines, so many at the most, and how many there are in all.
+    /// The lines, so many at the most, and how many there are in all. The conjunction around the query is in none of them.
     pub fn ancestors_shown(&self, event: &Event, most: usize) -> (Vec<String>, usize) {
-        let (lines, mut names) = (self.ancestor_lines(event), EventNames::of(self, event));
+        let (lines, mut names) = (lines(event), EventNames::of(self, event));
         let shown = lines.iter().take(most).map(|line| self.line_shown(event, line, &mut names)).collect();
         (shown, lines.len())
     }
 
-    /// All ancestors but the conjunction around the query.
-    fn ancestor_lines<'e>(&self, event: &'e Event) -> Vec<Line<'e>> {
-        let count = usize::from(event.ancestor_count()).saturating_sub(1);
-        let mut lines: Vec<Line<'e>> = Vec::new();
-        // what the ancestor, or the goal, above has come to
-        let mut above = Position::of(self, event);
-        for (i, ancestor) in event.ancestors().take(count).enumerate() {
-            let position = Position::under(self, event, i + 1);
-            match (ancestor, &position, lines.last_mut()) {
-                (Ancestor::Atom(atom), ..) => lines.push(Line::Atom(atom, position.clone())),
-                (Ancestor::Disjunction { half, .. }, Position::Clauses(..), Some(Line::Choice(halves, ..))) => halves.push(half),
-                (Ancestor::Conjunction { half, .. }, Position::Head(..), Some(Line::Head(halves, ..))) => halves.push(half),
-                (Ancestor::Disjunction { half, .. }, Position::Clauses(of, _), _) => {
-                    lines.push(Line::Choice(vec![half], *of, above.clause().map_or(0, |(_, clause)| clause)));
-                }
-                (Ancestor::Conjunction { half, .. }, Position::Head(of, clause, _), _) => lines.push(Line::Head(vec![half], *of, *clause)),
-                (Ancestor::Conjunction { half, left, right }, ..) => lines.push(Line::Pair(half, left, ", ", right, position.clone())),
-                (Ancestor::Disjunction { half, left, right }, ..) => lines.push(Line::Pair(half, left, " ; ", right, position.clone())),
-            }
-            above = position;
-        }
-        lines
-    }
-
     fn line_shown(&self, event: &Event, line: &Line<'_>, names: &mut EventNames<'_>) -> String {
-        let mut shown = |goal: GoalView<'_>| {
-            names.add_values(event, goal);
-            short(goal.shown(names))
+        let (goal, at) = match line.atom {
+            Some(atom) => {
+                names.add_values(event, atom);
+                (short(atom.shown(names)), self.at(&Position::under(self, event, line.above + 1)))
+            }
+            None => ("the query".into(), self.at(&Position::Query(Vec::new()))),
         };
-        let (words, at) = match line {
-            Line::Atom(atom, position) => (shown(*atom), self.at(position)),
-            Line::Pair(half, left, between, right, position) => {
-                (format!("half {} of {}{between}{}", *half as u8, shown(*left), shown(*right)), self.at(position))
-            }
-            Line::Choice(halves, of, clause) => {
-                let (count, of_shown) = (self.clauses_of(*of).len(), self.shown_predicate(*of));
-                (format!("{} of the {count} clauses of {of_shown}", halves_shown(halves)), self.clause_at(*of, *clause))
-            }
-            Line::Head(halves, of, clause) => {
-                let words = format!("{} of clause {} of {}", halves_shown(halves), clause + 1, self.shown_predicate(*of));
-                (words, self.clause_at(*of, *clause))
-            }
-        };
-        format!("{words}{}", at.map(|at| format!("   {at}")).unwrap_or_default())
+        let at = at.map(|at| format!("   {at}")).unwrap_or_default();
+        format!("{goal}{}{at}", halves_shown(&line.halves))
     }
 }
 
-/// Halves that are kept the nearest first, shown the outermost first: `half 1`, `halves 2 2 1`.
+fn lines(event: &Event) -> Vec<Line<'_>> {
+    let count = usize::from(event.ancestor_count()).saturating_sub(1);
+    let (mut lines, mut halves) = (Vec::new(), Vec::new());
+    for (above, ancestor) in event.ancestors().take(count).enumerate() {
+        match ancestor {
+            Ancestor::Atom(atom) => lines.push(Line { atom: Some(atom), halves: std::mem::take(&mut halves), above }),
+            Ancestor::Conjunction { half, .. } | Ancestor::Disjunction { half, .. } => halves.push(half),
+        }
+    }
+    if !halves.is_empty() {
+        lines.push(Line { atom: None, halves, above: count });
+    }
+    lines
+}
+
+/// Halves that are kept the nearest first, shown the outermost first: ` in half 1`, ` in halves 2 2 1`, ` in halves 2 (54 times) 1`.
 fn halves_shown(halves: &[Half]) -> String {
-    let numbers = |halves: &[Half]| halves.iter().rev().map(|half| (*half as u8).to_string()).collect::<Vec<_>>().join(" ");
-    match halves {
-        [half] => format!("half {}", *half as u8),
-        _ if halves.len() <= MOST_HALVES => format!("halves {}", numbers(halves)),
-        // a choice of clauses passes over them one by one: all halves but the nearest are the second
-        [nearest, passed @ ..] => format!("halves 2 ({} times) {}", passed.len(), *nearest as u8),
-        [] => String::new(),
+    let outermost: Vec<Half> = halves.iter().rev().copied().collect();
+    let runs = outermost.chunk_by(|left, right| left == right).flat_map(|run| {
+        let number = run.first().map_or(0, |half| *half as u8);
+        if run.len() < MANY {
+            vec![number.to_string(); run.len()]
+        } else {
+            vec![format!("{number} ({} times)", run.len())]
+        }
+    });
+    let shown = runs.collect::<Vec<_>>().join(" ");
+    match halves.len() {
+        0 => String::new(),
+        1 => format!(" in half {shown}"),
+        _ => format!(" in halves {shown}"),
+    }
+}
+
+#[cfg(test)]
+mod tests {
+    use super::*;
+    use Half::{First, Second};
+
+    #[test]
+    fn halves_from_the_outermost() {
+        assert_eq!(halves_shown(&[]), "");
+        assert_eq!(halves_shown(&[First]), " in half 1");
+        assert_eq!(halves_shown(&[First, Second, Second]), " in halves 2 2 1");
+        assert_eq!(halves_shown(&[First, Second, Second, Second, Second, First]), " in halves 1 2 (4 times) 1");
     }
 }

@@ -6,7 +6,7 @@ use crate::garage::Garage;
 use crate::naming::EventNames;
 use crate::progress::Progress;
 use crate::sheet::{Ending, Form, Row, UsedClause};
-use crate::status::{counted, Status};
+use crate::status::{counted, grouped, Status};
 use fourport::{Answer, Stop, TermKind};
 use std::collections::HashSet;
 use std::io::{self, Write};
@@ -27,7 +27,7 @@ pub fn answers(garage: &Garage, order: Order, out: &mut dyn Write) -> io::Result
     let (progress, mut given, mut stop) = (Progress::new(), 0, None);
     let mut list = garage.program.answers(&garage.query).with_steps(order.steps).with_progress(Box::new(progress.asking()));
     let names: Vec<String> = variables.iter().map(|(name, _)| name.clone()).collect();
-    order.form.head(out, &garage.query.shown(&garage.names).to_string(), &names)?;
+    order.form.head(out, &garage.asked.typed(), &names)?;
     while given < order.limit {
         match list.next() {
             Some(Ok(answer)) => {
@@ -49,10 +49,10 @@ pub fn answers(garage: &Garage, order: Order, out: &mut dyn Write) -> io::Result
     let ending = ending(given, list.taken(), if cut { Cut::Limit } else { stop.map_or(Cut::Whole, Cut::Stopped) });
     order.form.tail(out, &ending)?;
     out.flush()?;
-    Ok(match (ending.whole, given) {
-        (true, 0) => Status::NoAnswer,
-        (true, _) => Status::Done,
-        (false, _) => Status::Stopped,
+    Ok(match (ending.stopped, given) {
+        (None, 0) => Status::NoAnswer,
+        (None, _) => Status::Done,
+        (Some(_), _) => Status::Stopped,
     })
 }
 
@@ -65,23 +65,25 @@ enum Cut {
 }
 
 fn ending(answers: u64, steps: u32, cut: Cut) -> Ending {
-    let (given, walked) = (counted(answers, "answer"), counted(steps.into(), "step"));
-    let (number, words) = match cut {
-        Cut::Whole => (Some(6), format!("{given}; the list is whole: the walk ended after {walked} (number 6)")),
-        Cut::Limit => (None, format!("{given}; stopped by --limit: there may be more")),
-        Cut::Stopped(Stop::Steps) => (Some(0), format!("{given}; stopped by --steps after {walked} (number 0): there may be more")),
-        Cut::Stopped(stop @ Stop::Room) => {
-            (Some(stop.number()), format!("{given}; stopped after {walked} (number {}): the answers have too many bytes together", stop.number()))
-        }
+    let (given, at) = (counted(answers, "answer"), event_after(steps));
+    let (number, stopped, words) = match cut {
+        Cut::Whole => (Some(6), None, format!("the list is whole: the walk ends {at} (number 6)")),
+        Cut::Limit => (None, Some("limit"), "stopped by --limit: there may be more".into()),
+        Cut::Stopped(Stop::Steps) => (Some(0), Some("steps"), format!("stopped by --steps {at} (number 0): there may be more")),
         Cut::Stopped(Stop::Refused(refusal)) => {
-            let (number, why) = (refusal.number(), refusal_words(refusal));
-            (Some(number), format!("{given}; stopped after {walked} (number {number}): {why}; there may be more answers"))
+            let why = refusal_words(refusal);
+            (Some(refusal.number()), Some("refused"), format!("stopped {at} (number {}): {why}; there may be more answers", refusal.number()))
         }
-        Cut::Stopped(other) => {
-            (Some(other.number()), format!("{given}; stopped after {walked} (number {}): {other}; there may be more answers", other.number()))
+        Cut::Stopped(stop) => {
+            (Some(stop.number()), Some("room"), format!("stopped {at} (number {}): {stop}; there may be more answers", stop.number()))
         }
     };
-    Ending { answers, steps, number, whole: matches!(cut, Cut::Whole), words }
+    Ending { answers, steps, number, stopped, words: format!("{given}; {words}") }
+}
+
+/// Where a walk of so many steps stands. Event 0 is one step behind the first event of 'Q, fail'.
+fn event_after(steps: u32) -> String {
+    steps.checked_sub(1).map_or("before its first event".into(), |number| format!("at event {}", grouped(number.into())))
 }
 
 fn row(garage: &Garage, variables: &[(String, u16)], answer: &Answer) -> Row {

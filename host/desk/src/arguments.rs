@@ -39,7 +39,7 @@ fn answers() -> Command {
         .arg(
             Arg::new("steps").long("steps").value_name("N").value_parser(value_parser!(u32)).default_value(USUAL_STEPS).help("At most so many steps"),
         )
-        .arg(flag("csv", "Comma-separated values for the planning sheet; the last line goes to standard error"))
+        .arg(flag("csv", "Comma-separated values for the planning sheet; what is said of the list goes to standard error"))
         .arg(flag("json", "One JSON object"))
         .group(ArgGroup::new("form").args(["csv", "json"]))
 }
@@ -47,6 +47,12 @@ fn answers() -> Command {
 fn walk() -> Command {
     texts(Command::new("walk").about("Prints the walk in words, a line for each event, up to the first answer"))
         .arg(Arg::new("all").long("all").action(ArgAction::SetTrue).help("Goes on past the first answer"))
+        .arg(
+            Arg::new("goals")
+                .long("goals")
+                .action(ArgAction::SetTrue)
+                .help("Shows goals as they are typed alone, not the clauses and heads between them"),
+        )
         .arg(number("from", "N", "The first event that is shown").default_value("0"))
         .arg(number("to", "N", "The last event that is shown [default: 100,000 behind the first]"))
         .arg(
@@ -86,7 +92,7 @@ fn command() -> Command {
 /// What was asked for.
 pub enum Asked {
     Answers { limit: u64, steps: u32, form: Form },
-    Walk { all: bool, from: u64, to: u64, ports: Vec<String>, spied: Vec<String> },
+    Walk { all: bool, goals: bool, from: u64, to: u64, ports: Vec<String>, spied: Vec<String> },
     Step { at: u64 },
 }
 
@@ -128,7 +134,14 @@ pub fn read(arguments: impl IntoIterator<Item = std::ffi::OsString>) -> Result<A
         "walk" => {
             let from = number_of(matches, "from").unwrap_or_default();
             let to = number_of(matches, "to").unwrap_or(from.saturating_add(USUAL_EVENTS));
-            Asked::Walk { all: matches.get_flag("all"), from, to, ports: words(matches, "ports"), spied: words(matches, "spy") }
+            Asked::Walk {
+                all: matches.get_flag("all"),
+                goals: matches.get_flag("goals"),
+                from,
+                to,
+                ports: words(matches, "ports"),
+                spied: words(matches, "spy"),
+            }
         }
         _ => Asked::Step { at: number_of(matches, "at").unwrap_or_default() },
     };

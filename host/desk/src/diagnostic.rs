@@ -118,7 +118,7 @@ pub fn refusal_words(refusal: Refusal) -> &'static str {
     match refusal {
         Refusal::Value => "a value would have over 8,192 bytes",
         Refusal::Locals => "a new variable would have a number over 65,535",
-        Refusal::Fit => "what comes next would have over 32,768 bytes; rules that call each other in a ring do that",
+        Refusal::Fit => "the next event would have over 32,768 bytes, as where rules call each other in a ring, or a predicate has too many clauses",
         other => other.question(),
     }
 }

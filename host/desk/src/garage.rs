@@ -5,6 +5,7 @@ use crate::goals::{goals, Goals};
 use crate::naming::parting;
 use crate::near::nearest;
 use crate::outline::{self, ClauseOutline};
+use crate::reach;
 use crate::source::Source;
 use crate::warnings;
 use fourport::{tokens, Clauses, Event, Goal, GoalView, Names, Program, Query, Refusal, TextRefusal, Token, WhichText};
@@ -97,22 +98,35 @@ impl Garage {
             let near = nearest(name, self.clauses.keys().filter_map(|(predicate, _)| self.names.name(*predicate)));
             return Err(format!("no rule or query names `{name}`{}", near.map(|near| format!("; did you mean `{near}`?")).unwrap_or_default()));
         };
-        let mut arities: Vec<u8> = self.clauses.keys().filter(|(predicate, _)| *predicate == number).map(|(_, arity)| *arity).collect();
-        arities.sort_unstable();
+        let arities = self.arities(name, number);
+        let listed = arities.iter().map(|arity| format!("{name}/{arity}")).collect::<Vec<_>>().join(", ");
         match (arity.map(str::parse::<u8>), arities.as_slice()) {
-            (Some(Ok(arity)), _) => Ok((number, arity)),
-            (Some(Err(_)), _) => Err(format!("a predicate is a name and an arity, as {name}/2")),
+            (Some(Ok(arity)), known) if known.contains(&arity) => Ok((number, arity)),
+            (_, []) => Err(format!("`{name}` is no predicate")),
             (None, [arity]) => Ok((number, *arity)),
-            (None, []) => Err(format!("no clause defines `{name}`")),
-            (None, several) => {
-                let listed: Vec<String> = several.iter().map(|arity| format!("{name}/{arity}")).collect();
-                Err(format!("which one: {}?", listed.join(", ")))
-            }
+            (None, _) => Err(format!("which one: {listed}?")),
+            (Some(_), _) => Err(format!("no rule or query names `{text}`; there is {listed}")),
         }
     }
 
+    /// The arities with which clauses or goals have a name.
+    fn arities(&self, name: &str, number: u16) -> Vec<u8> {
+        let used = |source: &Source, goals: &Goals| -> Vec<u8> {
+            let named = goals.atoms().filter(|(span, _)| source.part(*span) == name);
+            named.filter_map(|(_, arity)| u8::try_from(arity).ok()).collect()
+        };
+        let bodies = self.outlines.iter().filter_map(|outline| outline.body.as_ref()).flat_map(|body| used(&self.rules, body));
+        let heads = self.clauses.keys().filter(|(predicate, _)| *predicate == number).map(|(_, arity)| *arity);
+        let mut arities: Vec<u8> = heads.chain(bodies).chain(used(&self.asked, &self.goals)).collect();
+        arities.sort_unstable();
+        arities.dedup();
+        arities
+    }
+
     pub fn warnings(&self) -> Vec<Diagnostic> {
-        warnings::warnings(&self.rules, &self.outlines, &self.asked, &self.goals)
+        let mut told = warnings::warnings(&self.rules, &self.outlines, &self.asked, &self.goals);
+        told.extend(reach::warnings(self));
+        told
     }
 }
 

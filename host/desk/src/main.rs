@@ -16,6 +16,7 @@ mod outline;
 mod portrait;
 mod position;
 mod progress;
+mod reach;
 mod sheet;
 mod short;
 mod source;
@@ -101,10 +102,10 @@ fn run(Arguments { rules, query, asked }: Arguments) -> Result<Status, Failure> 
     let mut out = BufWriter::new(io::stdout().lock());
     Ok(match asked {
         Asked::Answers { limit, steps, form } => answers::answers(&garage, answers::Order { limit, steps, form }, &mut out)?,
-        Asked::Walk { all, from, to, ports, spied } => {
+        Asked::Walk { all, goals, from, to, ports, spied } => {
             let spied = spied.iter().map(|name| garage.predicate_named(name).map_err(Diagnostic::plain)).collect::<Result<_, _>>()?;
             let ports = [Port::Call, Port::Exit, Port::Fail, Port::Redo].into_iter().filter(|port| ports.contains(&port.to_string())).collect();
-            walk::walk(&garage, &walk::Order { all, from, to, ports, spied }, &mut out)?
+            walk::walk(&garage, &walk::Order { all, goals, from, to, ports, spied }, &mut out)?
         }
         Asked::Step { at } => {
             drop(out);

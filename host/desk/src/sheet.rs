@@ -26,7 +26,8 @@ pub struct Ending {
     pub steps: u32,
     /// the library's number; nothing where the planner's own limit ended the list
     pub number: Option<u32>,
-    pub whole: bool,
+    /// what stopped it; nothing where it is whole
+    pub stopped: Option<&'static str>,
     pub words: String,
 }
 
@@ -70,8 +71,10 @@ impl Form {
             }
             Form::Json => {
                 let number = ending.number.map_or("null".into(), |number| number.to_string());
-                let Ending { answers, steps, whole, words, .. } = ending;
-                writeln!(out, "\n], \"count\": {answers}, \"whole\": {whole}, \"number\": {number}, \"steps\": {steps}, \"words\": {}}}", json(words))
+                let stopped = ending.stopped.map_or("null".into(), json);
+                let Ending { answers, steps, words, .. } = ending;
+                write!(out, "\n], \"count\": {answers}, \"whole\": {}, \"stopped\": {stopped}, ", ending.stopped.is_none())?;
+                writeln!(out, "\"number\": {number}, \"steps\": {steps}, \"words\": {}}}", json(words))
             }
         }
     }

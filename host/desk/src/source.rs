@@ -47,6 +47,11 @@ impl Source {
         &self.text
     }
 
+    /// The text as somebody typed it.
+    pub fn typed(&self) -> String {
+        String::from_utf8_lossy(&self.bytes).trim().into()
+    }
+
     /// The part of the text in a span.
     pub fn part(&self, span: Span) -> String {
         String::from_utf8_lossy(self.text.get(span.from..span.to).unwrap_or_default()).into_owned()

@@ -15,6 +15,8 @@ pub struct Order {
     /// the first and the last event that are shown
     pub from: u64,
     pub to: u64,
+    /// goals that somebody typed alone
+    pub goals: bool,
     /// the ports that are shown; all where none is named
     pub ports: Vec<Port>,
     /// the predicates whose atoms are shown; all goals where none is named
@@ -22,9 +24,10 @@ pub struct Order {
 }
 
 impl Order {
-    fn shows(&self, event: &Event) -> bool {
+    fn shows(&self, garage: &Garage, event: &Event) -> bool {
         let spied = || predicate(event.goal()).is_some_and(|of| self.spied.contains(&of));
-        (self.ports.is_empty() || self.ports.contains(&event.port())) && (self.spied.is_empty() || spied())
+        let port = self.ports.is_empty() || self.ports.contains(&event.port());
+        port && (self.spied.is_empty() || spied()) && (!self.goals || garage.is_goal(event))
     }
 }
 
@@ -46,7 +49,7 @@ pub fn walk(garage: &Garage, order: &Order, out: &mut dyn Write) -> io::Result<S
     let end = match end {
         Some(end) => end,
         None => loop {
-            if order.shows(walk.event()) {
+            if order.shows(garage, walk.event()) {
                 writeln!(out, "{}", garage.event_line(number, walk.event()))?;
             }
             if !order.all && garage.is_answer(walk.event()) {
@@ -61,7 +64,7 @@ pub fn walk(garage: &Garage, order: &Order, out: &mut dyn Write) -> io::Result<S
             number += 1;
         },
     };
-    writeln!(out, "{}", ending(walk.event(), number, &end))?;
+    writeln!(out, "{}", ending(garage, order, walk.event(), number, &end))?;
     out.flush()?;
     Ok(match end {
         End::Answer | End::Shown => Status::Done,
@@ -97,13 +100,18 @@ fn skipped(garage: &Garage, order: &Order, walk: &mut Walk<'_>) -> (u64, Option<
 }
 
 /// The last line.
-fn ending(event: &Event, number: u64, end: &End) -> String {
-    let at = grouped(number);
-    match end {
+fn ending(garage: &Garage, order: &Order, event: &Event, number: u64, end: &End) -> String {
+    let (at, from) = (grouped(number), grouped(order.from));
+    let beyond = if number < order.from { format!("nothing is shown of event {from} and on: ") } else { String::new() };
+    let words = match end {
         End::Answer => format!("an answer at event {at}; --all goes on from there"),
         End::Shown => format!("shown up to event {at}; --to goes further"),
         End::Nothing => "nothing is shown: --to stands before --from".into(),
-        End::Refused(Refusal::Walk) if event.port() == Port::Fail => format!("the walk ends at event {at} (number 6): there is no other answer"),
+        End::Refused(Refusal::Walk) if event.port() == Port::Fail => {
+            let other = if has_answer(garage) { "other " } else { "" };
+            format!("the walk ends at event {at} (number 6): there is no {other}answer")
+        }
         End::Refused(refusal) => format!("the walk stops at event {at} (number {}): {}", refusal.number(), refusal_words(*refusal)),
-    }
+    };
+    beyond + &words
 }

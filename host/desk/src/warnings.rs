@@ -8,6 +8,12 @@ use crate::outline::ClauseOutline;
 use crate::source::{Source, Span};
 use std::collections::{BTreeSet, HashMap};
 
+/// Names that people know from Prolog systems.
+const BUILT_IN: [&str; 20] = [
+    "append", "assert", "asserta", "assertz", "atom", "call", "dif", "findall", "forall", "format", "functor", "length", "member", "nl", "once",
+    "print", "repeat", "retract", "var", "write",
+];
+
 /// A predicate by its name in the text, and its arity.
 type Predicate = (String, usize);
 
@@ -38,7 +44,8 @@ fn undefined(source: &Source, goals: &Goals, defined: &BTreeSet<Predicate>) -> V
         goals.atoms().map(|(name, arity)| (name, source.part(name), arity)).filter(|(_, name, arity)| !defined.contains(&(name.clone(), *arity)));
     let told = missing.map(|(span, name, arity)| {
         let (at, told) = warning(source, span, format!("no clause defines {name}/{arity}, so it fails"));
-        (at, meant(&name, arity, defined).into_iter().fold(told, Diagnostic::with_note))
+        let notes = meant(&name, arity, defined).into_iter().chain(built_in(&name));
+        (at, notes.fold(told, Diagnostic::with_note))
     });
     told.collect()
 }
@@ -53,12 +60,23 @@ fn meant(name: &str, arity: usize, defined: &BTreeSet<Predicate>) -> Option<Stri
     nearest(name, same_arity).map(|near| format!("did you mean {near}/{arity}?"))
 }
 
+/// What is to be said of a name that Prolog systems have built in.
+fn built_in(name: &str) -> Option<String> {
+    let what = match name {
+        "not" => "there is no negation",
+        "is" | "succ" | "plus" | "between" => "there is no arithmetic",
+        _ if BUILT_IN.contains(&name) => "it is not built in",
+        _ => return None,
+    };
+    Some(format!("{what}: {name} is a predicate like any other here"))
+}
+
 /// Variables that stand once in their clause, and whose names do not begin with an underscore.
 fn alone(rules: &Source, clause: &ClauseOutline) -> Vec<(usize, Diagnostic)> {
     let once = clause.variables.iter().filter(|variable| variable.count == 1 && !variable.name.starts_with('_'));
     let told = once.map(|variable| {
-        let (at, told) = warning(rules, variable.span, format!("{} stands once in this clause", variable.name));
-        (at, told.with_note(format!("_ or _{} says that this is meant", variable.name)))
+        let (at, told) = warning(rules, variable.span, format!("{} is used once in this clause", variable.name));
+        (at, told.with_note(format!("write _ or _{} if that is meant", variable.name)))
     });
     told.collect()
 }

@@ -19,6 +19,17 @@ impl Garage {
         event.port() == Port::Exit && event.ancestor_count() == 1 && Position::of(self, event) == Position::Query(Vec::new())
     }
 
+    /// Is the goal of an event one that somebody typed? Clauses, heads and the `true` of a fact are not, and of what was typed conjunctions and
+    /// disjunctions are left to their parts.
+    pub fn is_goal(&self, event: &Event) -> bool {
+        let typed = match Position::of(self, event) {
+            Position::Query(_) => true,
+            Position::Body(of, clause, _) => self.clause(of, clause).is_some_and(|outline| outline.body.is_some()),
+            _ => false,
+        };
+        typed && !matches!(event.goal().kind(), GoalKind::Conjunction(..) | GoalKind::Disjunction(..))
+    }
+
     /// The rules that an event stands in: its ancestors that are atoms.
     pub fn depth(&self, event: &Event) -> usize {
         event.ancestors().filter(|ancestor| matches!(ancestor, Ancestor::Atom(_))).count()
@@ -48,7 +59,7 @@ impl Garage {
         }
         match (event.port(), event.goal().kind(), event.bets().next()) {
             (Port::Exit, GoalKind::Equality(..), Some(Bet::Unifier(pairs))) => bound(pairs, &names()).map(|bound| format!("binds {bound}")),
-            (Port::Fail, ..) if event.ancestor_count() == 0 => Some("there is no other answer".into()),
+            (Port::Fail, ..) if event.ancestor_count() == 0 => Some("there are no more answers".into()),
             _ => None,
         }
     }

@@ -156,7 +156,7 @@ fn limits() {
     let (found, last, status) = ended(&path, &["--steps", "500"]);
     let listed = answers(RING, "way(a, Where)", 500);
     assert_eq!((found.len(), status, listed.taken), (listed.answers.len(), 3, 500));
-    assert!(last.contains("--steps") && last.contains("500 steps") && last.contains("(number 0)"), "{last}");
+    assert!(last.contains("--steps") && last.contains("at event 499 ") && last.contains("(number 0)"), "{last}");
 
     // a ring without end is ended by question 10
     let (found, last, status) = ended(&path, &[]);

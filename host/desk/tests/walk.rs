@@ -77,7 +77,8 @@ fn held(path: &str, rules: &str, query: &str, argument: &str, asked: &str) -> Ve
     assert_eq!(found.len(), events.len(), "{query} in {rules}");
     found.iter().zip(0..).zip(&events).for_each(|((line, number), expected)| hold(line, number, expected));
     if refusal == Some(Refusal::Walk) {
-        assert!(last.contains("(number 6)") && last.contains("no other answer"), "{last}");
+        let words = if events.iter().any(|event| event.is_answer) { "there is no other answer" } else { "there is no answer" };
+        assert!(last.contains("(number 6)") && last.ends_with(words), "{last}");
     }
     // up to the first answer the numbers are those of the query's own walk
     let own = walk.own_ports(MOST_EVENTS);
@@ -143,6 +144,29 @@ fn parts_of_a_walk() {
     });
 }
 
+/// What is typed is an atom or an equality of the text; of WAYS all bodies are made of atoms.
+#[test]
+fn goals_alone() {
+    shown_alone(&["--goals"], |_, event| event.predicate.is_some());
+    let path = written("walk/goals.pl", "p(X) :- (X = a ; q), true.\nq.\n");
+    let told = desk(&["walk", &path, "p(X), fail", "--all", "--goals"]);
+    let goals: Vec<String> =
+        lines(&told.out).0.iter().map(|line| format!("{} {}", line.port, line.rest.split("  ").next().expect("a goal"))).collect();
+    let once = |goal: &str| goals.iter().filter(|shown| *shown == goal).count();
+    assert_eq!((once("call X = a"), once("call q"), once("call true"), once("call p(X)"), once("fail p(X)"), once("call fail")), (1, 1, 2, 1, 1, 2));
+    assert!(goals.iter().all(|goal| !goal.contains("clause") && !goal.contains("argument") && !goal.contains(';') && !goal.contains(", ")));
+}
+
+/// A predicate that nothing names is refused, and one that a goal alone names is not.
+#[test]
+fn predicates_to_spy_on() {
+    let path = written("walk/spied.pl", "p(X) :- missing(X).\n");
+    let told = |spied: &str| desk(&["walk", &path, "p(a)", "--spy", spied]);
+    assert_eq!((told("missing/1").status, told("missing").status), (1, 1));
+    assert_eq!((told("p/2").status, told("a").status, told("nowhere/1").status, told("p/x").status), (2, 2, 2, 2));
+    assert!(told("p/2").err.contains("there is p/1") && told("mising/1").err.contains("error: "), "{}", told("p/2").err);
+}
+
 #[test]
 fn last_lines_and_statuses() {
     let path = written("walk/endings.pl", format!("{WAYS}ring :- ring.\n"));
@@ -154,7 +178,7 @@ fn last_lines_and_statuses() {
     assert!(last.starts_with("an answer at event ") && last.contains("--all"), "{last}");
     assert_eq!(status, 0);
     assert_eq!(ended(&["way(a, b)", "--ports", "call"]).0, last);
-    assert_eq!(ended(&["way(a, b)", "--from", "5000"]).0, last);
+    assert_eq!(ended(&["way(a, b)", "--from", "5000"]).0, format!("nothing is shown of event 5,000 and on: {last}"));
 
     let (last, status) = ended(&["way(a, b)", "--all"]);
     assert!(last.contains("(number 6)") && last.contains("no other answer"), "{last}");
@@ -174,8 +198,9 @@ fn last_lines_and_statuses() {
     let (last, status) = ended(&["ring"]);
     assert!(last.contains("(number 10)"), "{last}");
     assert_eq!(status, 3);
-    assert_eq!(ended(&["ring", "--from", "100000"]), (last.clone(), status));
-    assert_eq!(ended(&["ring", "--all", "--from", "100000", "--to", "200000"]), (last, status));
+    let beyond = (format!("nothing is shown of event 100,000 and on: {last}"), status);
+    assert_eq!(ended(&["ring", "--from", "100000"]), beyond);
+    assert_eq!(ended(&["ring", "--all", "--from", "100000", "--to", "200000"]), beyond);
 }
 
 /// A clause over several lines, a query in a file with lines of its own: each goal has its own line.

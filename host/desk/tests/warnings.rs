@@ -80,6 +80,33 @@ fn many_warnings_of_long_rules_come_soon() {
     let rules: String = (0..2_000).map(|number| format!("p{} :- q{}.\n", number % 7, number % 1_000)).collect();
     let since = std::time::Instant::now();
     let found = warned("many", &rules, "true");
-    assert_eq!(found.len(), 2_000 + 2_000 - 7);
+    // one for each goal, one for each clause that stands apart, and one for each predicate, of which no walk gets to the last clause
+    assert_eq!(found.len(), 2_000 + (2_000 - 7) + 7);
     assert!(since.elapsed().as_secs() < 10);
+}
+
+/// A long list of facts: the clause named is not called within 32,768 bytes, and the one before it is.
+#[test]
+fn clauses_that_no_walk_gets_to() {
+    for count in [57, 60, 80, 200, 600] {
+        let rules: String = (1..=count).map(|i| format!("lamp(m{i}, l{i}).\n")).collect();
+        let path = written(&format!("warnings/long{count}.pl"), &rules);
+        let told = desk(&["walk", &path, "lamp(A, B), fail", "--all", "--ports", "call"]);
+        let found = marked(&told.err);
+        assert_eq!(found.len(), 1, "{}", told.err);
+        let line = found[0].place.expect("a place").0;
+        assert!(found[0].words.contains(&format!("clause {line} of the {count} of lamp/2")), "{}", found[0].words);
+        let called = |clause: usize| told.out.contains(&format!("call clause {clause} of lamp/2 "));
+        assert_eq!((called(line - 1), called(line), told.status), (true, false, 3), "{count}: {line}");
+    }
+    let rules: String = (1..=55).map(|i| format!("lamp(m{i}, l{i}).\n")).collect();
+    assert_eq!(warned("short", &rules, "lamp(m55, L)").len(), 0);
+}
+
+/// Names that Prolog systems have built in are told from others.
+#[test]
+fn names_that_are_built_in_elsewhere() {
+    let found = warned("built_in", "free(B) :- bay(B), not(taken(B)), member(B, B), other(B).\nbay(a).\n", "free(B)");
+    assert_eq!(found.iter().map(|warning| warning.notes.len()).collect::<Vec<_>>(), [1, 1, 0]);
+    assert!(found[0].notes[0].contains("no negation") && found[1].notes[0].contains("not built in"), "{found:?}");
 }

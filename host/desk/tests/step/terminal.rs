@@ -89,8 +89,8 @@ fn the_terminal_shows_what_a_pipe_is_given() {
 fn a_larger_terminal() {
     let garage = garage("riverside", "light(Bay, light_a2)");
     let terminal = start(&garage, 100, 40, &[]);
-    terminal.type_line("goto 40");
-    let rows = terminal.wait("event 40", |shown| is_at(shown, 40) && is_ready(shown, 40));
+    terminal.type_line("goto 18");
+    let rows = terminal.wait("event 18", |shown| is_at(shown, 18) && is_ready(shown, 40));
     assert!(rows.iter().any(|row| row.chars().count() > 80), "{}", rows.join("\n"));
     assert!(rows.iter().all(|row| row.chars().count() <= 100));
 }

@@ -2,7 +2,7 @@
 
 use crate::source::{Source, Span};
 use crate::style::Style;
-use fourport::{Refusal, TextRefusal};
+use fourport::{Place, Refusal, TextRefusal};
 use std::fmt::Write;
 
 /// The most columns of a line that are shown, and how many of them stand before the mark at most.
@@ -53,15 +53,14 @@ impl Diagnostic {
         Diagnostic { level, extract: Some(Box::new(Extract::of(source, span))), ..Diagnostic::of_file(source.name(), words) }
     }
 
-    /// A text that the library refused.
+    /// A text that the library refused. Where a full stop seems to be missing, the mark stands where it would.
     pub fn refused(source: &Source, refused: &TextRefusal) -> Diagnostic {
-        let words = format!("{} (question {})", refused.words(), refused.refusal.number());
-        let found = match refused.place {
-            Some(place) => {
-                let span = Span { from: place.offset, to: place.offset + refused.length };
-                Diagnostic::at(Level::Error, source, span, words)
-            }
-            None => Diagnostic::of_file(source.name(), words),
+        let words = if refused.missing_stop.is_some() { "a full stop is missing here" } else { refused.words() };
+        let words = format!("{words} (question {})", refused.refusal.number());
+        let found = match (refused.missing_stop, refused.place) {
+            (Some(Place { offset, .. }), _) => Diagnostic::at(Level::Error, source, Span { from: offset, to: offset }, words),
+            (None, Some(Place { offset, .. })) => Diagnostic::at(Level::Error, source, Span { from: offset, to: offset + refused.length }, words),
+            (None, None) => Diagnostic::of_file(source.name(), words),
         };
         if refused.expected.is_empty() {
             found
@@ -109,7 +108,8 @@ impl Extract {
 
 /// Bytes as they are shown: what is no text becomes a question mark, so that marks stay in their column.
 fn printable(bytes: &[u8]) -> String {
-    let shown = |c: char| if c.is_control() && c != '\t' || c == char::REPLACEMENT_CHARACTER { '?' } else { c };
+    let unseen = |c: char| c.is_control() && c != '\t' || matches!(c, '\u{feff}' | '\u{200b}'..='\u{200f}' | char::REPLACEMENT_CHARACTER);
+    let shown = |c: char| if unseen(c) { '?' } else { c };
     String::from_utf8_lossy(bytes).chars().map(shown).collect()
 }
 

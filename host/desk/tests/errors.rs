@@ -46,12 +46,35 @@ fn tokens_at_which_no_clause_goes_on() {
     hold(&refused("two", b"p(a).\nq b.\n", "p(X)"), 21, 2, 3, "b");
     hold(&refused("tabs", b"p(a).\n\tq\tb\t.\n", "p(X)"), 21, 2, 4, "b");
     hold(&refused("returns", b"p(a).\r\n% so\r\nq b.\r\n", "p(X)"), 21, 3, 3, "b");
-    hold(&refused("stop", b"p(a)\nq(b).\n", "p(X)"), 21, 2, 1, "q(");
     hold(&refused("blank", b"p (a).\n", "p(X)"), 21, 1, 3, "(");
-    hold(&refused("comment", b"p(a) % . no stop\n% nor here .\n  q.\n", "p(X)"), 21, 3, 3, "q");
     hold(&refused("variable", b"X = a.\n", "p(X)"), 21, 1, 1, "X");
     let found = refused("expected", b"p(a) q.\n", "p(X)");
     assert!(found.notes.iter().any(|note| note.contains("expected") && note.contains("`:-`") && note.contains("`.`")), "{found:?}");
+}
+
+/// What is typed as in another Prolog: words that say what there is instead, at the place.
+#[test]
+fn what_other_prologs_have() {
+    let told = [
+        ("lamp(m1, l1)..\n", ".", "one full stop too many"),
+        ("/* a block */\n", "/*", "a comment goes from % to the end of the line"),
+        (":- dynamic taken/1.\n", "/", "there are no directives"),
+        (":- dynamic(taken).\n", ":-", "there are no directives"),
+        ("p :- (a -> b ; c).\n", ">", "there is no if-then-else"),
+        ("p :- a | b.\n", "|", "\"or\" is written `;`"),
+        ("p(A, B) :- A \\= B.\n", "\\=", "write facts of what differs"),
+        ("p :- \\+ q.\n", "\\+", "there is no negation"),
+        ("p(X) :- X is 3.\n", "is", "equality is `=`"),
+        ("p(X) :- X == l1.\n", "=", "equality is one `=`"),
+        ("Lamp(m1, l1).\n", "Lamp", "a predicate starts with a small letter"),
+        ("\u{feff}lamp(m1, l1).\n", "\u{feff}", "a byte order mark (U+FEFF)"),
+        ("lamp(m1,\u{a0}l1).\n", "\u{a0}", "a no-break space (U+00A0)"),
+        ("lamp(\u{201c}m1\u{201d}, l1).\n", "\u{201c}", "(U+201C)"),
+    ];
+    for (rules, under, words) in told {
+        let found = refused("other", rules.as_bytes(), "lamp(m1, L)");
+        assert_eq!((found.under.as_deref(), found.words.contains(words)), (Some(under), true), "{found:?}");
+    }
 }
 
 #[test]
@@ -59,12 +82,23 @@ fn texts_that_end_too_early() {
     let found = refused("ends", b"p(a).\nq(", "p(X)");
     hold(&found, 21, 2, 3, "");
     assert!(found.words.contains("ends"), "{found:?}");
-    hold(&refused("ends-behind", b"p(a).\nq(b)\n", "p(X)"), 21, 3, 1, "");
-    hold(&refused("ends-comment", b"p(a) % .", "p(X)"), 21, 1, 9, "");
     let found = refused("ends-query", b"p(a).\n", "p(X),");
     hold(&found, 21, 1, 6, "");
     assert_eq!(found.file, "query");
     hold(&refused("ends-empty", b"p(a).\n", ""), 21, 1, 1, "");
+}
+
+/// The mark stands where the full stop would, and not at the clause behind it.
+#[test]
+fn full_stops_that_are_missing() {
+    let found = refused("stop", b"p(a)\nq(b).\n", "p(X)");
+    hold(&found, 21, 1, 5, "");
+    assert_eq!((found.words.as_str(), found.line.as_deref()), ("a full stop is missing here (question 21)", Some("p(a)")));
+    hold(&refused("comment", b"p(a) % . no stop\n% nor here .\n  q.\n", "p(X)"), 21, 1, 5, " ");
+    hold(&refused("ends-behind", b"p(a).\nq(b)\n", "p(X)"), 21, 2, 5, "");
+    hold(&refused("ends-comment", b"p(a) % .", "p(X)"), 21, 1, 5, " ");
+    // a goal more, for which a comma is missing
+    hold(&refused("comma", b"p(a) :- q\n  r.\n", "p(X)"), 21, 2, 3, "r");
 }
 
 #[test]
@@ -135,8 +169,12 @@ fn hold_whole(found: &Marked, question: u32) {
 #[test]
 fn texts_and_records_that_are_too_long() {
     let filled = |bytes: usize| [b"p(a).".to_vec(), b"\n".repeat(bytes - 5)].concat();
-    hold_whole(&refused("bytes", &filled(65_536), "p(X)"), 22);
-    hold_whole(&refused("bytes-together", &filled(65_532), "p(X)"), 22);
+    let found = refused("bytes", &filled(100_017), "p(X)");
+    hold_whole(&found, 22);
+    assert!(found.file.ends_with("bytes.pl") && found.words.starts_with("100,017 bytes are too many"), "{found:?}");
+    let found = refused("bytes-together", &filled(65_532), "p(X)");
+    hold_whole(&found, 22);
+    assert!(found.file == "query" && found.words.contains("65,536 bytes together"), "{found:?}");
     let told = desk(&["answers", &written("errors/bytes-enough.pl", filled(65_531)), "p(X)"]);
     assert_eq!((told.status, told.out.starts_with("X = a\n")), (0, true));
     let comments = [b"% ".to_vec(), b"c".repeat(65_529)].concat();

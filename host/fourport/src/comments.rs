@@ -6,9 +6,9 @@
 /// ```
 /// use fourport::{without_comments, Clauses};
 /// let rules = "taken(bay1). % since May\nlight(Bay, red) :- taken Bay.";
-/// assert_eq!(Clauses::from_text(rules).unwrap_err().words(), "`%` stands in no text: there are no comments");
+/// assert_eq!(Clauses::from_text(rules).unwrap_err().words(), "`%` cannot be used here: comments are blanked before a text is read");
 /// let refused = Clauses::from_text(without_comments(rules.as_bytes())).unwrap_err();
-/// assert_eq!(refused.to_string(), "the rules, line 2, column 26: no clause can go on with `Bay` (question 21)");
+/// assert_eq!(refused.to_string(), "the rules, line 2, column 26: unexpected `Bay` (question 21)");
 /// ```
 pub fn without_comments(text: &[u8]) -> Vec<u8> {
     let mut within = false;

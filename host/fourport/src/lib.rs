@@ -80,6 +80,7 @@ mod definition;
 mod event;
 mod goal_value;
 mod listed;
+mod misplaced;
 mod names;
 mod printer;
 mod program;
@@ -89,6 +90,7 @@ mod record;
 mod refusal;
 mod scanner;
 mod shown;
+mod signs;
 mod stacks;
 mod stop;
 #[allow(unsafe_code)]

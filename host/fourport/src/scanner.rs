@@ -25,7 +25,7 @@ pub enum Over {
 
 /// What may follow.
 #[derive(Clone, Copy, Debug, PartialEq, Eq)]
-enum Next {
+pub enum Next {
     Clause,
     /// behind a head
     Headed,
@@ -73,7 +73,7 @@ impl Scanner {
             (Next::Left | Next::Bare, TokenKind::Equals) => Next::Right,
             (Next::Left | Next::Done, TokenKind::Comma | TokenKind::Semicolon) => Next::Goal,
             (Next::Left | Next::Done, TokenKind::Close) if self.brackets > 0 => self.unbracketed(),
-            (Next::Left | Next::Done, TokenKind::Stop) if self.brackets == 0 && self.whole == Whole::Clauses => Next::Clause,
+            (Next::Left | Next::Done, TokenKind::Stop) if self.stops() => Next::Clause,
             (Next::Right, TokenKind::Name | TokenKind::Constant | TokenKind::Number | TokenKind::Variable) => Next::Done,
             (Next::Right, TokenKind::Functor) => self.opened(Next::Done),
             (Next::Argument, TokenKind::Name | TokenKind::Constant | TokenKind::Number | TokenKind::Variable) => Next::Argued,
@@ -114,6 +114,15 @@ impl Scanner {
     fn unbracketed(&mut self) -> Next {
         self.brackets -= 1;
         Next::Done
+    }
+
+    /// May a full stop end a clause here?
+    fn stops(&self) -> bool {
+        match self.next {
+            Next::Headed => true,
+            Next::Left | Next::Done => self.brackets == 0 && self.whole == Whole::Clauses,
+            _ => false,
+        }
     }
 
     /// May the text end here?
@@ -163,24 +172,35 @@ pub fn wrong_byte(text: &[u8]) -> Option<usize> {
 pub struct Wrong<'t> {
     /// the token there; nothing at the text's end
     pub token: Option<Token<'t>>,
-    /// the kind of the token before it
-    pub behind: Option<TokenKind>,
+    /// the token before it
+    pub behind: Option<Token<'t>>,
+    /// where the clause that is open there starts
+    pub clause: usize,
+    /// what may follow
+    pub next: Next,
     /// may the text end before it?
     pub ended: bool,
+    /// may a full stop end a clause before it?
+    pub stops: bool,
     /// what may stand there, in words
     pub expected: String,
 }
 
 /// The first token with which the text cannot go on, or its end.
 pub fn wrong_place(text: &[u8], whole: Whole) -> Option<Wrong<'_>> {
-    let (mut scanner, mut behind) = (Scanner::new(whole), None);
+    let (mut scanner, mut behind, mut clause) = (Scanner::new(whole), None, 0);
+    let wrong = |scanner: &Scanner, token, behind, clause| {
+        let (ended, stops, expected) = (scanner.ends(), scanner.stops(), scanner.expected());
+        Wrong { token, behind, clause, next: scanner.next, ended, stops, expected }
+    };
     for token in tokens(text) {
+        clause = if scanner.next == Next::Clause { token.at } else { clause };
         if !scanner.takes(token.kind) {
-            return Some(Wrong { token: Some(token), behind, ended: scanner.ends(), expected: scanner.expected() });
+            return Some(wrong(&scanner, Some(token), behind, clause));
         }
-        behind = Some(token.kind);
+        behind = Some(token);
     }
-    (!scanner.ends()).then(|| Wrong { token: None, behind, ended: false, expected: scanner.expected() })
+    (!scanner.ends()).then(|| wrong(&scanner, None, behind, clause))
 }
 
 /// The first argument or variable that is too much, in a text of the grammar.

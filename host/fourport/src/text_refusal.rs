@@ -1,14 +1,11 @@
 //! Refusals of a text in words, with their place.
 
 use crate::scanner::{self, Over, Whole, Wrong};
-use crate::{Refusal, Token, TokenKind};
+use crate::{misplaced, signs, Refusal, Token, TEXT_LIMIT};
 use std::fmt;
 
-/// The most bytes of a token that a refusal shows.
-const MOST_SHOWN: usize = 40;
-
-/// The most bytes of a letter.
-const MOST_LETTER: usize = 4;
+/// The digits between two commas of a number.
+const GROUP: usize = 3;
 
 /// Which of the lent texts a refusal is about.
 #[derive(Clone, Copy, Debug, PartialEq, Eq, Hash)]
@@ -41,7 +38,7 @@ pub struct Place {
 /// let refused = Clauses::from_text("red(bay1).\nred bay2.").unwrap_err();
 /// assert_eq!(refused.refusal, Refusal::Text);
 /// assert_eq!(refused.place, Some(Place { offset: 15, line: 2, column: 5 }));
-/// assert_eq!(refused.to_string(), "the rules, line 2, column 5: no clause can go on with `bay2` (question 21)");
+/// assert_eq!(refused.to_string(), "the rules, line 2, column 5: unexpected `bay2` (question 21)");
 /// assert_eq!((refused.length, &refused.expected[..]), (4, "`:-` or `.`"));
 /// ```
 #[derive(Clone, Debug, PartialEq, Eq, Hash)]
@@ -52,23 +49,36 @@ pub struct TextRefusal {
     pub text: WhichText,
     /// where in the text
     pub place: Option<Place>,
-    /// how many bytes stand there that are refused: those of the token or letter; 0 at the text's end, and where there is no place
+    /// how many bytes stand there that are refused: those of the token, letter or sign; 0 at the text's end, and where there is no place
     pub length: usize,
     /// what could stand there instead, in words; empty for other questions than 21
     pub expected: String,
-    words: String,
+    /// where a full stop would stand, if the clause before the place seems to lack it: behind its last token
+    ///
+    /// ```
+    /// # use fourport::{Clauses, Place};
+    /// let refused = Clauses::from_text("red(bay1)\nred(bay2).").unwrap_err();
+    /// assert_eq!(refused.place, Some(Place { offset: 10, line: 2, column: 1 }));
+    /// assert_eq!(refused.missing_stop, Some(Place { offset: 9, line: 1, column: 10 }));
+    /// ```
+    pub missing_stop: Option<Place>,
+    words: Box<Words>,
 }
+
+/// Words behind a pointer, since a large error makes every result large.
+#[derive(Clone, Debug, PartialEq, Eq, Hash)]
+struct Words(String);
 
 impl TextRefusal {
     /// What is refused, without question and place.
     ///
     /// ```
     /// # use fourport::{Clauses, Query};
-    /// assert_eq!(Clauses::from_text("light(bay1, red) :- !.").unwrap_err().words(), "`!` stands in no text: there is no cut");
+    /// assert_eq!(Clauses::from_text("light(bay1, red) :- !.").unwrap_err().words(), "`!` cannot be used here: there is no cut");
     /// assert_eq!(Query::from_text("", "light(bay1, Light).").unwrap_err().words(), "a query has no full stop");
     /// ```
     pub fn words(&self) -> &str {
-        &self.words
+        &self.words.0
     }
 }
 
@@ -94,7 +104,7 @@ impl fmt::Display for TextRefusal {
         if let Some(Place { line, column, .. }) = self.place {
             write!(f, ", line {line}, column {column}")?;
         }
-        write!(f, ": {} (question {})", self.words, self.refusal.number())
+        write!(f, ": {} (question {})", self.words(), self.refusal.number())
     }
 }
 
@@ -113,11 +123,12 @@ struct Found {
     length: usize,
     words: String,
     expected: String,
+    missing_stop: Option<usize>,
 }
 
 impl Found {
-    fn token(token: Token<'_>, words: String) -> Found {
-        Found { at: token.at, length: token.bytes.len(), words, expected: String::new() }
+    fn at(at: usize, length: usize, words: String) -> Found {
+        Found { at, length, words, expected: String::new(), missing_stop: None }
     }
 }
 
@@ -134,99 +145,66 @@ impl Lent<'_> {
         match refusal {
             Refusal::Byte => scanner::wrong_byte(self.text).map(|at| self.no_byte(at)),
             Refusal::Text => scanner::wrong_place(self.text, self.whole()).map(|wrong| self.no_token(wrong)),
-            Refusal::Grammar(_) => scanner::too_much(self.text, self.whole()).map(|(token, over)| Found::token(token, over_words(over).into())),
+            Refusal::Grammar(_) => scanner::too_much(self.text, self.whole()).map(|(token, over)| no_more(token, over)),
             _ => None,
         }
     }
 
     fn no_byte(self, at: usize) -> Found {
-        let letter = letter(self.text.get(at..).unwrap_or_default());
-        let (shown, length) = letter.map_or_else(|| (self.byte(at), 1), |letter| (format!("`{letter}`"), letter.len_utf8()));
-        let hint = letter.and_then(missing).map_or_else(String::new, |missing| format!(": {missing}"));
-        Found { at, length, words: format!("{shown} stands in no text{hint}"), expected: String::new() }
-    }
-
-    fn byte(self, at: usize) -> String {
-        format!("byte {}", self.text.get(at).copied().unwrap_or_default())
+        let (words, length) = signs::refused_byte(self.text, at, self.which);
+        Found::at(at, length, words)
     }
 
     fn no_token(self, wrong: Wrong<'_>) -> Found {
-        let what = if self.which == WhichText::Rules { "clause" } else { "goal" };
-        let expected = wrong.expected;
-        let Some(token) = wrong.token else {
-            return Found { at: self.text.len(), length: 0, words: format!("the text ends within a {what}"), expected };
-        };
-        let words = match (token.kind, wrong.behind) {
-            (TokenKind::Stop, _) if wrong.ended => "a query has no full stop".into(),
-            (TokenKind::Open, Some(TokenKind::Name | TokenKind::Constant)) => {
-                format!("no {what} can go on with `(`: between a name and its `(` there is no blank")
-            }
-            _ => format!("no {what} can go on with `{}`", front(token.bytes)),
-        };
-        Found { expected, ..Found::token(token, words) }
+        let missing_stop = misplaced::missing_stop(self.text, &wrong);
+        let words = misplaced::words(&wrong, self.which, missing_stop.is_some());
+        let (at, length) = wrong.token.map_or((self.text.len(), 0), |token| (token.at, token.bytes.len()));
+        Found { expected: wrong.expected, missing_stop, ..Found::at(at, length, words) }
     }
 
-    fn refused(self, refusal: Refusal, Found { at, length, words, expected }: Found) -> TextRefusal {
-        TextRefusal { refusal, text: self.which, place: Some(Place::of(self.text, at)), length, expected, words }
+    fn refused(self, refusal: Refusal, Found { at, length, words, expected, missing_stop }: Found) -> TextRefusal {
+        let place = |offset| Place::of(self.text, offset);
+        let words = Box::new(Words(words));
+        TextRefusal { refusal, text: self.which, place: Some(place(at)), length, expected, missing_stop: missing_stop.map(place), words }
     }
 }
 
-/// The letter or sign at the front, where there is one that can be shown.
-fn letter(bytes: &[u8]) -> Option<char> {
-    let front = bytes.get(..MOST_LETTER).unwrap_or(bytes);
-    let valid = match std::str::from_utf8(front) {
-        Ok(text) => text,
-        Err(error) => std::str::from_utf8(front.get(..error.valid_up_to())?).ok()?,
-    };
-    valid.chars().next().filter(|letter| !letter.is_control())
-}
-
-/// What a text would have if the sign could stand in it, as far as people look for it.
-fn missing(sign: char) -> Option<&'static str> {
-    Some(match sign {
-        '%' => "there are no comments",
-        '\'' | '"' => "there are no quoted names",
-        '[' | ']' | '|' => "there are no lists",
-        '!' => "there is no cut",
-        '\\' => "there is no negation",
-        '<' | '>' | '+' | '*' | '/' => "there is no arithmetic",
-        letter if letter.is_alphabetic() => "names have the letters a to z and A to Z",
-        _ => return None,
-    })
-}
-
-/// A token, or its front where it is long.
-fn front(token: &[u8]) -> String {
-    let shown = String::from_utf8_lossy(token.get(..MOST_SHOWN).unwrap_or(token));
-    if token.len() > MOST_SHOWN {
-        format!("{shown}..")
-    } else {
-        shown.into_owned()
-    }
-}
-
-fn over_words(over: Over) -> &'static str {
-    match over {
+fn no_more(token: Token<'_>, over: Over) -> Found {
+    let words = match over {
         Over::Arguments => "this is a 17th argument",
         Over::Variables => "this is a 65th variable",
-    }
+    };
+    Found::at(token.at, token.bytes.len(), words.into())
 }
 
 /// The refusal of the first of the texts that the question says no to. Questions about the record made of them are about the last text alone.
 pub fn refused(refusal: Refusal, texts: &[Lent<'_>]) -> TextRefusal {
     let asked = if matches!(refusal, Refusal::Byte | Refusal::Text) { texts } else { texts.last().map_or(&[][..], std::slice::from_ref) };
     let found = asked.iter().find_map(|text| Some(text.refused(refusal, text.found(refusal)?)));
-    let which = texts.last().map_or(WhichText::Rules, |text| text.which);
-    let words = whole_words(refusal, which).into();
-    found.unwrap_or_else(|| TextRefusal { refusal, text: which, place: None, length: 0, expected: String::new(), words })
+    found.unwrap_or_else(|| {
+        let (text, words) = whole(refusal, texts);
+        TextRefusal { refusal, text, place: None, length: 0, expected: String::new(), missing_stop: None, words: Box::new(Words(words)) }
+    })
 }
 
-/// What a question says that is about the whole.
-fn whole_words(refusal: Refusal, which: WhichText) -> &'static str {
-    match (refusal, which) {
-        (Refusal::Fit, _) => "the record has over 32,768 bytes",
-        (Refusal::Length, WhichText::Rules) => "a text has at most 65,535 bytes",
-        (Refusal::Length, WhichText::Query) => "rules and query have at most 65,535 bytes together",
-        (other, _) => other.question(),
+/// What a question says that is about the whole, and of which text: of the rules alone where they are too long without the query.
+fn whole(refusal: Refusal, texts: &[Lent<'_>]) -> (WhichText, String) {
+    let last = texts.last().map_or(WhichText::Rules, |text| text.which);
+    let bytes = |texts: &[Lent<'_>]| texts.iter().map(|lent| lent.text.len()).sum::<usize>();
+    let (alone, together, most) = (bytes(texts.get(..1).unwrap_or_default()), bytes(texts), grouped(TEXT_LIMIT));
+    match refusal {
+        Refusal::Fit => (last, "the record has over 32,768 bytes".into()),
+        Refusal::Length if alone > TEXT_LIMIT => {
+            (WhichText::Rules, format!("{} bytes are too many: rules and query have at most {most} together", grouped(alone)))
+        }
+        Refusal::Length => (last, format!("rules and query have {} bytes together, and may have {most}", grouped(together))),
+        other => (last, other.question().into()),
     }
+}
+
+/// A number with commas between its thousands.
+fn grouped(number: usize) -> String {
+    let digits = number.to_string();
+    let comma = |place: usize| if place > 0 && (digits.len() - place) % GROUP == 0 { "," } else { "" };
+    digits.chars().enumerate().map(|(place, digit)| format!("{}{digit}", comma(place))).collect()
 }

@@ -70,47 +70,153 @@ fn query(text: &str, words: &str, length: usize, expected: &str) {
 
 #[test]
 fn words_for_wrong_places() {
-    rules("red bay2.", "no clause can go on with `bay2`", 4, "`:-` or `.`");
-    rules("red(bay2) green.", "no clause can go on with `green`", 5, "`:-` or `.`");
-    rules("red(a) :- b c.", "no clause can go on with `c`", 1, "`=`, `,`, `;` or `.`");
-    rules("red(a) :- (X = b c).", "no clause can go on with `c`", 1, "`,`, `;` or `)`");
-    rules("red(a) :- (b.", "no clause can go on with `.`", 1, "`=`, `,`, `;` or `)`");
-    rules("red(a) :- .", "no clause can go on with `.`", 1, "a goal");
-    rules("red(a) :- X.", "no clause can go on with `.`", 1, "`=`");
-    rules("red(a b).", "no clause can go on with `b`", 1, "`,` or `)`");
-    rules("red(a,).", "no clause can go on with `)`", 1, "a term");
-    rules("Red(a).", "no clause can go on with `Red`", 3, "the head of a clause");
-    rules("red (a).", "no clause can go on with `(`: between a name and its `(` there is no blank", 1, "`:-` or `.`");
-    rules("red(a)", "the text ends within a clause", 0, "`:-` or `.`");
+    rules("red bay2.", "unexpected `bay2`", 4, "`:-` or `.`");
+    rules("red(bay2) green.", "unexpected `green`", 5, "`:-` or `.`");
+    rules("red(a) :- b c.", "unexpected `c`", 1, "`=`, `,`, `;` or `.`");
+    rules("red(a) :- (X = b c).", "unexpected `c`", 1, "`,`, `;` or `)`");
+    rules("red(a) :- (b.", "unexpected `.`", 1, "`=`, `,`, `;` or `)`");
+    rules("red(a) :- .", "unexpected `.`", 1, "a goal");
+    rules("red(a) :- X.", "unexpected `.`", 1, "`=`");
+    rules("red(a b).", "unexpected `b`", 1, "`,` or `)`");
+    rules("red(a,).", "unexpected `)`", 1, "a term");
+    rules("red (a).", "unexpected `(`: between a name and its `(` there is no blank", 1, "`:-` or `.`");
+    rules("red(a) :-", "the text ends within a clause", 0, "a goal");
+    rules("red(a)", "the text ends within a clause: its full stop is missing", 0, "`:-` or `.`");
     query("red(X).", "a query has no full stop", 1, "`=`, `,`, `;` or the query's end");
     query("X = a . ", "a query has no full stop", 1, "`,`, `;` or the query's end");
-    query("(red(X).", "no goal can go on with `.`", 1, "`=`, `,`, `;` or `)`");
+    query("(red(X).", "unexpected `.`", 1, "`=`, `,`, `;` or `)`");
     query("red(X", "the text ends within a goal", 0, "`,` or `)`");
-    query("", "the text ends within a goal", 0, "a goal");
+    query(" \n", "the query has no goal", 0, "a goal");
+}
+
+/// What people type who know another Prolog.
+#[test]
+fn words_for_what_is_not_there() {
+    let head = "the head of a clause";
+    rules("red(a)..", "one full stop too many", 1, head);
+    rules(". red(a).", "one full stop too many", 1, head);
+    rules(":- dynamic(red).", "unexpected `:-`: there are no directives", 2, head);
+    rules("red(a).\n:- red(b).", "unexpected `:-`: there are no directives", 2, head);
+    query(":- red(a)", "unexpected `:-`", 2, "a goal");
+    rules("Red(a).", "unexpected `Red`: a predicate starts with a small letter", 3, head);
+    rules("_red(a) :- b.", "unexpected `_red`: a predicate starts with a small letter", 4, head);
+    query("Red(a)", "unexpected `(`: a name with arguments starts with a small letter", 1, "`=`");
+    rules("red(Bay(a)).", "unexpected `(`: a name with arguments starts with a small letter", 1, "`,` or `)`");
+    query("X is 3", "unexpected `is`: there is no arithmetic; equality is `=`", 2, "`=`");
+    query("3 is X", "unexpected `is`: there is no arithmetic; equality is `=`", 2, "`=`");
+    query("red is", "unexpected `is`", 2, "`=`, `,`, `;` or the query's end");
+    query("X == a", "unexpected `=`: equality is one `=`", 1, "a term");
+    query("X =:= a", "unexpected `:`: there is no arithmetic; equality is `=`", 1, "a term");
+    rules("red(bay-7).", "unexpected `-`: names have letters, digits and _, and there is no arithmetic", 1, "`,` or `)`");
+    rules("7a(b).", "unexpected `7a`: a name starts with a small letter", 2, head);
 }
 
 #[test]
 fn words_for_wrong_signs() {
+    let differ = "there is no inequality; write facts of what differs, such as differ(red, green)";
     let signs = [
-        ("p. % red", "`%` stands in no text: there are no comments"),
-        ("p('Red').", "`'` stands in no text: there are no quoted names"),
-        ("p(\"red\").", "`\"` stands in no text: there are no quoted names"),
-        ("p([a, b]).", "`[` stands in no text: there are no lists"),
-        ("p(a|b).", "`|` stands in no text: there are no lists"),
-        ("p :- !.", "`!` stands in no text: there is no cut"),
-        ("p :- \\+ q.", "`\\` stands in no text: there is no negation"),
-        ("p(X) :- X < 3.", "`<` stands in no text: there is no arithmetic"),
-        ("p(X) :- X > 3.", "`>` stands in no text: there is no arithmetic"),
-        ("p :- X is 1 + 2.", "`+` stands in no text: there is no arithmetic"),
-        ("p(#).", "`#` stands in no text"),
+        ("p. % red", "%", "comments are blanked before a text is read"),
+        ("p. /* red */", "/*", "a comment goes from % to the end of the line"),
+        ("p./* red */", "/*", "a comment goes from % to the end of the line"),
+        ("p('Red').", "'", "there are no quoted names"),
+        ("p(\"red\").", "\"", "there are no quoted names"),
+        ("p([a, b]).", "[", "there are no lists"),
+        ("p :- a | b.", "|", "\"or\" is written `;`"),
+        ("p :- !.", "!", "there is no cut"),
+        ("p :- \\+ q.", "\\+", "there is no negation"),
+        ("p:-\\+q.", "\\+", "there is no negation"),
+        ("p(A, B) :- A \\= B.", "\\=", differ),
+        ("p(A, B) :- A \\== B.", "\\==", differ),
+        ("p(X) :- X < 3.", "<", "there is no arithmetic"),
+        ("p(X) :- X>=3.", ">=", "there is no arithmetic"),
+        ("p :- X is 1 + 2.", "+", "there is no arithmetic"),
+        ("p(taken/1).", "/", "there are no operators but `,` `;` `=` `:-`"),
+        ("p. :- dynamic taken/1.", "/", "there are no directives"),
+        (":- [p].", "[", "there are no directives"),
+        (":- p. /* red */", "/*", "a comment goes from % to the end of the line"),
+        (":- p. p(a/b).", "/", "there are no operators but `,` `;` `=` `:-`"),
+        ("?- p.", "?-", "there are no directives"),
     ];
-    signs.iter().for_each(|(text, words)| rules(text, words, 1, ""));
-    rules("entr\u{e9}e.", "`\u{e9}` stands in no text: names have the letters a to z and A to Z", 2, "");
-    rules("p(\u{20ac}).", "`\u{20ac}` stands in no text", 3, "");
-    rules("p\u{a0}.", "`\u{a0}` stands in no text", 2, "");
-    // a byte that is no letter by itself, at the end too, and one that cannot be shown
-    for (text, byte) in [(&b"p(\xe9)."[..], 0xe9), (b"p(\xf0\x9f\x98", 0xf0), (b"p.\x07", 7), (b"p.\x80", 0x80)] {
-        assert_eq!(told(WhichText::Rules, text), (format!("byte {byte} stands in no text"), 1, String::new()));
+    signs.iter().for_each(|(text, sign, hint)| rules(text, &format!("`{sign}` cannot be used here: {hint}"), sign.len(), ""));
+    rules("p(#).", "`#` cannot be used here", 1, "");
+    query("?- p", "`?-` cannot be used here: a query is a goal alone", 2, "");
+}
+
+/// The place of an operator is its first byte that no text holds, and the words have all of it.
+#[test]
+fn words_for_operators_that_start_as_a_text_may() {
+    rules("p :- (a -> b ; c).", "`->` cannot be used here: there is no if-then-else", 1, "");
+    rules("p --> q.", "`-->` cannot be used here: there are no grammar rules", 1, "");
+    rules("p(X) :- X =< 3.", "`=<` cannot be used here: there is no arithmetic", 1, "");
+    rules("p :->q.", "`>` cannot be used here: there is no arithmetic", 1, "");
+    let refusal = refused(WhichText::Rules, b"p :- (a -> b ; c).").expect("a refusal");
+    assert_eq!(refusal.place.map(|place| place.offset), Some(9));
+}
+
+#[test]
+fn words_for_wrong_letters() {
+    let names = ": names have the letters a to z and A to Z, digits and _";
+    let letters = [
+        ("\u{e9}", "`\u{e9}` (U+00E9)", names),
+        ("\u{301}", "an accent (U+0301)", names),
+        ("\u{20ac}", "`\u{20ac}` (U+20AC)", ""),
+        ("\u{201c}", "`\u{201c}` (U+201C)", ": there are no quoted names"),
+        ("\u{2019}", "`\u{2019}` (U+2019)", ": there are no quoted names"),
+        ("\u{2013}", "`\u{2013}` (U+2013)", ": the second sign of `:-` is a hyphen"),
+        ("\u{feff}", "a byte order mark (U+FEFF)", ": save the text as UTF-8 without it"),
+        ("\u{a0}", "a no-break space (U+00A0)", ": write a space"),
+        ("\u{2003}", "a blank (U+2003)", ": write a space"),
+        ("\u{200b}", "an invisible letter (U+200B)", ""),
+        ("\u{e0041}", "an invisible letter (U+E0041)", ""),
+        ("\u{ad}", "a soft hyphen (U+00AD)", ""),
+        ("\u{7}", "a control character (U+0007)", ""),
+        ("\u{0}", "a control character (U+0000)", ""),
+        ("\u{9b}", "a control character (U+009B)", ""),
+    ];
+    for (letter, shown, hint) in letters {
+        let words = format!("{shown} cannot be used here{hint}");
+        [format!("p{letter}."), format!("{letter}p."), format!("p.{letter}")].iter().for_each(|text| rules(text, &words, letter.len(), ""));
+    }
+    // a byte that is no letter by itself, at the end too
+    for (text, byte) in [(&b"p(\xe9)."[..], 0xe9), (b"p(\xf0\x9f\x98", 0xf0), (b"p.\x80", 0x80), (b"p\xff\xfe", 0xff)] {
+        assert_eq!(told(WhichText::Rules, text), (format!("byte {byte} cannot be used here"), 1, String::new()));
+    }
+    assert_eq!(told(WhichText::Rules, b"\xff\xfep\0.\0").0, "byte 255 cannot be used here: save the text as UTF-8");
+}
+
+/// Clauses of which each has a line of its own, or more than one.
+const CLAUSES: [&str; 7] = ["p(a).", "  r.", "p(X) :- q(X).", "q(b) :-\n  p(a),\n  (r ; X = f(X)).", "r :- true.  ", "p :- X = s.\n\n", "s."];
+
+/// Where the full stop of one clause is taken away, the place of it is told, and with it there the text is read.
+#[test]
+fn full_stops_that_are_missing() {
+    let whole = CLAUSES.join("\n");
+    let stops: Vec<usize> = whole.bytes().enumerate().filter(|(_, byte)| *byte == b'.').map(|(at, _)| at).collect();
+    for &stop in &stops {
+        for end in ["\n", "\r\n", " \n \n"] {
+            let text = [&whole[..stop], &whole[stop + 1..].replacen('\n', end, 1)].concat();
+            let refusal = refused(WhichText::Rules, text.as_bytes()).unwrap_or_else(|| panic!("{text}"));
+            assert_eq!(refusal.missing_stop.map(|place| place.offset), Some(stop), "{text}: {refusal}");
+            assert!(
+                refusal.place.is_some_and(|place| place.offset > stop || text.len() == stop) && refusal.words().contains("full stop"),
+                "{refusal}"
+            );
+            assert_eq!(refused(WhichText::Rules, [&text[..stop], ".", &text[stop..]].concat().as_bytes()), None);
+        }
+    }
+    assert_eq!(stops.len(), CLAUSES.len());
+    let refusal = refused(WhichText::Rules, b"p(a)\np(b).").expect("a refusal");
+    assert_eq!(refusal.words(), "unexpected `p(`: the clause before it has no full stop");
+}
+
+/// Something else is missing: on the same line, behind what is no end of a clause, before what starts none, before a goal more; and a query has none.
+#[test]
+fn no_full_stop_is_missing() {
+    for text in ["p q.", "p(\nq.", "p :-", "p :- X\nq.", "p :- (q\nr.", "p\n).", "p :- q\n= r = s.", "p :- q\n  r.", "p..", "p(a)\n."] {
+        assert_eq!(refused(WhichText::Rules, text.as_bytes()).and_then(|refusal| refusal.missing_stop), None, "{text}");
+    }
+    for text in ["p\nq", "p\nq.", "p.", "(p", ""] {
+        assert_eq!(refused(WhichText::Query, text.as_bytes()).and_then(|refusal| refusal.missing_stop), None, "{text}");
     }
 }
 

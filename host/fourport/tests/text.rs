@@ -100,17 +100,17 @@ fn words(refused: Result<(Clauses, Names), TextRefusal>) -> String {
 fn refusals_in_words() {
     assert_eq!(
         words(Clauses::from_text("p(\"a\").")),
-        "the rules, line 1, column 3: `\"` stands in no text: there are no quoted names (question 20)"
+        "the rules, line 1, column 3: `\"` cannot be used here: there are no quoted names (question 20)"
     );
-    assert_eq!(words(Clauses::from_text(b"p.\x00")), "the rules, line 1, column 3: byte 0 stands in no text (question 20)");
+    assert_eq!(words(Clauses::from_text(b"p.\x80")), "the rules, line 1, column 3: byte 128 cannot be used here (question 20)");
     assert_eq!(words(Clauses::from_text("p :- ")), "the rules, line 1, column 6: the text ends within a clause (question 21)");
-    assert_eq!(words(Clauses::from_text(" ".repeat(65_536))), "the rules: a text has at most 65,535 bytes (question 22)");
+    assert_eq!(
+        words(Clauses::from_text(" ".repeat(65_536))),
+        "the rules: 65,536 bytes are too many: rules and query have at most 65,535 together (question 22)"
+    );
     assert_eq!(words(Clauses::from_text("a.".repeat(7_000))), "the rules: the record has over 32,768 bytes (question 10)");
     let long = format!("a {}.", "b".repeat(100));
-    assert_eq!(
-        words(Clauses::from_text(&long)),
-        format!("the rules, line 1, column 3: no clause can go on with `{}..` (question 21)", "b".repeat(40))
-    );
+    assert_eq!(words(Clauses::from_text(&long)), format!("the rules, line 1, column 3: unexpected `{}..` (question 21)", "b".repeat(40)));
     let many = format!("p({}a).", "a,".repeat(16));
     assert_eq!(words(Clauses::from_text(&many)), "the rules, line 1, column 35: this is a 17th argument (question 3)");
 }
@@ -128,8 +128,11 @@ fn refusals_of_queries() {
     assert_eq!(told("p.", "(a"), (Refusal::Text, WhichText::Query, Some(2)));
     assert_eq!(told("", &" ".repeat(65_535).replace("  ", "a,").replace(", ", ",a")), (Refusal::Fit, WhichText::Query, None));
     assert_eq!(told("p.", &format!("a{}", " ".repeat(65_533))), (Refusal::Length, WhichText::Query, None));
-    let long = refused(&format!("p.{}", " ".repeat(65_533)), "a");
-    assert_eq!(long.to_string(), "the query: rules and query have at most 65,535 bytes together (question 22)");
+    // the rules are too long by themselves, or by a byte of the query
+    let long = |bytes: usize| refused(&format!("p.{}", " ".repeat(bytes - 2)), "a").to_string();
+    assert_eq!(long(65_535), "the query: rules and query have 65,536 bytes together, and may have 65,535 (question 22)");
+    assert_eq!(long(65_536), "the rules: 65,536 bytes are too many: rules and query have at most 65,535 together (question 22)");
+    assert_eq!(long(1_000_000), "the rules: 1,000,000 bytes are too many: rules and query have at most 65,535 together (question 22)");
     // the rules' own arities are not asked here
     let wide = format!("q({}a)", "a,".repeat(16));
     assert_eq!(told(&format!("{wide}."), &wide), (Refusal::Grammar(fourport::Which::Program), WhichText::Query, Some(34)));

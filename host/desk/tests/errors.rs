@@ -67,7 +67,7 @@ fn what_other_prologs_have() {
         ("p(X) :- X is 3.\n", "is", "equality is `=`"),
         ("p(X) :- X == l1.\n", "=", "equality is one `=`"),
         ("Lamp(m1, l1).\n", "Lamp", "a predicate starts with a small letter"),
-        ("\u{feff}lamp(m1, l1).\n", "\u{feff}", "a byte order mark (U+FEFF)"),
+        ("\u{feff}lamp(m1, l1).\n", "?", "a byte order mark (U+FEFF)"),
         ("lamp(m1,\u{a0}l1).\n", "\u{a0}", "a no-break space (U+00A0)"),
         ("lamp(\u{201c}m1\u{201d}, l1).\n", "\u{201c}", "(U+201C)"),
     ];

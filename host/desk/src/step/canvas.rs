@@ -1,8 +1,7 @@
-//! The terminal's screen: held while the program has it, drawn row by row, and watched for Ctrl-C while a move is under way.
+//! The terminal's screen: held while the program has it, drawn row by row, and asked for Ctrl-C.
 
-use super::fit::{cut, plain};
+use super::fit::{plain, wrapped_within};
 use super::screen::{Line, Look, Size};
-use crate::status::grouped;
 use crate::style::Style;
 use crossterm::cursor::MoveTo;
 use crossterm::event::{self, Event, KeyCode, KeyModifiers};
@@ -10,14 +9,14 @@ use crossterm::style::Print;
 use crossterm::terminal::{self, Clear, ClearType, EnterAlternateScreen, LeaveAlternateScreen};
 use crossterm::{execute, queue};
 use std::io::{self, stdout, Write};
-use std::time::{Duration, Instant};
+use std::time::Duration;
 
 /// The size where the terminal does not tell.
 const USUAL: (u16, u16) = (80, 24);
 /// The rows below the screen: a message, and the line that one types.
 pub const BELOW: usize = 2;
-/// A move that takes longer tells how far it is, and listens for Ctrl-C. What is typed before waits for the prompt.
-const PATIENCE: Duration = Duration::from_millis(500);
+/// The most rows of a message, where those above its own one are empty.
+const MESSAGE_ROWS: usize = 3;
 
 /// The screen as long as this lives; afterwards the terminal is as it was.
 #[derive(Debug)]
@@ -40,30 +39,23 @@ impl Canvas {
         Size { columns: usize::from(columns), rows: usize::from(rows).saturating_sub(BELOW) }
     }
 
-    /// All rows anew: the lines, the message, and an empty row in which the cursor stays.
-    pub fn draw(&self, lines: &[Line], message: &str) -> io::Result<()> {
-        let (size, mut out) = (self.size(), stdout().lock());
+    /// All rows anew, in a size: the lines, the message, and an empty row in which the cursor stays. Nothing of the lines makes way for the message.
+    pub fn draw(&self, size: Size, lines: &[Line], message: &str) -> io::Result<()> {
+        let mut out = stdout().lock();
         for (row, place) in (0..size.rows).zip(0u16..) {
             let text = lines.get(row).map(|line| self.styled(line)).unwrap_or_default();
             queue!(out, MoveTo(0, place), Clear(ClearType::CurrentLine), Print(text))?;
         }
-        put_message(&mut out, size, message)?;
-        queue!(out, MoveTo(0, row_below(size, 1)), Clear(ClearType::CurrentLine))?;
+        put_message(&mut out, size, lines.len(), message)?;
+        queue!(out, MoveTo(0, place_of(size.rows + 1)), Clear(ClearType::CurrentLine))?;
         out.flush()
     }
 
-    /// A question for the pieces of a move that starts now: is it to stop?
-    pub fn watch(&self) -> impl FnMut(u64) -> bool {
-        let (start, size) = (Instant::now(), self.size());
-        move |number| {
-            if start.elapsed() < PATIENCE {
-                return false;
-            }
-            let mut out = stdout().lock();
-            // a message that cannot be written is no reason to stop
-            let _ = put_message(&mut out, size, &format!("at event {}; Ctrl-C stops here", grouped(number))).and_then(|()| out.flush());
-            ctrl_c_is_pressed()
-        }
+    /// The message alone, in its own row.
+    pub fn say(&self, message: &str) -> io::Result<()> {
+        let (size, mut out) = (self.size(), stdout().lock());
+        put_message(&mut out, size, size.rows, message)?;
+        out.flush()
     }
 
     fn styled(&self, line: &Line) -> String {
@@ -90,17 +82,23 @@ impl Drop for Canvas {
     }
 }
 
-/// The row so many below the screen.
-fn row_below(size: Size, below: usize) -> u16 {
-    u16::try_from(size.rows + below).unwrap_or(u16::MAX)
+fn place_of(row: usize) -> u16 {
+    u16::try_from(row).unwrap_or(u16::MAX)
 }
 
-fn put_message(out: &mut impl Write, size: Size, message: &str) -> io::Result<()> {
-    queue!(out, MoveTo(0, row_below(size, 0)), Clear(ClearType::CurrentLine), Print(cut(&plain(message), size.columns)))
+/// The message, in its own row and in those above it that are empty.
+fn put_message(out: &mut impl Write, size: Size, taken: usize, message: &str) -> io::Result<()> {
+    let most = (size.rows.saturating_sub(taken) + 1).min(MESSAGE_ROWS);
+    let rows = wrapped_within(&plain(message), size.columns, most);
+    let first = (size.rows + 1).saturating_sub(rows.len());
+    for (row, text) in (first..).zip(rows) {
+        queue!(out, MoveTo(0, place_of(row)), Clear(ClearType::CurrentLine), Print(text))?;
+    }
+    Ok(())
 }
 
 /// Reads the keys that wait; whether Ctrl-C is among them.
-fn ctrl_c_is_pressed() -> bool {
+pub fn ctrl_c_is_pressed() -> bool {
     while event::poll(Duration::ZERO).unwrap_or(false) {
         match event::read() {
             Ok(Event::Key(key)) if key.code == KeyCode::Char('c') && key.modifiers.contains(KeyModifiers::CONTROL) => return true,

@@ -1,6 +1,6 @@
 //! The lines of a clause, with their numbers and the current goal marked.
 
-use super::fit::{columns, cut, cut_front, plain, width};
+use super::fit::{columns, cut, cut_front, plain, width, wrapped_behind};
 use crate::extract::{Extract, Mark};
 use std::ops::Range;
 
@@ -25,9 +25,26 @@ impl Row {
     }
 }
 
-/// All lines.
-pub fn rows(extract: &Extract) -> Vec<Row> {
-    extract.lines.iter().enumerate().map(|(place, _)| row(extract, place, usize::MAX)).collect()
+/// All lines, each in as many rows of so many columns as it takes; the mark is below the part that it belongs to.
+pub fn rows(extract: &Extract, most_columns: usize) -> Vec<Row> {
+    (0..extract.lines.len()).flat_map(|place| divided(extract, place, most_columns)).collect()
+}
+
+fn divided(extract: &Extract, place: usize, most_columns: usize) -> Vec<Row> {
+    let (number, line, marked) = parts(extract, place);
+    let room = most_columns.saturating_sub(number.len());
+    let (mut rows, mut from) = (Vec::new(), 0);
+    for text in wrapped_behind(&plain(line), room, room.saturating_sub(GAP.len())) {
+        let indent = if rows.is_empty() { number.clone() } else { format!("{:1$}{GAP}", "", number.len()) };
+        let to = from + width(text.trim_end());
+        let own = marked.as_ref().map(|marked| marked.start.clamp(from, to)..marked.end.clamp(from, to)).filter(|own| !own.is_empty());
+        rows.push(Row {
+            marked: own.map(|own| indent.len() + own.start - from..indent.len() + own.end - from),
+            text: format!("{indent}{}", text.trim_end()),
+        });
+        from += width(&text);
+    }
+    rows
 }
 
 /// As many lines as so many rows hold, around the mark, each cut to so many columns, in a way that shows the mark. The row below the marked line counts.
@@ -40,11 +57,17 @@ pub fn fitted(extract: &Extract, most_rows: usize, most_columns: usize) -> Vec<R
     (first..extract.lines.len()).take(most).map(|place| row(extract, place, most_columns)).collect()
 }
 
-fn row(extract: &Extract, place: usize, most_columns: usize) -> Row {
+/// What stands before a line, the line, and the columns of its mark.
+fn parts(extract: &Extract, place: usize) -> (String, &str, Option<Range<usize>>) {
     let digits = (extract.first_line + extract.lines.len()).to_string().len();
     let number = format!("{GAP}{:>digits$}{GAP}", extract.first_line + place);
     let line = extract.lines.get(place).map(String::as_str).unwrap_or_default();
     let marked = extract.mark.as_ref().filter(|mark| mark.line == place).map(|mark| marked_columns(line, mark));
+    (number, line, marked)
+}
+
+fn row(extract: &Extract, place: usize, most_columns: usize) -> Row {
+    let (number, line, marked) = parts(extract, place);
     let (text, marked) = shown_around(plain(line), marked, most_columns.saturating_sub(number.len()));
     Row { text: format!("{number}{text}"), marked: marked.map(|columns| number.len() + columns.start..number.len() + columns.end) }
 }
@@ -82,7 +105,7 @@ mod tests {
 
     #[test]
     fn the_mark_stands_below_the_goal() {
-        let rows = rows(&extract(&["p(X) :-", "\tq(X), r."], Mark { line: 1, from: 1, to: 5 }));
+        let rows = rows(&extract(&["p(X) :-", "\tq(X), r."], Mark { line: 1, from: 1, to: 5 }), 80);
         assert_eq!(rows[0].text, "   9  p(X) :-");
         assert_eq!(rows[1].text, "  10          q(X), r.");
         assert_eq!(rows[1].below().unwrap(), "              ^^^^");
@@ -97,6 +120,20 @@ mod tests {
             let rows = fitted(&extract(&[&line], mark), 2, 60);
             assert!(rows[0].text.len() <= 60, "{}", rows[0].text);
             assert_eq!(above_the_mark(&rows[0]), goals[place]);
+        }
+    }
+
+    #[test]
+    fn a_long_line_is_divided_and_its_mark_with_it() {
+        let line = "clash(Light, A, B) :- lamp(A, Light), lamp(B, Light), colour(A, C).";
+        for (goal, expected) in [("lamp(B, Light)", vec!["lamp(B, Light)"]), ("lamp(A, Light)", vec!["lamp(A,", "Light)"])] {
+            let from = line.find(goal).unwrap();
+            let rows = rows(&extract(&[line], Mark { line: 0, from, to: from + goal.len() }), 36);
+            assert_eq!(rows[0].text, "   9  clash(Light, A, B) :- lamp(A,");
+            assert_eq!(rows[1].text, "        Light), lamp(B, Light),");
+            assert_eq!(rows[2].text, "        colour(A, C).");
+            let above: Vec<String> = rows.iter().filter(|row| row.marked.is_some()).map(above_the_mark).collect();
+            assert_eq!(above, expected);
         }
     }
 

@@ -8,6 +8,8 @@ use fourport::Port;
 pub enum Command {
     Step(u64),
     Back(u64),
+    Goal,
+    GoalBack,
     Next,
     Previous,
     Finish,
@@ -52,13 +54,16 @@ impl Command {
         let Some(command) = Command::without(entry.verb).filter(|_| rest.is_empty()) else {
             return match (entry.verb, rest) {
                 (Verb::Step, [count]) => number(count).map(Step),
+                // gdb's letter for a break; no number has a slash
+                (Verb::Back, [predicate, named @ ..]) if predicate.contains('/') => Command::at_a_predicate(predicate, named),
                 (Verb::Back, [count]) => number(count).map(Back),
+                (Verb::Goal, ["back"]) => Ok(GoalBack),
                 (Verb::Run, [count]) => number(count).map(|count| Run(Some(count))),
                 (Verb::Reverse, [count]) => number(count).map(|count| Reverse(Some(count))),
                 (Verb::Goto, [count]) => number(count).map(Goto),
                 (Verb::Next, ["answer"]) => Ok(NextAnswer),
                 (Verb::Previous, ["answer"]) => Ok(PreviousAnswer),
-                (Verb::Break, [predicate, named @ ..]) => Ok(Break { predicate: predicate.to_string(), ports: ports(named)? }),
+                (Verb::Break, [predicate, named @ ..]) => Command::at_a_predicate(predicate, named),
                 (Verb::Delete, [predicate]) => Ok(Delete(Some(predicate.to_string()))),
                 (Verb::Print, [name]) => Ok(Print(Some(name.to_string()))),
                 (Verb::Why, [name]) => Ok(Why(name.to_string())),
@@ -69,12 +74,17 @@ impl Command {
         Ok(command)
     }
 
+    fn at_a_predicate(predicate: &str, named: &[&str]) -> Result<Command, String> {
+        Ok(Command::Break { predicate: predicate.into(), ports: ports(named)? })
+    }
+
     /// The command where nothing stands behind its word.
     fn without(verb: Verb) -> Option<Command> {
         use Command::*;
         Some(match verb {
             Verb::Step => Step(1),
             Verb::Back => Back(1),
+            Verb::Goal => Goal,
             Verb::Next => Next,
             Verb::Previous => Previous,
             Verb::Finish => Finish,
@@ -129,6 +139,8 @@ mod tests {
         assert_eq!((read("b"), read("c"), read("r 5")), (Ok(Back(1)), Ok(Run(None)), Ok(Run(Some(5)))));
         assert_eq!((read("next answer"), read("a"), read("prev answer")), (Ok(NextAnswer), Ok(NextAnswer), Ok(PreviousAnswer)));
         assert_eq!(read("break light/2 exit,fail redo"), Ok(Break { predicate: "light/2".into(), ports: vec![Port::Exit, Port::Fail, Port::Redo] }));
+        assert_eq!((read("goal"), read("goal back")), (Ok(Goal), Ok(GoalBack)));
+        assert_eq!((read("b light/2 exit"), read("b 2")), (read("break light/2 exit"), Ok(Back(2))));
         assert_eq!(read("break light/2"), Ok(Break { predicate: "light/2".into(), ports: vec![Port::Call] }));
     }
 

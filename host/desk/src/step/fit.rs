@@ -53,16 +53,33 @@ pub fn cut_front(text: &str, from: usize) -> String {
 
 /// The text in lines of so many columns, broken behind a blank where one stands in the second half of a line.
 pub fn wrapped(text: &str, most: usize) -> Vec<String> {
+    wrapped_behind(text, most, most)
+}
+
+/// The same with another number of columns for the first line.
+pub fn wrapped_behind(text: &str, first: usize, most: usize) -> Vec<String> {
     let mut lines = Vec::new();
     let mut rest = text;
-    while width(rest) > most.max(2) {
-        let line = front(rest, most.max(2));
+    let room = |lines: &[String]| if lines.is_empty() { first } else { most }.max(2);
+    while width(rest) > room(&lines) {
+        let line = front(rest, room(&lines));
         let blank = line.rfind(' ').map(|at| at + 1).filter(|&behind| behind > line.len() / 2);
         let line = blank.and_then(|behind| line.get(..behind)).unwrap_or(line);
         rest = rest.get(line.len()..).unwrap_or_default();
         lines.push(line.into());
     }
     lines.push(rest.into());
+    lines
+}
+
+/// The text in at most so many lines, the last one cut where there would be more.
+pub fn wrapped_within(text: &str, most: usize, most_lines: usize) -> Vec<String> {
+    let mut lines = wrapped(text, most);
+    if lines.len() > most_lines {
+        let kept = lines.iter().take(most_lines.saturating_sub(1)).map(String::len).sum();
+        lines.truncate(most_lines.saturating_sub(1));
+        lines.push(cut(text.get(kept..).unwrap_or_default(), most));
+    }
     lines
 }
 
@@ -100,6 +117,10 @@ mod tests {
         assert_eq!(wrapped("abcdefgh", 3), ["abc", "def", "gh"]);
         assert_eq!(wrapped("abc", 3), ["abc"]);
         assert_eq!(wrapped("light(bay1, red) by clause 2", 20), ["light(bay1, red) by ", "clause 2"]);
+        assert_eq!(wrapped_behind("abcdefgh", 4, 2), ["abcd", "ef", "gh"]);
+        assert_eq!(wrapped_within("abcdefgh", 3, 3), ["abc", "def", "gh"]);
+        assert_eq!(wrapped_within("abcdefgh", 3, 2), ["abc", "d.."]);
+        assert_eq!(wrapped_within("abcdefgh", 3, 1), ["a.."]);
         assert_eq!(wrapped("", 3), [""]);
         assert_eq!(wrapped("éé", 0), ["é", "é"]);
     }

@@ -11,13 +11,15 @@ use rustyline::{
 use std::sync::{Arc, Mutex};
 
 /// Keys that give a command where nothing is typed yet.
-const KEYS: [(KeyCode, &str); 6] = [
-    (KeyCode::Right, "step"),
-    (KeyCode::Left, "back"),
-    (KeyCode::PageDown, "next"),
-    (KeyCode::PageUp, "door"),
-    (KeyCode::End, "answer"),
-    (KeyCode::Home, "goto 0"),
+const KEYS: [(KeyCode, Modifiers, &str); 8] = [
+    (KeyCode::Right, Modifiers::NONE, "step"),
+    (KeyCode::Left, Modifiers::NONE, "back"),
+    (KeyCode::Right, Modifiers::CTRL, "goal"),
+    (KeyCode::Left, Modifiers::CTRL, "goal back"),
+    (KeyCode::PageDown, Modifiers::NONE, "next"),
+    (KeyCode::PageUp, Modifiers::NONE, "door"),
+    (KeyCode::End, Modifiers::NONE, "answer"),
+    (KeyCode::Home, Modifiers::NONE, "goto 0"),
 ];
 
 /// The command of the key that ended the line, if one did.
@@ -58,8 +60,8 @@ impl ConditionalEventHandler for Key {
 pub fn bind<H: Helper>(editor: &mut Editor<H>) -> Pressed {
     let pressed = Pressed::default();
     let key = |command, otherwise| EventHandler::Conditional(Box::new(Key { command, pressed: pressed.clone(), otherwise }));
-    for (code, command) in KEYS {
-        editor.bind_sequence(KeyEvent(code, Modifiers::NONE), key(command, None));
+    for (code, with, command) in KEYS {
+        editor.bind_sequence(KeyEvent(code, with), key(command, None));
     }
     editor.bind_sequence(KeyEvent::ctrl('L'), key("screen", Some(Cmd::Noop)));
     // the program owns the screen, which nobody would put back
@@ -68,10 +70,11 @@ pub fn bind<H: Helper>(editor: &mut Editor<H>) -> Pressed {
 }
 
 /// What Tab completes: commands, and behind them what they take.
-#[derive(Debug, Default)]
 pub struct Words {
     pub predicates: Vec<String>,
     pub variables: Vec<String>,
+    /// told the line up to the cursor before more of it is written
+    pub before_writing: Box<dyn Fn(&str)>,
 }
 
 impl Words {
@@ -82,6 +85,7 @@ impl Words {
             Ok(Verb::Break | Verb::Delete) => self.predicates.clone(),
             Ok(Verb::Print | Verb::Why) => self.variables.clone(),
             Ok(Verb::Next | Verb::Previous) => vec!["answer".into()],
+            Ok(Verb::Goal) => vec!["back".into()],
             Ok(Verb::Help) => names(),
             _ if command.is_empty() => names(),
             _ => Vec::new(),
@@ -107,6 +111,11 @@ impl Completer for Words {
 
 impl Hinter for Words {
     type Hint = String;
+
+    fn hint(&self, line: &str, at: usize, _: &Context<'_>) -> Option<String> {
+        (self.before_writing)(line.get(..at).unwrap_or(line));
+        None
+    }
 }
 
 impl Highlighter for Words {}
@@ -119,10 +128,15 @@ mod tests {
 
     #[test]
     fn what_tab_completes() {
-        let words = Words { predicates: vec!["light/2".into(), "lights/1".into(), "bay/1".into()], variables: vec!["Light".into()] };
+        let words = Words {
+            predicates: vec!["light/2".into(), "lights/1".into(), "bay/1".into()],
+            variables: vec!["Light".into()],
+            before_writing: Box::new(|_| ()),
+        };
         assert_eq!(words.completions("bre"), (0, vec!["break".into(), "breaks".into()]));
         assert_eq!(words.completions("break li"), (6, vec!["light/2".into(), "lights/1".into()]));
         assert_eq!(words.completions("why "), (4, vec!["Light".into()]));
+        assert_eq!(words.completions("goal "), (5, vec!["back".into()]));
         assert_eq!(words.completions("step "), (5, vec![]));
     }
 }

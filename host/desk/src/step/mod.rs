@@ -11,6 +11,7 @@ mod help;
 mod inside;
 mod keys;
 mod moves;
+mod picture;
 mod questions;
 mod reply;
 mod screen;
@@ -22,6 +23,7 @@ mod verbs;
 use crate::garage::Garage;
 use crate::status::Status;
 use crate::style::Style;
+use extent::Extent;
 use screen::Size;
 use session::Session;
 use std::env;
@@ -36,7 +38,7 @@ const ROWS: usize = 24 - canvas::BELOW;
 
 /// Commands from the standard input until it ends, from the event of a number on. A script with a command that is not understood is refused input.
 pub fn step(garage: &Garage, at: u64) -> io::Result<Status> {
-    let extent = extent::extent(garage);
+    let extent = Extent::of(garage);
     let (mut session, words) = Session::start_at(garage, at);
     if is_interactive() {
         let predicates = garage.program.definitions().map(|known| garage.shown_predicate((known.predicate(), known.arity()))).collect();
@@ -48,8 +50,10 @@ pub fn step(garage: &Garage, at: u64) -> io::Result<Status> {
     if let Some(words) = words {
         writeln!(output, "{words}")?;
     }
-    let understood = script::run(&mut session, &extent, Size { columns, rows: ROWS }, &mut io::stdin().lock(), &mut output)?;
-    Ok(if understood { Status::Done } else { Status::Refused })
+    let is_typed = io::stdin().is_terminal();
+    let writing = script::Writing { extent: &extent, size: Size { columns, rows: ROWS }, is_typed };
+    let understood = writing.run(&mut session, &mut io::stdin().lock(), &mut output)?;
+    Ok(if understood || is_typed { Status::Done } else { Status::Refused })
 }
 
 /// Whether somebody types, in a terminal whose screen can be drawn on.

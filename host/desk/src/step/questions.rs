@@ -59,12 +59,12 @@ pub fn bets(garage: &Garage, event: &Event) -> Reply {
     Reply::listed(lines)
 }
 
-/// The whole clause, with the current goal marked.
-pub fn clause(garage: &Garage, event: &Event) -> Reply {
+/// The whole clause in so many columns, with the current goal marked.
+pub fn clause(garage: &Garage, event: &Event, columns: usize) -> Reply {
     match garage.whole_extract(&Position::of(garage, event)) {
         None => Reply::said("this goal stands in no clause"),
         Some(extract) => {
-            let lines = rows(&extract).into_iter().flat_map(|row| [Some(row.text.clone()), row.below()]).flatten();
+            let lines = rows(&extract, columns).into_iter().flat_map(|row| [Some(row.text.clone()), row.below()]).flatten();
             Reply::listed([extract.title].into_iter().chain(lines).collect())
         }
     }

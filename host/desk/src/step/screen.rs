@@ -1,6 +1,7 @@
 //! The screen: what is shown of an event, laid out for a size. It depends on the event, the length of the walk and the size alone.
 
 use super::clause::fitted;
+use super::extent::Extent;
 use super::fit::{cut, plain, width};
 use crate::portrait::Portrait;
 use crate::status::{counted, grouped};
@@ -45,7 +46,7 @@ pub struct Line {
 type Section = (String, Vec<Line>);
 
 /// The lines of the screen, no more and none wider than the size allows.
-pub fn lines(portrait: &Portrait, extent: &str, size: Size) -> Vec<Line> {
+pub fn lines(portrait: &Portrait, extent: &Extent, size: Size) -> Vec<Line> {
     let mut lines = heading(portrait, extent, size.columns);
     let wants = wants(portrait, size.columns);
     let titles = wants.iter().filter(|&&wanted| wanted > 0).count();
@@ -63,10 +64,10 @@ fn line(text: String, look: Look) -> Line {
 }
 
 /// The event, its goal, and what there is to note.
-fn heading(portrait: &Portrait, extent: &str, columns: usize) -> Vec<Line> {
+fn heading(portrait: &Portrait, extent: &Extent, columns: usize) -> Vec<Line> {
     let bets = if portrait.bets == 0 { "no bets".into() } else { counted(portrait.bets as u64, "bet") };
     let depth = grouped(portrait.depth as u64);
-    let head = format!("event {} {extent}  {}  depth {depth}  {bets}", grouped(portrait.number), portrait.port);
+    let head = format!("event {}{}  {}  depth {depth}  {bets}", grouped(portrait.number), extent.behind(portrait.number), portrait.port);
     let mut lines = vec![line(cut(&head, columns), Look::Head(portrait.port)), indented(&portrait.goal, Look::Strong, columns)];
     lines.extend(portrait.note.as_ref().map(|note| indented(note, Look::Strong, columns)));
     lines
@@ -182,7 +183,7 @@ mod tests {
     #[test]
     fn no_screen_is_larger_than_its_size() {
         for (columns, rows) in [(80, 22), (100, 38), (40, 10), (20, 5), (3, 3), (0, 0), (300, 200)] {
-            let lines = lines(&crowded(), "of 99,999", Size { columns, rows });
+            let lines = lines(&crowded(), &Extent::counted(" of 99,999", 99_999), Size { columns, rows });
             assert!(lines.len() <= rows);
             assert!(lines.iter().all(|line| width(&line.text) <= columns), "{columns} {lines:?}");
         }
@@ -190,7 +191,7 @@ mod tests {
 
     #[test]
     fn a_crowded_screen_has_some_of_all() {
-        let lines = lines(&crowded(), "of 99,999", Size { columns: 80, rows: 22 });
+        let lines = lines(&crowded(), &Extent::counted(" of 99,999", 99_999), Size { columns: 80, rows: 22 });
         assert_eq!(lines.len(), 22);
         assert_eq!(lines[0].text, "event 12,345 of 99,999  redo  depth 40  1 bet");
         let texts: Vec<&str> = lines.iter().map(|line| line.text.as_str()).collect();

@@ -42,15 +42,15 @@ impl<'g> Session<'g> {
         self.garage.portrait(self.stand.number(), self.stand.event())
     }
 
-    /// A typed line.
-    pub fn obey_line(&mut self, line: &str, pulse: Pulse) -> Reply {
+    /// A typed line, for an output of so many columns.
+    pub fn obey_line(&mut self, line: &str, columns: usize, pulse: Pulse) -> Reply {
         match Command::read(line) {
-            Ok(command) => self.obey(&command, pulse),
+            Ok(command) => self.obey(&command, columns, pulse),
             Err(words) => Reply::misunderstood(words),
         }
     }
 
-    pub fn obey(&mut self, command: &Command, pulse: Pulse) -> Reply {
+    pub fn obey(&mut self, command: &Command, columns: usize, pulse: Pulse) -> Reply {
         match command {
             Command::Undo => self.undo(pulse),
             Command::Why(name) => self.why(name, pulse),
@@ -61,7 +61,7 @@ impl<'g> Session<'g> {
             Command::Print(name) => questions::print(self.garage, &self.portrait(), self.stand.event(), name.as_deref()),
             Command::Where => questions::ancestors(self.garage, self.stand.event()),
             Command::Bets => questions::bets(self.garage, self.stand.event()),
-            Command::List => questions::clause(self.garage, self.stand.event()),
+            Command::List => questions::clause(self.garage, self.stand.event(), columns),
             Command::Screen => Reply::screen(),
             Command::Help(entry) => Reply::listed(help::lines(*entry)),
             Command::Quit => Reply::quit(),
@@ -82,10 +82,12 @@ impl<'g> Session<'g> {
 
     /// Makes a move and says what is to be said of its end.
     fn go(&mut self, command: &Command, pulse: Pulse) -> Option<String> {
-        let stand = &mut self.stand;
+        let (garage, stand) = (self.garage, &mut self.stand);
         let ended = match command {
             Command::Step(steps) | Command::Run(Some(steps)) => stand.run(*steps, Direction::Forward, pulse),
             Command::Back(steps) | Command::Reverse(Some(steps)) => stand.run(*steps, Direction::Back, pulse),
+            Command::Goal => stand.until(Direction::Forward, |event| garage.is_goal(event), pulse),
+            Command::GoalBack => stand.until(Direction::Back, |event| garage.is_goal(event), pulse),
             Command::Next => stand.over(pulse),
             Command::Previous => stand.back_over(pulse),
             Command::Finish => stand.finish(pulse),

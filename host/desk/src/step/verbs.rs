@@ -7,6 +7,7 @@ use crate::near::nearest;
 pub enum Verb {
     Step,
     Back,
+    Goal,
     Next,
     Previous,
     Finish,
@@ -54,7 +55,7 @@ const fn entry(
 }
 
 /// All commands, in the order in which help lists them.
-pub const ENTRIES: [Entry; 22] = [
+pub const ENTRIES: [Entry; 23] = [
     entry(Verb::Step, "step", &["s", "creep"], "[N]", "one step forward, or N", &[]),
     entry(
         Verb::Back,
@@ -62,7 +63,15 @@ pub const ENTRIES: [Entry; 22] = [
         &["b", "backstep", "reverse-step", "rs"],
         "[N]",
         "one step back, or N",
-        &["The event there is the one that stood there."],
+        &["It is the same event as on the way forward."],
+    ),
+    entry(
+        Verb::Goal,
+        "goal",
+        &[],
+        "[back]",
+        "forward, or back, to the next goal typed in rules or query",
+        &["It passes what is between: the choice of a clause, its head's arguments, conjunctions and disjunctions."],
     ),
     entry(
         Verb::Next,
@@ -85,16 +94,16 @@ pub const ENTRIES: [Entry; 22] = [
         "finish",
         &["f"],
         "",
-        "to this goal's exit or fail; from there, of the goal around",
-        &["The goal around is the nearest ancestor that is an atom, or the query where there is none."],
+        "to this goal's exit or fail; given there, its caller's",
+        &["The caller is the goal whose clause this one stands in, or the query."],
     ),
     entry(
         Verb::Door,
         "door",
         &["d", "retry", "start", "reverse-finish"],
         "",
-        "back to the call of this goal, under the same ancestors",
-        &["This is the library's own way back to the door of a goal; a call is its own door."],
+        "back to the event at which this goal was called",
+        &["At a call it stays where it is."],
     ),
     entry(
         Verb::Run,
@@ -121,8 +130,8 @@ pub const ENTRIES: [Entry; 22] = [
         "VAR",
         "back to the event at which the variable got its value",
         &[
-            "A variable gets its value where an equality exits: the event that the walk goes back to.",
-            "Where it was first made the same as another variable, this is the event at which that one got its value.",
+            "A variable gets its value where an equality exits; often that is an argument of a clause's head.",
+            "If it was joined with another variable first, the walk goes to where that one got its value.",
         ],
     ),
     entry(
@@ -137,14 +146,14 @@ pub const ENTRIES: [Entry; 22] = [
         Verb::Break,
         "break",
         &["br", "spy"],
-        "P/N [PORT..]",
+        "P[/N] [PORT..]",
         "`run` and `reverse` stop at calls of P with N arguments",
         &[
             "Ports named behind it are stopped at instead of calls: `break light/2 exit fail`.",
-            "Given again for the same P/N, it has the ports named last.",
+            "A second `break` for the same P/N replaces the first. `b P/N` is a break too, `b` alone is `back`.",
         ],
     ),
-    entry(Verb::Delete, "delete", &["del", "nospy"], "[P/N]", "takes a break away, or all of them", &[]),
+    entry(Verb::Delete, "delete", &["del", "nospy"], "[P[/N]]", "takes a break away, or all of them", &[]),
     entry(Verb::Breaks, "breaks", &["debugging"], "", "the breaks there are", &[]),
     entry(
         Verb::Print,
@@ -158,7 +167,7 @@ pub const ENTRIES: [Entry; 22] = [
         ],
     ),
     entry(Verb::Where, "where", &["w", "bt", "backtrace"], "", "all ancestors, the nearest first, with the half one is in", &[]),
-    entry(Verb::Bets, "bets", &[], "", "all bets, the newest first: unifiers, halves and bodies", &[]),
+    entry(Verb::Bets, "bets", &[], "", "what has been chosen and bound so far, the newest first", &[]),
     entry(Verb::List, "list", &["l"], "", "the whole clause that the goal stands in", &[]),
     entry(Verb::Screen, "screen", &[], "", "the screen again", &[]),
     entry(Verb::Help, "help", &["h", "?"], "[COMMAND]", "this list, or more about a command", &[]),
@@ -201,6 +210,8 @@ mod tests {
         assert_eq!(verb("break"), Ok(Verb::Break));
         assert_eq!(verb("breaks"), Ok(Verb::Breaks));
         assert_eq!(verb("rev"), Ok(Verb::Reverse));
+        assert_eq!((verb("g"), verb("goa")), (Ok(Verb::Goto), Ok(Verb::Goal)));
+        assert_eq!(verb("go").unwrap_err(), "`go` may be `goal` or `goto`");
         assert_eq!(verb("wh").unwrap_err(), "`wh` may be `why` or `where`");
         assert_eq!(verb("stpe").unwrap_err(), "there is no command `stpe`: did you mean `step`? `help` lists them all");
         assert_eq!(verb("xyzzy").unwrap_err(), "there is no command `xyzzy`: `help` lists them all");

@@ -8,6 +8,8 @@ use std::process::{Command, Stdio};
 use std::sync::atomic::{AtomicUsize, Ordering};
 
 const PROMPT: &str = "(desk) ";
+/// The columns of an output that says nothing of them.
+const COLUMNS: usize = 80;
 
 /// A screen as it was written, and the number of its event.
 #[derive(Clone, Debug, PartialEq, Eq)]
@@ -58,12 +60,18 @@ impl Garage {
 
     /// What the desk writes for any bytes from a pipe, with more arguments.
     pub fn step_with(&self, arguments: &[&str], script: Vec<u8>) -> (String, i32) {
+        self.step_in(COLUMNS, arguments, script)
+    }
+
+    /// The same for an output of so many columns.
+    pub fn step_in(&self, columns: usize, arguments: &[&str], script: Vec<u8>) -> (String, i32) {
         let mut desk = Command::new(env!("CARGO_BIN_EXE_desk"));
         desk.arg("step")
             .arg(&self.rules)
             .arg(self.query)
             .args(arguments)
             .env_remove("COLUMNS")
+            .envs((columns != COLUMNS).then(|| ("COLUMNS", columns.to_string())))
             .stdin(Stdio::piped())
             .stdout(Stdio::piped())
             .stderr(Stdio::null());

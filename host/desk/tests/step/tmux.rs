@@ -63,6 +63,14 @@ impl Terminal {
         self.press(&["Enter"]);
     }
 
+    /// Gives the terminal another size, and waits until a program can see it, since tmux tells it a little later.
+    pub fn resize(&self, columns: usize, rows: usize) {
+        self.tmux(&["resize-window", "-x", &columns.to_string(), "-y", &rows.to_string()]);
+        let device = self.told(&["display-message", "-p", "#{pane_tty}"]);
+        let told = || Command::new("stty").args(["-F", device.trim(), "size"]).output().expect("stty is there").stdout;
+        self.wait("the size", |_| told() == format!("{rows} {columns}\n").into_bytes());
+    }
+
     /// The rows, from the first to the last, without blanks at their ends.
     pub fn rows(&self) -> Vec<String> {
         self.told(&["capture-pane", "-p", "-N"]).split('\n').map(|row| row.trim_end().to_string()).collect()

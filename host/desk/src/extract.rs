@@ -63,7 +63,7 @@ impl Extract {
         let shown = (first_line..=last).take(most);
         let lines = shown.map(|line| String::from_utf8_lossy(source.line(line)).replace('\t', " ")).collect();
         let mark = goal.map(|goal| {
-            let (start, width) = (source.line_start(goal_line), source.line(goal_line).len());
+            let (start, width) = (source.line_start(goal_line), source.tokens_width(goal_line));
             let from = goal.from - start;
             Mark { line: goal_line - first_line, from, to: (goal.to - start).min(width).max(from + 1) }
         });

@@ -1,6 +1,6 @@
 //! Rules and a query, read by the library, with the texts that they are from.
 
-use crate::diagnostic::{refusal_words, Diagnostic, Level};
+use crate::diagnostic::{Diagnostic, Level};
 use crate::goals::{goals, Goals};
 use crate::naming::parting;
 use crate::near::nearest;
@@ -50,12 +50,13 @@ impl Garage {
         let clauses = by_predicate(&record);
         let program = record.canonical().map_err(|refusal| no_program(refusal, &rules, &outlines, &clauses))?;
         let start = start(&program, &query).map_err(|refusal| {
-            let words = format!("the query has no first event (question {}): {}", refusal.number(), refusal_words(refusal));
+            let words =
+                format!("the query is too long (question {}): an event of its walk holds it twice, and has at most 32,768 bytes", refusal.number());
             Diagnostic::of_file(asked.name(), words)
         })?;
         let asked_tokens: Vec<Token<'_>> = tokens(asked.text()).collect();
         let variables = u16::try_from(outline::variables(&asked_tokens).len()).unwrap_or(u16::MAX);
-        let (goals, parting) = (goals(&asked_tokens), parting(&names, variables));
+        let (goals, parting) = (goals(&asked_tokens), parting(&names, variables, &outlines));
         let with_locals = program.definitions().filter(|definition| definition.locals() > 0);
         let definitions = with_locals.map(|definition| ((definition.predicate(), definition.arity()), definition.goal().to_goal())).collect();
         Ok(Garage { program, query, names, outlines, goals, variables, parting, clauses, definitions, start, rules, asked })

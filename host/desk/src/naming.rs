@@ -2,8 +2,10 @@
 
 use crate::derivation::{exited, Called};
 use crate::garage::{Garage, Predicate};
+use crate::outline::ClauseOutline;
 use crate::position::predicate;
-use fourport::{Ancestor, Event, GoalKind, GoalView, Names, Naming, Term, TermKind, TermView};
+use fourport::{Ancestor, Event, GoalKind, GoalView, Names, Naming, Term};
+use layout::{number_at, term_end, ATOM, SYMBOL, VARIABLE};
 use std::borrow::Cow;
 use std::collections::HashMap;
 
@@ -96,14 +98,15 @@ impl Naming for EventNames<'_> {
     }
 }
 
-/// What stands between a local's name and its number: as many underscores as it takes for the query to have no such name.
-pub fn parting(names: &Names, variables: u16) -> String {
+/// What stands between a local's name and its number: as many underscores as it takes for query and clauses to have no such name.
+pub fn parting(names: &Names, variables: u16, outlines: &[ClauseOutline]) -> String {
     let clashes = |parting: &str, name: &str| {
         let front = name.trim_end_matches(|letter: char| letter.is_ascii_digit());
         front.len() < name.len() && front.ends_with(parting)
     };
     let mut parting = String::from("_");
-    while (0..variables).filter_map(|number| names.variable(number)).any(|name| clashes(&parting, name)) {
+    let of_clauses = || outlines.iter().flat_map(|outline| &outline.variables).map(|variable| variable.name.as_str());
+    while (0..variables).filter_map(|number| names.variable(number)).chain(of_clauses()).any(|name| clashes(&parting, name)) {
         parting.push('_');
     }
     parting
@@ -132,64 +135,33 @@ fn walked(event: &Event) -> Vec<(GoalView<'_>, Body<'_>)> {
 /// The locals of a body, by the first of them that its definition has.
 fn locals(garage: &Garage, predicate: Predicate, body: Body<'_>) -> Option<Locals> {
     let goal = garage.goal_with_locals(predicate)?;
-    let mut due = Vec::new();
-    match (goal.kind(), body) {
-        (GoalKind::Conjunction(a, b) | GoalKind::Disjunction(a, b), Body::Halves(left, right)) => {
-            due.extend([(b, right), (a, left)].map(Pair::of_goals))
-        }
-        (_, Body::Whole(body)) => due.push(Pair::Goals(goal, body)),
-        _ => return None,
-    }
     let arity = u16::from(predicate.1);
-    let (local, variable) = first_local(due, arity)?;
+    let (local, variable) = match (goal.kind(), body) {
+        (GoalKind::Conjunction(a, b) | GoalKind::Disjunction(a, b), Body::Halves(left, right)) => {
+            first_local(a.as_bytes(), left.as_bytes(), arity).or_else(|| first_local(b.as_bytes(), right.as_bytes(), arity))?
+        }
+        (_, Body::Whole(body)) => first_local(goal.as_bytes(), body.as_bytes(), arity)?,
+        _ => return None,
+    };
     Some(Locals { first: variable.checked_sub(local)?, predicate })
 }
 
-/// A part of a definition and the same part of a body.
-#[derive(Clone, Copy)]
-enum Pair<'d, 'b> {
-    Goals(GoalView<'d>, GoalView<'b>),
-    Terms(TermView<'d>, TermView<'b>),
-}
+/// The bytes of a variable; and of a symbol or an atom without its arguments: kind, number, arity.
+const VARIABLE_BYTES: usize = 3;
+const NAMED_BYTES: usize = 4;
 
-impl<'d, 'b> Pair<'d, 'b> {
-    fn of_goals((left, right): (GoalView<'d>, GoalView<'b>)) -> Pair<'d, 'b> {
-        Pair::Goals(left, right)
-    }
-
-    /// The parts of both, the last one first.
-    fn parts(self) -> Vec<Pair<'d, 'b>> {
-        let terms = |(left, right)| Pair::Terms(left, right);
-        let mut parts: Vec<Pair<'d, 'b>> = match self {
-            Pair::Goals(definition, body) => match (definition.kind(), body.kind()) {
-                (GoalKind::Equality(a, b), GoalKind::Equality(c, d)) => [(a, c), (b, d)].map(terms).to_vec(),
-                (GoalKind::Conjunction(a, b), GoalKind::Conjunction(c, d)) | (GoalKind::Disjunction(a, b), GoalKind::Disjunction(c, d)) => {
-                    [(a, c), (b, d)].map(Pair::of_goals).to_vec()
-                }
-                (GoalKind::Atom(_, left), GoalKind::Atom(_, right)) => left.zip(right).map(terms).collect(),
-                _ => Vec::new(),
+/// The first local in the definition, counted from 0, and the variable that stands in its place in the body. Parts stand behind what they are parts of, in
+/// both alike, so that both are read once from front to back.
+fn first_local(mut definition: &[u8], mut body: &[u8], arity: u16) -> Option<(u16, u16)> {
+    loop {
+        let (here, there) = match *definition.first()? {
+            VARIABLE => match number_at(definition, 1).checked_sub(arity) {
+                Some(local) => return Some((local, number_at(body, 1))),
+                None => (VARIABLE_BYTES, term_end(body, 0)),
             },
-            Pair::Terms(definition, body) => match (definition.kind(), body.kind()) {
-                (TermKind::Symbol(_, left), TermKind::Symbol(_, right)) => left.zip(right).map(terms).collect(),
-                _ => Vec::new(),
-            },
+            SYMBOL | ATOM => (NAMED_BYTES, NAMED_BYTES),
+            _ => (1, 1),
         };
-        parts.reverse();
-        parts
+        (definition, body) = (definition.get(here..)?, body.get(there..)?);
     }
-}
-
-/// The first local in the definition, counted from 0, and the variable that stands in its place in the body.
-fn first_local<'d, 'b>(mut due: Vec<Pair<'d, 'b>>, arity: u16) -> Option<(u16, u16)> {
-    while let Some(pair) = due.pop() {
-        if let Pair::Terms(definition, body) = pair {
-            if let (TermKind::Variable(local), TermKind::Variable(variable)) = (definition.kind(), body.kind()) {
-                if local >= arity {
-                    return Some((local - arity, variable));
-                }
-            }
-        }
-        due.extend(pair.parts());
-    }
-    None
 }

@@ -79,6 +79,11 @@ impl Source {
         part.strip_suffix(b"\r").unwrap_or(part)
     }
 
+    /// How many bytes of a line stand up to the end of its last token: blanks and a comment behind that are none of it.
+    pub fn tokens_width(&self, line: usize) -> usize {
+        self.text.get(self.line_start(line)..self.line_start(line + 1)).unwrap_or_default().trim_ascii_end().len()
+    }
+
     /// The file, without its folder, and the line that hold a byte, as `rules.pl:14`.
     pub fn at(&self, offset: usize) -> String {
         format!("{}:{}", self.short_name(), self.line_of(offset))
@@ -99,6 +104,7 @@ mod tests {
         let source = Source::new("rules/a.pl", b"p. % \xc3\xa9 100 %\r\nq. %".to_vec());
         assert_eq!(source.text(), b"p.           \r\nq.  ");
         assert_eq!((source.line(1), source.line(2), source.line(3)), (&b"p. % \xc3\xa9 100 %"[..], &b"q. %"[..], &b""[..]));
+        assert_eq!((source.tokens_width(1), source.tokens_width(2), source.tokens_width(3)), (2, 2, 0));
         assert_eq!((source.place(15).line, source.place(15).column, source.at(0)), (2, 1, "a.pl:1".into()));
     }
 }

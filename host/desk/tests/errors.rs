@@ -190,3 +190,13 @@ fn texts_and_records_that_are_too_long() {
     hold_whole(&found, 10);
     assert_eq!(found.file, "query");
 }
+
+/// A query that stands twice in an event of its walk, and once in its record.
+#[test]
+fn a_query_that_has_no_walk() {
+    let rules = written("errors/none.pl", "");
+    let query = format!("X = {}a{}", "f(".repeat(5_000), ")".repeat(5_000));
+    let told = desk(&["answers", &rules, &query]);
+    assert_eq!(told.status, 2);
+    assert!(told.err.contains("the query is too long (question 10)"), "{}", told.err);
+}

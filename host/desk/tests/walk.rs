@@ -235,6 +235,15 @@ fn names_that_clash() {
     assert!(bound.rest.contains("X_2 = f(Y__2)"), "{bound:?}");
 }
 
+/// Terms that are nested deep, in heads and in values.
+#[test]
+fn nested_terms() {
+    let nested = format!("{}X{}", "f(".repeat(2_000), ")".repeat(2_000));
+    let rules = written("walk/nested.pl", format!("big({nested}) :- s(X), r.\ns(a).\nr :- t, t, t, t, fail.\nt. t. t.\n"));
+    let told = desk(&["walk", &rules, "big(_)"]);
+    assert_eq!((told.status, told.out.lines().count()), (1, 1_632));
+}
+
 #[test]
 fn long_values_are_cut() {
     let deep = format!("{}a{}", "f(".repeat(500), ")".repeat(500));

@@ -46,7 +46,7 @@ pub fn no_variable(portrait: &Portrait, name: &str) -> Reply {
 pub fn ancestors(garage: &Garage, event: &Event) -> Reply {
     let (lines, _) = garage.ancestors_shown(event, usize::MAX);
     if lines.is_empty() {
-        return Reply::said("there are no ancestors: this goal is the query");
+        return Reply::said("there are no ancestors");
     }
     Reply::listed(lines)
 }

@@ -149,12 +149,12 @@ impl<'g> Session<'g> {
         let Some(below) = bets_below_the_binding(self.stand.event(), variable) else {
             return Reply::said(format!("{name} has no value here"));
         };
-        let value = short(self.garage.value_shown(self.stand.event(), variable));
         self.moved(|session| {
             let ended = session.stand.back_to_bet(below, pulse);
             if ended != Ended::There {
                 return session.words(ended);
             }
+            let value = short(session.garage.value_shown(session.stand.event(), variable));
             let portrait = session.portrait();
             // the goal itself stands on the screen
             let by = portrait.clause.map_or(portrait.goal, |clause| clause.title);
@@ -166,7 +166,7 @@ impl<'g> Session<'g> {
         match self.garage.predicate_named(predicate) {
             Err(words) => Reply::misunderstood(words),
             Ok((number, arity)) => {
-                let new = Break { predicate: number, arity, name: predicate.into(), ports: ports.to_vec() };
+                let new = Break { predicate: number, arity, name: self.garage.shown_predicate((number, arity)), ports: ports.to_vec() };
                 let words = format!("break at {}", new.line());
                 self.breaks.set(new);
                 Reply::said(words)

@@ -140,7 +140,7 @@ pub const ENTRIES: [Entry; 23] = [
         &["u", "last"],
         "",
         "to the event where the last moving command was given",
-        &["Given again, it goes to where the one before was given, and so on to event 0."],
+        &["Given again, it goes to where the one before was given, and so on to the event where the desk was started."],
     ),
     entry(
         Verb::Break,

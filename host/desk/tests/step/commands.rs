@@ -144,6 +144,33 @@ fn why_is_back_to_the_binding() {
     }
 }
 
+/// The value that is told is that of the event gone to: parts of it may have come later.
+#[test]
+fn why_tells_the_value_of_its_event() {
+    let (shown, _) = written("p(X) :- q(X), r(X).\nq(f(_)).\nr(f(a)).\n", "p(X)").step(&["answer", "print X", "why X"]);
+    assert_eq!(shown[2].words[0], "X = f(a)");
+    assert!(
+        shown[3].words[0].starts_with("X = f(_") && shown[3].words[0].contains(") since this event, by clause 1 of q/1, "),
+        "{:?}",
+        shown[3].words
+    );
+}
+
+/// A clause may have a variable whose name looks like a shown one; it is not taken for that.
+#[test]
+fn names_that_look_like_numbered_ones() {
+    let garage = written("p(X) :- q(X_1, X), r(X_1).\nq(a, b).\nr(_).\n", "p(Y)");
+    let (shown, _) = garage.step(&["goto 3", "bets", "print X_1", "print X__1"]);
+    assert_eq!((shown[2].words[0].as_str(), shown[3].words[0].as_str(), shown[4].words[0].as_str()), ("binds X__1 = Y", "X_1 = _", "X__1 = Y"));
+}
+
+/// A break is shown as the predicate that it is, however it was typed.
+#[test]
+fn breaks_by_their_predicates() {
+    let (shown, _) = written("p(a).\n", "p(X)").step(&["break p", "break p/01 exit", "breaks"]);
+    assert_eq!((shown[1].words[0].as_str(), shown[3].words[0].as_str(), shown[3].words.len()), ("break at p/1 call", "p/1 exit", 2));
+}
+
 /// A variable that was made the same as another one: where that one got its value.
 #[test]
 fn why_follows_variables_that_are_the_same() {
@@ -202,9 +229,9 @@ fn print_says_what_the_library_says() {
 fn where_and_bets_list_all() {
     let garage = bays();
     let (shown, _) = garage.step(&["where", "bets", "goto 119", "where", "bets", "list"]);
-    assert_eq!(shown[1].words[0], "there are no ancestors: this goal is the query");
+    assert_eq!(shown[1].words[0], "there are no ancestors");
     assert_eq!(shown[2].words[0], "there are no bets");
-    assert_eq!(shown[4].words[0], "there are no ancestors: this goal is the query");
+    assert_eq!(shown[4].words[0], "there are no ancestors");
     // a line for each bet, and the empty line behind them
     assert_eq!(shown[5].words.len(), usize::from(garage.walked().events[119].bet_count()) + 1);
     assert!(shown[6].words.iter().any(|line| line.contains("sheet(First, Second, Third)")));

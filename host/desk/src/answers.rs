@@ -31,8 +31,9 @@ pub fn answers(garage: &Garage, order: Order, out: &mut dyn Write) -> io::Result
     while given < order.limit {
         match list.next() {
             Some(Ok(answer)) => {
-                progress.answer();
-                order.form.row(out, &row(garage, &variables, &answer), given == 0)?;
+                let row = row(garage, &variables, &answer);
+                let _quiet = progress.answer();
+                order.form.row(out, &row, given == 0)?;
                 out.flush()?;
                 given += 1;
             }
@@ -103,8 +104,8 @@ fn used(garage: &Garage, gave: &[Called<'_>]) -> Vec<UsedClause> {
     let first = gave.iter().filter(|called| met.insert((called.predicate, called.clause)));
     let shown = first.filter_map(|called| {
         let outline = garage.clause(called.predicate, called.clause)?;
-        let (predicate, line) = (garage.shown_predicate(called.predicate), garage.rules.line_of(outline.span.from));
-        Some(UsedClause { predicate, file: garage.rules.name().into(), line })
+        let (predicate, place) = (garage.shown_predicate(called.predicate), garage.rules.place(outline.span.from));
+        Some(UsedClause { predicate, file: garage.rules.name().into(), line: place.line, column: place.column })
     });
     shown.collect()
 }

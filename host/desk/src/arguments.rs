@@ -5,8 +5,6 @@ use clap::{value_parser, Arg, ArgAction, ArgGroup, ArgMatches, Command};
 
 /// The steps that `desk answers` walks unless it is told otherwise.
 const USUAL_STEPS: &str = "10000000";
-/// The events behind the first one that `desk walk` shows then.
-const USUAL_EVENTS: u64 = 100_000;
 
 const ABOUT: &str = "Walks a query through a garage's rules, forward and back";
 const AFTER: &str = "\
@@ -92,7 +90,7 @@ fn command() -> Command {
 /// What was asked for.
 pub enum Asked {
     Answers { limit: u64, steps: u32, form: Form },
-    Walk { all: bool, goals: bool, from: u64, to: u64, ports: Vec<String>, spied: Vec<String> },
+    Walk { all: bool, goals: bool, from: u64, to: Option<u64>, ports: Vec<String>, spied: Vec<String> },
     Step { at: u64 },
 }
 
@@ -132,8 +130,7 @@ pub fn read(arguments: impl IntoIterator<Item = std::ffi::OsString>) -> Result<A
             Asked::Answers { limit: number_of(matches, "limit").unwrap_or(u64::MAX), steps, form }
         }
         "walk" => {
-            let from = number_of(matches, "from").unwrap_or_default();
-            let to = number_of(matches, "to").unwrap_or(from.saturating_add(USUAL_EVENTS));
+            let (from, to) = (number_of(matches, "from").unwrap_or_default(), number_of(matches, "to"));
             Asked::Walk {
                 all: matches.get_flag("all"),
                 goals: matches.get_flag("goals"),

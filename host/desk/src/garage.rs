@@ -96,7 +96,8 @@ impl Garage {
     pub fn predicate_named(&self, text: &str) -> Result<Predicate, String> {
         let (name, arity) = text.split_once('/').map_or((text, None), |(name, arity)| (name, Some(arity)));
         let Some(number) = self.names.number(name) else {
-            let near = nearest(name, self.clauses.keys().filter_map(|(predicate, _)| self.names.name(*predicate)));
+            let heads: Vec<String> = self.outlines.iter().map(|outline| self.rules.part(outline.name)).collect();
+            let near = nearest(name, heads.iter().map(String::as_str));
             return Err(format!("no rule or query names `{name}`{}", near.map(|near| format!("; did you mean `{near}`?")).unwrap_or_default()));
         };
         let arities = self.arities(name, number);

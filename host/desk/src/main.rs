@@ -49,7 +49,9 @@ fn main() -> ExitCode {
     };
     // the library needs more stack than some threads have
     let desk = thread::Builder::new().stack_size(fourport::STACK).spawn(move || ended(run(arguments)));
-    desk.ok().and_then(|desk| desk.join().ok()).map_or(ExitCode::FAILURE, ExitCode::from)
+    let ended =
+        desk.map_err(|error| format!("the desk cannot be started: {error}")).and_then(|desk| desk.join().map_err(|_| "the desk has failed".into()));
+    ended.unwrap_or_else(|words: String| told(&Diagnostic::plain(words))).into()
 }
 
 /// The status; a mistake is told first.

@@ -4,7 +4,7 @@ use crate::status::{counted, grouped};
 use crossterm::terminal::{Clear, ClearType};
 use std::io::{self, IsTerminal, Write};
 use std::sync::atomic::{AtomicBool, AtomicU32, AtomicU64, Ordering};
-use std::sync::{Arc, Mutex};
+use std::sync::{Arc, Mutex, MutexGuard};
 use std::thread::{self, JoinHandle};
 use std::time::{Duration, Instant};
 
@@ -23,12 +23,13 @@ struct Shared {
 }
 
 impl Shared {
-    fn clear(&self) {
-        if let Ok(mut shown) = self.shown.lock() {
-            if std::mem::take(&mut *shown) {
-                eprint!("\r{}", Clear(ClearType::CurrentLine));
-            }
+    /// Takes the line away; it does not come back while the guard is held.
+    fn clear(&self) -> Option<MutexGuard<'_, bool>> {
+        let mut shown = self.shown.lock().ok()?;
+        if std::mem::take(&mut *shown) {
+            _ = write!(io::stderr(), "\r{}", Clear(ClearType::CurrentLine));
         }
+        Some(shown)
     }
 
     fn show(&self, since: Instant) {
@@ -72,9 +73,9 @@ impl Progress {
     }
 
     /// Makes room for an answer.
-    pub fn answer(&self) {
+    pub fn answer(&self) -> Option<MutexGuard<'_, bool>> {
         self.shared.answers.fetch_add(1, Ordering::Relaxed);
-        self.shared.clear();
+        self.shared.clear()
     }
 }
 
@@ -85,6 +86,6 @@ impl Drop for Progress {
             ticker.thread().unpark();
             _ = ticker.join();
         }
-        self.shared.clear();
+        _ = self.shared.clear();
     }
 }

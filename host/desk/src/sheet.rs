@@ -10,6 +10,8 @@ pub struct UsedClause {
     pub predicate: String,
     pub file: String,
     pub line: usize,
+    /// of its head, from 1: several clauses may share a line
+    pub column: usize,
 }
 
 /// An answer: the query's variables with their values, and the clauses that gave it.
@@ -66,7 +68,7 @@ impl Form {
             Form::Lines => writeln!(out, "{}", ending.words),
             Form::Csv => {
                 out.flush()?;
-                eprintln!("{}", ending.words);
+                _ = writeln!(io::stderr(), "{}", ending.words);
                 Ok(())
             }
             Form::Json => {
@@ -125,7 +127,9 @@ impl Row {
         let clauses: Vec<String> = self
             .clauses
             .iter()
-            .map(|UsedClause { predicate, file, line }| format!("{{\"predicate\": {}, \"file\": {}, \"line\": {line}}}", json(predicate), json(file)))
+            .map(|UsedClause { predicate, file, line, column }| {
+                format!("{{\"predicate\": {}, \"file\": {}, \"line\": {line}, \"column\": {column}}}", json(predicate), json(file))
+            })
             .collect();
         format!("{{\"values\": {{{}}}, \"clauses\": [{}]}}", values.join(", "), clauses.join(", "))
     }

@@ -34,7 +34,10 @@ impl Source {
 
     pub fn from_file(path: &str) -> io::Result<Source> {
         let mut bytes = Vec::new();
-        File::open(path)?.take(MOST_BYTES).read_to_end(&mut bytes)?;
+        let read = File::open(path)?.take(MOST_BYTES + 1).read_to_end(&mut bytes)?;
+        if read as u64 > MOST_BYTES {
+            return Err(io::Error::new(io::ErrorKind::InvalidData, "it has over 64 MiB"));
+        }
         Ok(Source::new(path, bytes))
     }
 

@@ -8,6 +8,9 @@ use crate::outline::ClauseOutline;
 use crate::source::{Source, Span};
 use std::collections::{BTreeSet, HashMap};
 
+/// The most atoms for which a name that is spelt alike is looked for.
+const MOST_HINTS: usize = 200;
+
 /// Names that people know from Prolog systems.
 const BUILT_IN: [&str; 20] = [
     "append", "assert", "asserta", "assertz", "atom", "call", "dif", "findall", "forall", "format", "functor", "length", "member", "nl", "once",
@@ -24,13 +27,13 @@ fn predicate(rules: &Source, clause: &ClauseOutline) -> Predicate {
 /// The warnings of rules and a query, in the order of the text.
 pub fn warnings(rules: &Source, clauses: &[ClauseOutline], query: &Source, goal: &Goals) -> Vec<Diagnostic> {
     let defined: BTreeSet<Predicate> = clauses.iter().map(|clause| predicate(rules, clause)).collect();
-    let mut found: Vec<(usize, Diagnostic)> = apart(rules, clauses);
+    let (mut found, mut hints) = (apart(rules, clauses), MOST_HINTS);
     for clause in clauses {
-        found.extend(clause.body.iter().flat_map(|body| undefined(rules, body, &defined)));
+        found.extend(clause.body.iter().flat_map(|body| undefined(rules, body, &defined, &mut hints)));
         found.extend(alone(rules, clause));
     }
     found.sort_by_key(|(at, _)| *at);
-    found.extend(undefined(query, goal, &defined));
+    found.extend(undefined(query, goal, &defined, &mut hints));
     found.into_iter().map(|(_, warning)| warning).collect()
 }
 
@@ -39,12 +42,16 @@ fn warning(source: &Source, span: Span, words: String) -> (usize, Diagnostic) {
 }
 
 /// Atoms that no clause defines: they fail, however they are spelt.
-fn undefined(source: &Source, goals: &Goals, defined: &BTreeSet<Predicate>) -> Vec<(usize, Diagnostic)> {
+fn undefined(source: &Source, goals: &Goals, defined: &BTreeSet<Predicate>, hints: &mut usize) -> Vec<(usize, Diagnostic)> {
     let missing =
         goals.atoms().map(|(name, arity)| (name, source.part(name), arity)).filter(|(_, name, arity)| !defined.contains(&(name.clone(), *arity)));
     let told = missing.map(|(span, name, arity)| {
         let (at, told) = warning(source, span, format!("no clause defines {name}/{arity}, so it fails"));
-        let notes = meant(&name, arity, defined).into_iter().chain(built_in(&name));
+        let near = hints.checked_sub(1).and_then(|left| {
+            *hints = left;
+            meant(&name, arity, defined)
+        });
+        let notes = near.into_iter().chain(built_in(&name));
         (at, notes.fold(told, Diagnostic::with_note))
     });
     told.collect()

@@ -133,3 +133,12 @@ fn output_is_plain_where_it_is_no_terminal() {
         }
     }
 }
+
+/// What is said of a list goes to standard error; where that takes nothing the list is none the worse.
+#[test]
+fn an_error_output_that_takes_nothing() {
+    let path = written("statuses/full.pl", "b(o). b(l).\n");
+    let full = std::fs::OpenOptions::new().write(true).open("/dev/full").expect("the full device");
+    let told: Told = program().args(["answers", &path, "b(X)", "--csv"]).stderr(full).output().expect("the program starts").into();
+    assert_eq!((told.status, told.out.lines().count()), (0, 3));
+}

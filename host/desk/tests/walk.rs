@@ -235,6 +235,23 @@ fn names_that_clash() {
     assert!(bound.rest.contains("X_2 = f(Y__2)"), "{bound:?}");
 }
 
+/// An answer whose value is too long to be told is an answer all the same; and what is asked of the command line alone is asked first.
+#[test]
+fn answers_without_values_and_orders_without_events() {
+    let deep = format!("{}a{}", "f(".repeat(1_500), ")".repeat(1_500));
+    let rules = written("walk/long_value.pl", format!("big({deep}).\nbig(b).\n"));
+    let told = desk(&["walk", &rules, "A = f(B, B), big(B)", "--all"]);
+    assert_eq!((told.status, told.out.matches("an answer").count()), (0, 2));
+    assert!(told.out.trim_end().ends_with("there is no other answer"), "{}", told.out);
+    for arguments in [&["--from", "9", "--to", "3"][..], &["--from", "6000000", "--to", "1", "--all"]] {
+        let told = desk(&[&["walk", &rules, "big(X)"], arguments].concat());
+        assert_eq!((told.status, told.out.as_str()), (2, "nothing is shown: --to stands before --from\n"));
+    }
+    // the usual limit of events is a limit, and one that was asked for is not
+    let rules = written("walk/many.pl", "b(o). b(l).\nall :- b(_), b(_), b(_), b(_), b(_), b(_), b(_), b(_), b(_), b(_), b(_), b(_), fail.\n");
+    assert_eq!((desk(&["walk", &rules, "all", "--ports", "redo"]).status, desk(&["walk", &rules, "all", "--to", "9"]).status), (3, 0));
+}
+
 /// Terms that are nested deep, in heads and in values.
 #[test]
 fn nested_terms() {

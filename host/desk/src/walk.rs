@@ -95,7 +95,7 @@ fn refused(garage: &Garage, refusal: Refusal) -> End {
 
 /// Goes to the first event that is shown. Without `--all` an answer before it ends the walk.
 fn skipped(garage: &Garage, order: &Order, walk: &mut Walk<'_>) -> (u64, Option<End>) {
-    let answer = answer_before(garage, order.from).filter(|_| !order.all);
+    let answer = if order.all { None } else { answer_before(garage, order.from) };
     let end = match ran(walk, answer.unwrap_or(order.from)) {
         Some(refusal) => Some(refused(garage, refusal)),
         None => answer.map(|_| End::Answer),

@@ -8,6 +8,7 @@ use fourport::{Ancestor, Answer, Bet, Event, GoalKind, GoalView, Half, Port, Use
 /// A bet that says how a goal exited.
 #[derive(Clone, Copy, Debug)]
 enum Laid<'b> {
+    Unifier,
     Or(Half),
     By(GoalView<'b>),
 }
@@ -36,6 +37,8 @@ struct Due<'b> {
 struct Reading<'g, 'b, I> {
     garage: &'g Garage,
     laid: I,
+    /// whether unifiers are among them; those that gave an answer leave them out
+    unifiers: bool,
     due: Vec<Due<'b>>,
     found: Vec<Called<'b>>,
 }
@@ -47,6 +50,9 @@ impl<'b, I: Iterator<Item = Laid<'b>>> Reading<'_, 'b, I> {
         while let Some(due) = self.due.pop() {
             let choosing = due.choosing.filter(|&(atom, clause)| !self.is_last(atom, clause));
             match due.goal.kind() {
+                GoalKind::Equality(..) if self.unifiers => {
+                    let Laid::Unifier = self.laid.next()? else { return None };
+                }
                 GoalKind::True | GoalKind::Fail | GoalKind::Equality(..) => (),
                 GoalKind::Conjunction(left, right) => self.due.extend([left, right].map(|goal| Due { goal, choosing: None, ..due })),
                 GoalKind::Disjunction(left, right) => {
@@ -83,14 +89,19 @@ impl<'b, I: Iterator<Item = Laid<'b>>> Reading<'_, 'b, I> {
     }
 }
 
+/// The bets of a reached event, none read yet.
+fn reading<'g, 'e>(garage: &'g Garage, event: &'e Event) -> Reading<'g, 'e, impl ExactSizeIterator<Item = Laid<'e>>> {
+    let laid = event.bets().map(|bet| match bet {
+        Bet::Unifier(_) => Laid::Unifier,
+        Bet::Or(half) => Laid::Or(half),
+        Bet::By(body) => Laid::By(body),
+    });
+    Reading { garage, laid, unifiers: true, due: Vec::new(), found: Vec::new() }
+}
+
 /// The atoms whose exits the bets of a reached event hold, the last one first.
 pub fn exited<'e>(garage: &Garage, event: &'e Event) -> Vec<Called<'e>> {
-    let laid = event.bets().filter_map(|bet| match bet {
-        Bet::Or(half) => Some(Laid::Or(half)),
-        Bet::By(body) => Some(Laid::By(body)),
-        Bet::Unifier(_) => None,
-    });
-    let mut reading = Reading { garage, laid, due: Vec::new(), found: Vec::new() };
+    let mut reading = reading(garage, event);
     let own = matches!(event.port(), Port::Exit | Port::Redo).then(|| event.goal());
     let passed = event.ancestors().filter_map(|ancestor| match ancestor {
         Ancestor::Conjunction { half: Half::Second, left, .. } => Some(left),
@@ -100,13 +111,20 @@ pub fn exited<'e>(garage: &Garage, event: &'e Event) -> Vec<Called<'e>> {
     reading.found
 }
 
+/// How many bets of a reached event lie below those of its goal, where that exits or is redone.
+pub fn bets_below_its_own(garage: &Garage, event: &Event) -> usize {
+    let mut reading = reading(garage, event);
+    _ = reading.read(event.goal());
+    reading.laid.len()
+}
+
 /// The atoms that gave an answer, in the order in which they were called.
 pub fn gave<'a>(garage: &'a Garage, answer: &'a Answer) -> Vec<Called<'a>> {
     let laid = answer.used.iter().rev().map(|used| match used {
         Used::Branch(half) => Laid::Or(*half),
         Used::Body(body) => Laid::By(body.view()),
     });
-    let mut reading = Reading { garage, laid, due: Vec::new(), found: Vec::new() };
+    let mut reading = Reading { garage, laid, unifiers: false, due: Vec::new(), found: Vec::new() };
     _ = reading.read(garage.query.goal());
     by_call(reading.found)
 }

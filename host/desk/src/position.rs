@@ -35,7 +35,7 @@ impl Position {
         Position::under(garage, event, 0)
     }
 
-    /// The position of the goal of the ancestor so many above which there are `passed`; with none passed, that of the event's goal.
+    /// The position of what stands under all ancestors but the nearest `passed`: of the event's goal with none, of the nearest ancestor with one, and so on.
     pub fn under(garage: &Garage, event: &Event, passed: usize) -> Position {
         let mut halves = Vec::new();
         for ancestor in event.ancestors().skip(passed) {

@@ -1,9 +1,9 @@
 //! Moves along the walk: each by the library's own steps and runs, in pieces, so that a long one can be stopped.
 
-use super::binding::own_bets;
 use super::inside::inside;
+use crate::derivation::bets_below_its_own;
 use crate::garage::Garage;
-use fourport::{Ancestor, Direction, Event, Half, Port, Program, Refusal, Walk};
+use fourport::{Ancestor, Direction, Event, Half, Port, Refusal, Walk};
 
 /// The most steps of a move that has no number of steps.
 pub const MOST_STEPS: u64 = 10_000_000;
@@ -37,13 +37,13 @@ pub enum Ended {
 /// Where one stands in the walk of 'Q, fail': its number is 0 at the call of Q.
 #[derive(Debug)]
 pub struct Stand<'g> {
-    program: &'g Program,
+    garage: &'g Garage,
     walk: Walk<'g>,
 }
 
 impl<'g> Stand<'g> {
     pub fn new(garage: &'g Garage) -> Stand<'g> {
-        Stand { program: &garage.program, walk: garage.program.walk(garage.first().clone()) }
+        Stand { garage, walk: garage.program.walk(garage.first().clone()) }
     }
 
     pub fn event(&self) -> &Event {
@@ -192,7 +192,7 @@ impl<'g> Stand<'g> {
         let Some(mut alone) = inside(self.event(), kept) else { return self.within_by_steps(kept, direction, pulse) };
         let mut left = MOST_STEPS;
         while left > 0 {
-            let Ok(found) = self.program.run(&alone, u32::try_from(PIECE.min(left)).unwrap_or(u32::MAX), direction) else {
+            let Ok(found) = self.garage.program.run(&alone, u32::try_from(PIECE.min(left)).unwrap_or(u32::MAX), direction) else {
                 return self.within_by_steps(kept, direction, pulse);
             };
             let ended = self.run(u64::from(found.taken), direction, &mut |_| false);
@@ -227,7 +227,7 @@ impl<'g> Stand<'g> {
             let has_it_from_before = match self.event().port() {
                 Port::Call => false,
                 Port::Fail => true,
-                Port::Exit | Port::Redo => below < self.event().bet_count().saturating_sub(own_bets(self.event())),
+                Port::Exit | Port::Redo => usize::from(below) < bets_below_its_own(self.garage, self.event()),
             };
             let ended = if has_it_from_before { self.door(pulse) } else { self.run(1, Direction::Back, pulse) };
             if ended != Ended::There {

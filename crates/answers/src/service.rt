@@ -27,7 +27,7 @@ const MOST_VARIABLES: usize = 10923;
 
 // Where the list of answers stands: 0 or the number that stopped it, the bytes written, the steps made, the length of the record of the event reached,
 // and whether it goes on.
-#[derive(Drop)]
+#[derive(Clone, Copy)]
 pub struct Listing {
     pub number: u8,
     pub written: usize,
@@ -220,7 +220,7 @@ fn begin_answers(program: &[u8], query: &[u8], steps: u32, out: &mut [u8]) -> Li
 }
 
 // What the service tells: 0 or the number that stopped the list, the bytes written, and the steps made.
-#[derive(Drop)]
+#[derive(Clone, Copy)]
 pub struct ListAnswer {
     pub number: u8,
     pub written: usize,

@@ -13,7 +13,7 @@ use records::heads::{BetHead, bet_head};
 use records::put::{Range, put_range};
 
 // How many bodies and branches there are, and how many bytes they have.
-#[derive(Drop)]
+#[derive(Clone, Copy)]
 pub struct UsedSize {
     pub count: usize,
     pub length: usize,

@@ -3,6 +3,8 @@
 // number, the first 16 and the checksum.
 // A case is four fields; a field is a four-byte length, high byte first, and that many bytes, at most 40,000. They are a program, a query, the steps
 // and the output's length; these two numbers have four bytes, high byte first.
+#![tactic(auto)]
+
 mod rest;
 
 use crate::rest::{LENT, as_lent};

@@ -15,7 +15,7 @@ use records::kinds::DISJ;
 use records::put::{put_byte, put_part, put_word};
 
 // A group's variables, and the bytes of its branches, each with the byte that joins it to the next one.
-#[derive(Drop)]
+#[derive(Clone, Copy)]
 pub struct Totals {
     pub locals: usize,
     pub size: usize,

@@ -1,4 +1,6 @@
 // The canonical form (SPECIFICATION 2): from clauses to the program that the calculus works on.
+#![tactic(auto)]
+
 pub mod branch; // branch.rt: a clause's branch, written
 pub mod definition; // definition.rt: a predicate's clauses, measured and written as its definition
 pub mod order; // order.rt: entries of clauses, sorted

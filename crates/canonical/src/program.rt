@@ -16,7 +16,7 @@ use records::put::{put_record_head, put_word};
 use records::questions::{DONE, FITS, LOCALS};
 
 // How many definitions there are, with their bytes, or question 9 says no.
-#[derive(Drop)]
+#[derive(Clone, Copy)]
 pub enum Survey {
     Within(usize, usize),
     TooMany,

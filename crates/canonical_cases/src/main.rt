@@ -1,6 +1,8 @@
 // Makes the programs of clause records from standard input, and prints a line for each: its ordinal from 1, the number, and, where that is 0, the
 // program's record in hexadecimal digits; of more than 64 bytes their number, the first 16 and the checksum.
 // A case is a byte (w an output of 32,768 bytes, any other byte one of 32,767), a four-byte length, high byte first, and that many bytes.
+#![tactic(auto)]
+
 use canonical::service::canonical;
 use case_io::input::{read_field, read_kind};
 use case_io::line::{print_end, print_number, print_record, record_length};

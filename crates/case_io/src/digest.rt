@@ -5,7 +5,7 @@ ghost use Rattle.case_io.specs.Digest.{line_ends, mixed, no_bytes, digest_more, 
 use crate::input::wide;
 
 // Each number modulo 2^32.
-#[derive(Drop)]
+#[derive(Clone, Copy)]
 pub struct Digest {
     pub bytes: u32,
     pub lines: u32,

@@ -3,21 +3,21 @@ ghost use Rattle.std.specs.Prelude.{◌≡◌, ◌+◌, ◌*◌, ◌<◌};
 ghost use Rattle.io.specs.Counts.{IsPrefixLen};
 
 // A case's kind byte.
-#[derive(Drop)]
+#[derive(Clone, Copy)]
 pub struct Kind {
     pub there: bool,
     pub byte: u8,
 }
 
 // A field that its buffer holds, and how many bytes it has.
-#[derive(Drop)]
+#[derive(Clone, Copy)]
 pub struct Field {
     pub there: bool,
     pub size: usize,
 }
 
 // A number of 32 bits.
-#[derive(Drop)]
+#[derive(Clone, Copy)]
 pub struct Number {
     pub there: bool,
     pub value: u32,

@@ -1,5 +1,7 @@
 // The desk's services for programs in Rust and C, each a thin function over the layers that is exported under its own name. What it promises is
 // the service's contract with the service's definition, for every input. `include/fourport.h` declares them for C.
+#![tactic(auto)]
+
 pub mod start; // start.rt: what a walk starts from: a program, a first event
 pub mod step; // step.rt: single steps, and runs
 pub mod count; // count.rt: the port counts of a walk

@@ -10,7 +10,7 @@ use records::put::put_part;
 use records::questions::DONE;
 
 // What the service tells: 0 or the number that ended the way, and the steps made.
-#[derive(Drop)]
+#[derive(Clone, Copy)]
 pub struct DoorAnswer {
     pub number: u8,
     pub taken: u32,

@@ -20,7 +20,7 @@ use stepper::step::source_event;
 
 // Where the way stands: 0 or the number that ended it, the steps made, of the record of the event reached the length and where its parts end, and whether
 // it goes on.
-#[derive(Drop)]
+#[derive(Clone, Copy)]
 pub struct Standing {
     pub number: u8,
     pub taken: u32,

@@ -3,6 +3,8 @@
 // checksum.
 // A case is four fields; a field is a four-byte length, high byte first, and that many bytes, at most 40,000. They are a program, an event, the limit
 // and the output's length; these two numbers have four bytes, high byte first.
+#![tactic(auto)]
+
 use case_io::digest::checksum;
 use case_io::input::{at_most, read_field, read_number_field, wide};
 use case_io::line::{print_end, print_number, print_record, record_length};

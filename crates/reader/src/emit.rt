@@ -9,7 +9,7 @@ use records::kinds::{ATOM, CONJ, DISJ, EQUAL, SYMBOL, TRUTH};
 
 // Where the bytes start, whether an arity is over 16, the clauses, how many terms and brackets are open, what stands behind what is read, and the
 // variables of its clause.
-#[derive(Drop)]
+#[derive(Clone, Copy)]
 pub struct Emission {
     pub at: usize,
     pub over: bool,

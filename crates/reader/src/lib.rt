@@ -1,4 +1,6 @@
 // Rules as text: from a text to its clause record and the list of its names.
+#![tactic(auto)]
+
 pub mod cells;
 pub mod emit;
 pub mod names;

@@ -10,7 +10,7 @@ use records::put::{Range, put_range, put_word};
 use text::lexer::next_token;
 
 // The nodes of the trie, the names in it, and the bytes of their list.
-#[derive(Drop)]
+#[derive(Clone, Copy)]
 pub struct Naming {
     pub nodes: usize,
     pub names: usize,
@@ -18,7 +18,7 @@ pub struct Naming {
 }
 
 // The number of an item's name, and the names behind it.
-#[derive(Drop)]
+#[derive(Clone, Copy)]
 pub struct Entry {
     pub number: u16,
     pub naming: Naming,

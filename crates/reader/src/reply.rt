@@ -14,7 +14,7 @@ use records::put::{Range, put_range, put_record_head, put_word};
 use records::questions::{DONE, FITS, OUTPUT, SPACE};
 
 // What a reader tells: its number, and where that is 0 how long the list of names is.
-#[derive(Drop)]
+#[derive(Clone, Copy)]
 pub struct Told {
     pub number: u8,
     pub named: usize,

@@ -7,7 +7,7 @@ ghost use Rattle.reader.specs.declared.roles.Role.TheVariants.{GoalConstant};
 use text::table::Mode;
 use text::tokens::Kind;
 
-#[derive(Drop)]
+#[derive(Clone, Copy)]
 pub enum Role {
     Variable,
     Constant,

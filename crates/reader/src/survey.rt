@@ -22,7 +22,7 @@ use text::table::{Mode, State};
 
 // How long the list of names is, whether an arity is over 16 or a clause has a 65th variable, where the bytes of the record's body start in their buffer,
 // and how many clauses there are.
-#[derive(Drop)]
+#[derive(Clone, Copy)]
 pub struct Survey {
     pub listed: usize,
     pub over: bool,

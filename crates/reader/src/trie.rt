@@ -10,14 +10,14 @@ use crate::tables::wide;
 use records::put::Range;
 
 // A node, and the number of nodes.
-#[derive(Drop)]
+#[derive(Clone, Copy)]
 pub struct Node {
     pub node: usize,
     pub nodes: usize,
 }
 
 // A name's number, the number of nodes and that of names.
-#[derive(Drop)]
+#[derive(Clone, Copy)]
 pub struct Named {
     pub number: usize,
     pub nodes: usize,

@@ -13,7 +13,7 @@ use text::lexer::next_token;
 const MOST_VARIABLES: usize = 64;
 
 // The number of an item, and how many variables are met behind it.
-#[derive(Drop)]
+#[derive(Clone, Copy)]
 pub struct Numbered {
     pub number: u8,
     pub met: usize,

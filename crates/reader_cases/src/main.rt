@@ -3,6 +3,8 @@
 // 200 bytes their number, the first 16 and the checksum. A list without names is not printed.
 // A case is a byte (q rules and a query, any other byte rules alone), its texts (pieces.rt), and the lengths of the two buffers, four bytes each, high
 // byte first.
+#![tactic(auto)]
+
 mod pieces; // pieces.rt: a text, made of its pieces
 
 use case_io::digest::checksum;
@@ -27,7 +29,7 @@ const MOST_NAMES: usize = 140000;
 const MOST_ROOM: usize = 40000;
 
 // How many bytes of each buffer a case lends.
-#[derive(Drop)]
+#[derive(Clone, Copy)]
 struct Rooms {
     there: bool,
     names: usize,

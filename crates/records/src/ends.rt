@@ -11,7 +11,7 @@ use crate::heads::{
 };
 
 // The position after it, if it is there.
-#[derive(Drop)]
+#[derive(Clone, Copy)]
 pub enum Found {
     At(usize),
     Nothing,
@@ -54,7 +54,7 @@ pub fn args_end(s: &[u8], at: usize, k: usize) -> Found
 }
 
 // What follows a goal's own head and terms: from where on, and how many goals the head announced.
-#[derive(Drop)]
+#[derive(Clone, Copy)]
 pub enum GoalHeadEnd {
     On(usize, usize),
     Off,
@@ -186,7 +186,7 @@ pub fn clause_end(s: &[u8], at: usize) -> Found
 }
 
 // What a record holds a row of.
-#[derive(Drop)]
+#[derive(Clone, Copy)]
 pub enum Item {
     Ancestor,
     Bet,

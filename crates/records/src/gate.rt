@@ -15,7 +15,7 @@ use crate::kinds::*;
 use crate::rules::{Ranked, items_kept, ranks_rise};
 
 // Passed, or the question that says no.
-#[derive(Drop)]
+#[derive(Clone, Copy)]
 pub enum Verdict {
     Passed,
     Framing,
@@ -50,7 +50,7 @@ fn is_version_1(s: &[u8]) -> bool
 }
 
 // Whether the body of a record is asked for: framed and of version 1, or the verdict that refuses.
-#[derive(Drop)]
+#[derive(Clone, Copy)]
 enum Opening {
     Open,
     Refused(Verdict),

@@ -5,7 +5,7 @@ ghost use Rattle.records.specs.Format.Heads.{joined, is_tag, unifier_head, term_
 use crate::kinds::{ARITY_LIMIT, *};
 
 // A variable, or a symbol and its arity.
-#[derive(Drop)]
+#[derive(Clone, Copy)]
 pub enum TermHead {
     Variable(usize),
     Symbol(usize, usize),
@@ -13,7 +13,7 @@ pub enum TermHead {
 }
 
 // An atom has its predicate and its arity.
-#[derive(Drop)]
+#[derive(Clone, Copy)]
 pub enum GoalHead {
     Truth,
     Failure,
@@ -25,7 +25,7 @@ pub enum GoalHead {
 }
 
 // A conjunction and a disjunction have their tag.
-#[derive(Drop)]
+#[derive(Clone, Copy)]
 pub enum AncestorHead {
     Called(usize, usize),
     InConj(usize),
@@ -34,7 +34,7 @@ pub enum AncestorHead {
 }
 
 // A unifier has its count of pairs, OR its tag.
-#[derive(Drop)]
+#[derive(Clone, Copy)]
 pub enum BetHead {
     Unifier(usize),
     Or(usize),
@@ -43,14 +43,14 @@ pub enum BetHead {
 }
 
 // A two-byte number.
-#[derive(Drop)]
+#[derive(Clone, Copy)]
 pub enum Word {
     Number(usize),
     Short,
 }
 
 // What a definition or a clause starts with: predicate, arity, and the number of locals or of variables.
-#[derive(Drop)]
+#[derive(Clone, Copy)]
 pub enum Signature {
     Predicate(usize, usize, usize),
     NoPredicate,

@@ -1,4 +1,6 @@
 // Records: what the desk's bytes say, and how they are written.
+#![tactic(auto)]
+
 pub mod compare;
 pub mod door;
 pub mod ends;

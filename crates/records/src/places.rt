@@ -10,7 +10,7 @@ use crate::heads::{Word, word_at};
 use crate::put::Range;
 
 // A row of items: how many, and from where to where.
-#[derive(Drop)]
+#[derive(Clone, Copy)]
 pub struct Row {
     pub count: usize,
     pub from: usize,
@@ -18,7 +18,7 @@ pub struct Row {
 }
 
 // An event: its port, its goal and its two stacks, tops first.
-#[derive(Drop)]
+#[derive(Clone, Copy)]
 pub struct Places {
     pub port: u8,
     pub goal: Range,
@@ -27,7 +27,7 @@ pub struct Places {
 }
 
 // Where an event's goal and its ancestors end; its bets end where the record does.
-#[derive(Drop)]
+#[derive(Clone, Copy)]
 pub struct PartEnds {
     pub goal: usize,
     pub ancestors: usize,

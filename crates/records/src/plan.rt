@@ -11,7 +11,7 @@ use crate::put::{Range, Receipt, put_byte, put_range, put_record_head, put_word}
 use crate::questions::{DONE, FITS, OUTPUT};
 
 // The bytes that stand before a part: a kind byte, and a tag.
-#[derive(Drop)]
+#[derive(Clone, Copy)]
 pub enum Lead {
     Bare,
     One(u8),
@@ -19,14 +19,14 @@ pub enum Lead {
 }
 
 // A lead, and then a range of the source.
-#[derive(Drop)]
+#[derive(Clone, Copy)]
 pub struct Piece {
     pub lead: Lead,
     pub range: Range,
 }
 
 // A stack's new count, its new top (a bare lead and an empty range where nothing is put on it) and the rest.
-#[derive(Drop)]
+#[derive(Clone, Copy)]
 pub struct Stack {
     pub count: usize,
     pub top: Piece,
@@ -34,7 +34,7 @@ pub struct Stack {
 }
 
 // An event: its port, its goal and its two stacks.
-#[derive(Drop)]
+#[derive(Clone, Copy)]
 pub struct Plan {
     pub port: u8,
     pub goal: Piece,

@@ -7,14 +7,14 @@ ghost use Rattle.records.specs.Ends.Range.{cut, Inside};
 use crate::kinds::VERSION;
 
 // The places `from` to `to - 1` of a slice.
-#[derive(Drop)]
+#[derive(Clone, Copy)]
 pub struct Range {
     pub from: usize,
     pub to: usize,
 }
 
 // What a service tells that writes: its number, and how many bytes it wrote where that is 0, else 0.
-#[derive(Drop)]
+#[derive(Clone, Copy)]
 pub struct Receipt {
     pub number: u8,
     pub length: usize,

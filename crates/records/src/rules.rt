@@ -111,7 +111,7 @@ fn clause_kept(s: &[u8], at: usize) -> bool
 }
 
 // A row of items with a number each: pairs by their variable, definitions by predicate, then arity.
-#[derive(Drop)]
+#[derive(Clone, Copy)]
 pub enum Ranked {
     Pairs,
     Definitions,

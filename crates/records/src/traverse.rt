@@ -6,7 +6,7 @@ ghost use Rattle.records.specs.Ends.Steps.{On, next_step, after_goal, raised, To
 use crate::heads::{GoalHead, TermHead, goal_head, term_head};
 
 // A place in a traversal: the terms, and then the goals, that are still to come from pos on.
-#[derive(Drop)]
+#[derive(Clone, Copy)]
 pub struct Cursor {
     pub pos: usize,
     pub terms: usize,
@@ -14,7 +14,7 @@ pub struct Cursor {
 }
 
 // A variable or another node, with the place after it, or nothing more to come.
-#[derive(Drop)]
+#[derive(Clone, Copy)]
 pub enum NodeStep {
     Variable(usize, Cursor),
     Other(Cursor),
@@ -92,7 +92,7 @@ pub fn next_node(s: &[u8], c: Cursor) -> NodeStep
 }
 
 // One more than the greatest variable of a traversal, or 0, and where the traversal ends.
-#[derive(Drop)]
+#[derive(Clone, Copy)]
 pub struct Top {
     pub top: usize,
     pub end: usize,

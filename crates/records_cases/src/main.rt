@@ -1,5 +1,7 @@
 // Puts questions 1 to 4 to cases from standard input, and prints a line for each: its ordinal from 1, its kind, the number.
 // A case is a kind byte (q query, e event, p program, c or any other clauses), a four-byte length, high byte first, and that many bytes.
+#![tactic(auto)]
+
 ghost use Rattle.std.specs.Prelude.{◌≡◌};
 ghost use Rattle.records_cases.specs.Case.{case_number};
 

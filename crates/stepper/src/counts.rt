@@ -10,7 +10,7 @@ use records::questions::DONE;
 
 // How many events of each port a walk passed, laid out as in C, whose programs lend such counts.
 #[repr(C)]
-#[derive(Drop)]
+#[derive(Clone, Copy)]
 pub struct PortCounts {
     pub calls: u32,
     pub exits: u32,
@@ -19,7 +19,7 @@ pub struct PortCounts {
 }
 
 // 0, or the number that refuses the event, and the counts afterwards.
-#[derive(Drop)]
+#[derive(Clone, Copy)]
 pub struct CountAnswer {
     pub number: u8,
     pub counts: PortCounts,

@@ -13,7 +13,7 @@ use records::plan::{Plan, emit_plan, plan_ends};
 use records::questions::DONE;
 
 // A step's number and, where it is 0, the length of the record that was written and where its parts end.
-#[derive(Drop)]
+#[derive(Clone, Copy)]
 pub struct StepAnswer {
     pub number: u8,
     pub length: usize,

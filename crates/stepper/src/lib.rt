@@ -1,4 +1,6 @@
 // The stepper: first event, step forward, step back, run.
+#![tactic(auto)]
+
 pub mod view; // view.rt: what a rule looks at in an event
 pub mod layouts; // layouts.rt: the plans of the rules
 pub mod rules; // rules.rt: the numbers of the rules

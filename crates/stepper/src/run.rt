@@ -22,7 +22,7 @@ use records::put::put_part;
 use records::questions::DONE;
 
 // Events of these ports that have so many ancestors.
-#[derive(Drop)]
+#[derive(Clone, Copy)]
 pub struct RunAim {
     pub call: bool,
     pub exit: bool,
@@ -32,7 +32,7 @@ pub struct RunAim {
 }
 
 // What is asked of a run: its direction, whether it has an aim, and whether the slice that it is lent is a log, of three numbers a mark.
-#[derive(Drop)]
+#[derive(Clone, Copy)]
 pub struct RunOrder {
     pub back: bool,
     pub aimed: bool,
@@ -41,7 +41,7 @@ pub struct RunOrder {
 }
 
 // Why a run stopped: all steps are taken, the aim is met, the log is full, or a question refuses the next step.
-#[derive(Drop)]
+#[derive(Clone, Copy)]
 pub enum RunStop {
     Spent,
     Met,
@@ -50,7 +50,7 @@ pub enum RunStop {
 }
 
 // 0 or the number of the question that stopped the run, the steps that it took, and of the record that it reached the length and where its parts end.
-#[derive(Drop)]
+#[derive(Clone, Copy)]
 pub struct RunAnswer {
     pub number: u8,
     pub stop: RunStop,
@@ -60,7 +60,7 @@ pub struct RunAnswer {
 }
 
 // An event's port and the sizes of its stacks.
-#[derive(Drop)]
+#[derive(Clone, Copy)]
 pub struct RunMark {
     pub port: u8,
     pub ancestors: usize,

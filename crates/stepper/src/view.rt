@@ -12,7 +12,7 @@ use records::put::Range;
 
 // A goal, an ancestor or a bet: its kind byte and its tag (0 where it has none); where it starts, where it goes on after kind and tag, where
 // its second half or term starts (its end where it has none), and where it ends. All numbers are 0 but the places where there is none.
-#[derive(Drop)]
+#[derive(Clone, Copy)]
 pub struct Part {
     pub kind: u8,
     pub tag: u8,
@@ -23,7 +23,7 @@ pub struct Part {
 }
 
 // A stack: its count, the counts with one more and with one less on it, where its items start, where they go on after the top, where they end.
-#[derive(Drop)]
+#[derive(Clone, Copy)]
 pub struct StackPlaces {
     pub count: usize,
     pub more: usize,
@@ -34,7 +34,7 @@ pub struct StackPlaces {
 }
 
 // An event: its port, its goal, its stacks with their tops.
-#[derive(Drop)]
+#[derive(Clone, Copy)]
 pub struct View {
     pub port: u8,
     pub goal: Part,

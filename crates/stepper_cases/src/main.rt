@@ -2,6 +2,8 @@
 // A case is a kind byte and fields; a field is a four-byte length, high byte first, and that many bytes, at most 40,000.
 // q: a query, the output's length. f, b: a program, an event, the output's length. r, s: a program, an event, the steps, the output's length.
 // w: a program, a query, the steps. l: a program, an event. c: an event, four counts. Numbers have four bytes, high byte first.
+#![tactic(auto)]
+
 mod answer;
 mod count;
 mod first;

@@ -8,14 +8,14 @@ use case_io::line::{print_end, print_start, print_word, record_length};
 use stepper::first::first_event;
 
 // The number of a step, and the output that was lent to it.
-#[derive(Drop)]
+#[derive(Clone, Copy)]
 struct StepTried {
     number: u8,
     out: [u8; 32768],
 }
 
 // How many steps were accepted, and a buffer that starts with the event that they lead to.
-#[derive(Drop)]
+#[derive(Clone, Copy)]
 struct WalkEnd {
     taken: u64,
     event: [u8; 32768],

@@ -7,7 +7,7 @@ use records::ends::{position, term_end};
 use records::put::Range;
 
 // An argument list: where it stands, and how many terms it has.
-#[derive(Drop)]
+#[derive(Clone, Copy)]
 pub struct Arguments {
     pub at: usize,
     pub arity: usize,

@@ -20,7 +20,7 @@ use records::questions::{DONE, FITS, LOCALS};
 use records::traverse::{Cursor, NodeStep, next_node};
 
 // Question 9 says no, there is no definition, the body has so many bytes, or the output is too short for it: question 10.
-#[derive(Drop)]
+#[derive(Clone, Copy)]
 pub enum BodyAnswer {
     TooMany,
     Undefined,

@@ -18,14 +18,14 @@ ghost use Rattle.terms.specs.Classes.ClassState.{
 
 use crate::nodes::{SYMBOL_NODE, VARIABLE_NODE};
 
-#[derive(Drop)]
+#[derive(Clone, Copy)]
 pub enum Comparison {
     Same,
     Clash,
     Differ(usize, usize),
 }
 
-#[derive(Drop)]
+#[derive(Clone, Copy)]
 pub enum Turn {
     Fine,
     Joined,

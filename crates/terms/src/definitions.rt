@@ -6,7 +6,7 @@ use records::ends::{Found, definition_end};
 use records::heads::{Signature, Word, definition_head, word_at};
 
 // What a definition starts with, and where it ends.
-#[derive(Drop)]
+#[derive(Clone, Copy)]
 pub struct DefinitionHead {
     pub predicate: usize,
     pub arity: usize,
@@ -15,7 +15,7 @@ pub struct DefinitionHead {
 }
 
 // A definition's place among the definitions, from 0, where it starts, its locals, where its goal starts, and where both end.
-#[derive(Drop)]
+#[derive(Clone, Copy)]
 pub struct Place {
     pub index: usize,
     pub start: usize,
@@ -24,7 +24,7 @@ pub struct Place {
     pub end: usize,
 }
 
-#[derive(Drop)]
+#[derive(Clone, Copy)]
 pub enum Lookup {
     Absent,
     Present(Place),

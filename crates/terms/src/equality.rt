@@ -21,7 +21,7 @@ use records::put::Range;
 use records::questions::{DONE, FITS, VALUES};
 
 // Question 8 says no, there is no unifier, its count and pairs have so many bytes, or they are too long for a record or the output: question 10.
-#[derive(Drop)]
+#[derive(Clone, Copy)]
 pub enum UnifierAnswer {
     TooLarge,
     Clash,

@@ -9,7 +9,7 @@ use crate::variables::{Frame, StackKind, greater, stack_top};
 use records::traverse::{Cursor, variables_top};
 
 // The greatest variable with the first part that holds it, or there is none.
-#[derive(Drop)]
+#[derive(Clone, Copy)]
 pub enum Greatest {
     Nowhere,
     InBets(usize),

@@ -1,4 +1,6 @@
 // Terms: substitution, the value service, the most general unifier, the body of an atom, and the greatest variable of an event.
+#![tactic(auto)]
+
 pub mod apply; // apply.rt: a bet stack applied to a term
 pub mod arguments; // arguments.rt: where the arguments of an atom stand
 pub mod body; // body.rt: the numbered body of an atom

@@ -7,7 +7,7 @@ use crate::nodes::{SYMBOL_NODE, VARIABLE_NODE};
 use records::heads::{TermHead, term_head};
 
 // A node's kind and number, and how many bytes its head has.
-#[derive(Drop)]
+#[derive(Clone, Copy)]
 pub struct NodeHead {
     pub kind: usize,
     pub number: usize,
@@ -84,7 +84,7 @@ fn link(kind: &[usize], next: &mut [usize])
 }
 
 // Where the nodes of the second term start, and how many nodes there are.
-#[derive(Drop)]
+#[derive(Clone, Copy)]
 pub struct NodeCounts {
     pub middle: usize,
     pub count: usize,

@@ -9,7 +9,7 @@ use records::places::event_places;
 use records::questions::DONE;
 
 // 0, or the number that refuses the event; the number of the part, and the variable.
-#[derive(Drop)]
+#[derive(Clone, Copy)]
 pub struct PartAnswer {
     pub number: u8,
     pub part: u8,

@@ -24,7 +24,7 @@ use records::put::{Range, put_byte, put_range, put_word};
 use records::traverse::{Cursor, NodeStep, next_node};
 
 // How many bytes were written, or that they are more than the output holds.
-#[derive(Drop)]
+#[derive(Clone, Copy)]
 pub enum Sized {
     Fits(usize),
     TooLarge,
@@ -32,7 +32,7 @@ pub enum Sized {
 
 // What variables become. By the first i pairs of a table of pairs in the event, those of a bet stack: `Pairs(i)`. By the first k terms of a table of
 // arguments in the event and, behind those, by new variables from m on: `Numbered(k, m)`.
-#[derive(Drop)]
+#[derive(Clone, Copy)]
 pub enum Replacing {
     Pairs(usize),
     Numbered(usize, usize),
@@ -111,7 +111,7 @@ fn find_pair(event: &[u8], places: &[usize], links: &[u16], i: usize, v: usize) 
 }
 
 // A variable that no pair binds, or the place in the tables of a pair that binds one.
-#[derive(Drop)]
+#[derive(Clone, Copy)]
 pub enum Bound {
     Free(usize),
     To(usize),

@@ -117,7 +117,7 @@ fn put_pair(
 }
 
 // The place after the pairs, and how many there are.
-#[derive(Drop)]
+#[derive(Clone, Copy)]
 pub struct PairsWritten {
     pub end: usize,
     pub count: usize,
@@ -190,7 +190,7 @@ fn clear(size: &mut [usize])
 }
 
 // Whether there is a unifier; the number of nodes that its tables have; the length of its count and pairs, up to 40,000.
-#[derive(Drop)]
+#[derive(Clone, Copy)]
 pub struct UnifierFound {
     pub found: bool,
     pub nodes: usize,

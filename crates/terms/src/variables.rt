@@ -14,7 +14,7 @@ use records::places::Places;
 use records::traverse::{Cursor, Top, variables_top};
 
 // Where an event's goal and its stacks stand, and how many parts a stack has.
-#[derive(Drop)]
+#[derive(Clone, Copy)]
 pub struct Frame {
     pub goal: usize,
     pub ancestors: usize,
@@ -40,14 +40,14 @@ pub fn event_frame(places: Places) -> Frame
 }
 
 // One of an event's two stacks.
-#[derive(Drop)]
+#[derive(Clone, Copy)]
 pub enum StackKind {
     Ancestors,
     Bets,
 }
 
 // What is read of a member of a stack: one more than the greatest variable up to `end`, and how many pairs follow there.
-#[derive(Drop)]
+#[derive(Clone, Copy)]
 pub struct MemberTop {
     pub top: usize,
     pub end: usize,

@@ -14,7 +14,7 @@ use terms::body::{BodyAnswer, atom_body};
 use terms::variables::event_frame;
 
 // The number that refuses a record; the event's goal is no atom; or the answer.
-#[derive(Drop)]
+#[derive(Clone, Copy)]
 pub enum BodyCase {
     Refused(u8),
     NoAtom,

@@ -4,6 +4,8 @@
 // u: an event, whose goal is an equality. 11 to 14, other, 8, none, long, or 0 and the unifier's count and pairs.
 // b: a program and an event, whose goal is an atom. 1 to 4, 11 to 14, other, 9, none, long, or 0 and the body.
 // g: an event. 11 to 14, or 0, the part that its greatest variable is in, and that variable.
+#![tactic(auto)]
+
 mod body;
 mod kind;
 mod print;

@@ -12,7 +12,7 @@ use records::put::Range;
 use terms::equality::{UnifierAnswer, unifier_under};
 
 // The number that refuses the event; its goal is no equality; or the answer.
-#[derive(Drop)]
+#[derive(Clone, Copy)]
 pub enum Unifying {
     Refused(u8),
     NoEquality,

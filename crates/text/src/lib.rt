@@ -1,4 +1,6 @@
 // Rules as text (SPECIFICATION 13): tokens, and the texts of the grammar.
+#![tactic(auto)]
+
 pub mod bytes; // bytes.rt: the classes of bytes, and question 20
 pub mod grammar; // grammar.rt: question 21
 pub mod lexer; // lexer.rt: the first token from a place on

@@ -6,7 +6,7 @@ ghost use Rattle.text.specs.declared.table.Mode.TheVariants.{Clause, Headed, Goa
 use crate::tokens::Kind;
 
 // What a list of arguments belongs to: a head, an atom or the left side of an equality, or the right side of one.
-#[derive(Drop)]
+#[derive(Clone, Copy)]
 pub enum Place {
     Head,
     Left,
@@ -15,7 +15,7 @@ pub enum Place {
 
 // Where the reading stands: before a clause; behind a head; before a goal; behind an atom, which may become the left side of an equality; behind a variable or
 // number, which must; before the right side; behind a goal; before an argument; behind an argument; outside the grammar.
-#[derive(Drop)]
+#[derive(Clone, Copy)]
 pub enum Mode {
     Clause,
     Headed,
@@ -30,7 +30,7 @@ pub enum Mode {
 }
 
 // The mode, the open argument lists and the open brackets around goals.
-#[derive(Drop)]
+#[derive(Clone, Copy)]
 pub struct State {
     pub mode: Mode,
     pub terms: usize,

@@ -3,7 +3,7 @@ ghost use Rattle.std.specs.Prelude.{◌≡◌};
 ghost use Rattle.text.specs.Parsing.Table.{end_kind, stop_kind};
 
 // A name, the names true and fail, a variable, a number, a name with the opening bracket directly behind it, the marks, what is no token, and the end of the text.
-#[derive(Drop)]
+#[derive(Clone, Copy)]
 pub enum Kind {
     Name,
     True,
@@ -23,7 +23,7 @@ pub enum Kind {
 }
 
 // The kind of a token, the range of its word (an empty one for a mark), and where the next token may start.
-#[derive(Drop)]
+#[derive(Clone, Copy)]
 pub struct Lexeme {
     pub kind: Kind,
     pub from: usize,

@@ -1,4 +1,6 @@
 // The walk program: reads a program record and a query record from standard input, and prints the text that `walk_text` makes of them.
+#![tactic(auto)]
+
 mod input; // input.rt: records from standard input
 mod output; // output.rt: a text to standard output
 

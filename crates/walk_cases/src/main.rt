@@ -1,6 +1,8 @@
 // Puts inputs of the walk program to its library, and prints a line for each: its ordinal from 1, how many bytes and lines the text has, its
 // checksum, and the text, with / for each line feed; of a text of more than 80 bytes the last line, after two dots.
 // A case is a four-byte length, high byte first, and that many bytes, at most 80,000: a whole standard input.
+#![tactic(auto)]
+
 mod shown; // shown.rt: the line of a case
 mod text; // text.rt: the text of an input, page after page
 

@@ -10,7 +10,7 @@ use walk_text::input::taken_length;
 use walk_text::text::{PAGE, is_done, next_page, whole};
 
 // The digest of a text, and how many bytes its last page has.
-#[derive(Drop)]
+#[derive(Clone, Copy)]
 pub struct Digested {
     pub digest: Digest,
     pub used: usize,

@@ -30,7 +30,7 @@ const LOG: usize = 2880;
 const FIRST_EVENT_MORE: usize = 5;
 
 // The whole text, what follows the line of an event, or nothing.
-#[derive(Drop)]
+#[derive(Clone, Copy)]
 pub enum Stage {
     Start,
     Walking,
@@ -39,7 +39,7 @@ pub enum Stage {
 
 // What is left of a text. Where the walk goes on, it stands after `step` steps at the event whose record has the first `length` bytes of `event`; the
 // line of that event is printed.
-#[derive(Drop)]
+#[derive(Clone, Copy)]
 pub struct Rest {
     pub stage: Stage,
     pub step: usize,
@@ -48,7 +48,7 @@ pub struct Rest {
 }
 
 // How many bytes of a page are used, and what is left of the text after it.
-#[derive(Drop)]
+#[derive(Clone, Copy)]
 pub struct Page {
     pub used: usize,
     pub rest: Rest,

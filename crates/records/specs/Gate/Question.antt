@@ -1,5 +1,4 @@
 -- The questions with their numbers (SPECIFICATION 7.2 to 7.7, and 13.5 of a text). A refusal names its question, so it is never 0.
-use mathlib.Core.HLevel.{Discrete}
 use Rattle.std.specs.Prelude.{ℕ, ◌+◌}
 
 -- 1 to 4, put to every record

@@ -1,6 +1,5 @@
 -- What a service works out, and what it leaves (SPECIFICATION 7.8): the question that refuses, or what is given; then a number, and the output afterwards.
 use Rattle.std.specs.Prelude.{◌≡◌, Bool, true, false, List, ◌++◌, ℕ, length, drop}
-use mathlib.Core.HLevel.{Discrete}
 use Rattle.records.specs.Gate.Question.{Question, question_number}
 use Rattle.records.specs.declared.put.Receipt.{Receipt}
 

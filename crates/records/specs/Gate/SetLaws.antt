@@ -209,10 +209,10 @@ mark_one {marks} {l} {x} m h = record {
 -- the variables of a list more
 pub mark_all : {marks k : List ℕ} (l : List ℕ) → every (λ x. ltb x 65536) l ≡ true → Marks marks k → Marks (all_marked marks l) (l ++ k)
 unfolding all_marked
-mark_all [] b m = m
+mark_all {marks} [] b m = m
 mark_all {marks} {k} (x ∷ l) b m =
     let w = and_both (ltb x 65536) (every (λ x. ltb x 65536) l) b in
-    marks_same (λ y. move y) (mark_all l w.1 (mark_one m (ltb-true x 65536 w.0)))
+    marks_same (λ y. move y) (mark_all {marks = marked marks x} l w.1 (mark_one m (ltb-true x 65536 w.0)))
   where
     move : (y : ℕ) → member y (l ++ (x ∷ k)) ≡ member y ((x ∷ l) ++ k)
     move y =

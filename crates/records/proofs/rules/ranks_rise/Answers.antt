@@ -1,0 +1,34 @@
+use Rattle.records.proofs.RuleArms.{no_rank, no_ranked, rank_room, ranks_done, ranks_fall, ranks_go}
+use mathlib.Core.Path.{refl, sym, ◌∙◌}
+use native.Mathlib.Omega.{arith}
+use Rattle.records.proofs.rules.ranks_rise.Goals as goal
+
+pub loop-left-init : goal.loop-left-init
+loop-left-init c = (refl, c.requires)
+
+pub rank_at-requires : goal.rank_at-requires
+rank_at-requires c = tt
+
+pub returns-in_default : goal.returns-in_default
+returns-in_default c = no_rank _ _ _ _ c.loop-left-test.true c.loop-left.invariant.1 c.rank_at.ensures c.in_default.is
+
+pub ranked_end-requires : goal.ranked_end-requires
+ranked_end-requires c = tt
+
+pub returns-in_default-ranked_end : goal.returns-in_default-ranked_end
+returns-in_default-ranked_end c = no_ranked _ _ _ _ c.loop-left-test.true c.loop-left.invariant.1 c.ranked_end.ensures c.in_default-ranked_end.is
+
+pub returns-then-x-low : goal.returns-then-x-low
+returns-then-x-low c = ranks_fall _ _ _ _ _ c.loop-left-test.true c.loop-left.invariant.1 c.rank_at.ensures c.in-Number.is c.ranked_end.ensures c.in-At.is c.if-x-low.true ∙ sym c.loop-left.invariant.0
+
+pub overflow_add-low : goal.overflow_add-low
+overflow_add-low c = omega (arith, rank_room _ _ _ c.type_inv.s c.rank_at.ensures c.in-Number.is)
+
+pub loop-left-smaller : goal.loop-left-smaller
+loop-left-smaller c = omega arith
+
+pub loop-left-preserved : goal.loop-left-preserved
+loop-left-preserved c = let p = ranks_go _ _ _ _ c.loop-left.low c.loop-left-test.true c.loop-left.invariant.1 c.rank_at.ensures c.in-Number.is c.ranked_end.ensures c.in-At.is (omega arith) in (c.loop-left.invariant.0 ∙ p.0, p.1)
+
+pub returns : goal.returns
+returns c = ranks_done _ _ _ _ _ (omega arith) ∙ sym c.loop-left.invariant.0

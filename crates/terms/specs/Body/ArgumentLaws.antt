@@ -85,9 +85,9 @@ next_place at (cons t ts) m (suc i) h = next_place (at + length (term_bytes t)) 
 place_stands : {s : List ℕ} {at e : ℕ} (ts : Terms) → Stands s at (terms_bytes ts) e → (m i : ℕ) → i < arity ts
     → Stands s (get_or (term_places at ts) i 0) (term_bytes (numbered ts m i)) (get_or (term_places at ts) i 0 + length (term_bytes (numbered ts m i)))
 unfolding term_places
-place_stands nil w m i h = absurd (omega arith)
-place_stands (cons t ts) w m zero h = stands_first (term_bytes t) (terms_bytes ts) w
-place_stands (cons t ts) w m (suc i) h = place_stands ts (stands_second (term_bytes t) (terms_bytes ts) w) m i (omega arith)
+place_stands {at = at} nil w m i h = absurd (omega arith)
+place_stands {at = at} (cons t ts) w m zero h = stands_first (term_bytes t) (terms_bytes ts) w
+place_stands {at = at} (cons t ts) w m (suc i) h = place_stands {at = at + length (term_bytes t)} ts (stands_second (term_bytes t) (terms_bytes ts) w) m i (omega arith)
 
 module _ {k : ℕ} {table : List ℕ} (t : TermTable k table) where
   pub table_room : k < length table

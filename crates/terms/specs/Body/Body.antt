@@ -2,7 +2,6 @@
 -- at once, and the locals become new variables.
 -- Choices: the first new variable is one definition over the whole call event, so a body depends on the program and on that event alone.
 use Rattle.std.specs.Prelude.{List, [], ◌∷◌, ◌++◌, Bool, ◌&&◌, cond, ℕ, zero, suc, ◌+◌, eqb, ltb}
-use mathlib.Core.HLevel.{Discrete}
 use Rattle.std.proofs.Math.Option.{Option, none, some}
 use Rattle.records.specs.Format.Syntax.{Terms, Goal, Ancestor, Binding, Bet, Definition, arity}
 use Rattle.records.specs.Format.Syntax.Term.{var}

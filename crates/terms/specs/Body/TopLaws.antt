@@ -16,7 +16,6 @@ use Rattle.records.specs.Format.Reader.Parts.{parts}
 use Rattle.records.specs.Format.ReaderLaws.{parts_bytes}
 use Rattle.records.specs.Format.ItemLaws.{parts_exact}
 use Rattle.records.specs.Ends.Traversal.{Node, Traversal, term_nodes, terms_nodes, goal_nodes, node_variables, traversed, traverse}
-use Rattle.records.specs.Ends.Traversal.Node.{variable}
 use Rattle.records.specs.Ends.Traversal.Traversal.{off, on}
 use Rattle.records.specs.Ends.Steps.{On, Tops}
 use Rattle.records.specs.Ends.Stands.{Stands, head_of_ancestor, head_of_bet}

@@ -1,6 +1,5 @@
 -- Question 8 and what follows it: the values of terms under a bet stack, at most 8,192 bytes each, and the unifier of two of them.
 use Rattle.std.specs.Prelude.{List, cond, ℕ, ◌≤◌, leb}
-use mathlib.Core.HLevel.{Discrete}
 use Rattle.std.proofs.Math.Option.{Option, none, some}
 use Rattle.records.specs.Format.Syntax.{Term, Binding, Bet}
 use Rattle.records.specs.Format.Syntax.Term.{var}

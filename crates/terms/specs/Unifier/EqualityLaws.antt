@@ -9,7 +9,6 @@ use borrow.Author.Tests.{le-leb, lt-leb}
 use Rattle.records.specs.Format.Syntax.{Term, Bet}
 use Rattle.records.specs.Format.Encode.{term_bytes}
 use Rattle.records.specs.Format.Formed.{All, TermFormed, BetFormed}
-use Rattle.records.specs.Gate.Question.{fits}
 use Rattle.records.specs.Gate.Reply.{on_yes, reply_with}
 use Rattle.records.specs.Writing.PatchedLaws.{put_front}
 use Rattle.records.specs.Ends.Range.{cut, size}

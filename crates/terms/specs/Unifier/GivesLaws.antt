@@ -6,7 +6,7 @@ use Rattle.terms.specs.Values.NodeBytesLaws.{each_append}
 use Rattle.records.specs.Format.Syntax.{Term, Binding}
 use Rattle.records.specs.Format.Syntax.Term.{var, app}
 use Rattle.records.specs.Format.Syntax.Binding.{bind}
-use Rattle.records.specs.Format.Encode.{word, binding_bytes, each, counted}
+use Rattle.records.specs.Format.Encode.{word, binding_bytes, each}
 use Rattle.records.specs.Writing.Patched.{Put}
 use Rattle.records.specs.Writing.PatchedLaws.{put_none, put_then}
 use Rattle.terms.specs.Theory.Substitution.{Substitution, term_length}

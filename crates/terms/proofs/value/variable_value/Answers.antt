@@ -1,0 +1,9 @@
+use Rattle.terms.specs.Values.Answered.{variable_at}
+use native.Mathlib.Omega.{arith}
+use Rattle.terms.proofs.value.variable_value.Goals as goal
+
+pub apply_bets-requires : goal.apply_bets-requires
+apply_bets-requires c = record { ruled_bets = c.requires.ruled_bets; by_index = (3, variable_at _ (omega arith)); buffers = c.requires.buffers }
+
+pub returns : goal.returns
+returns c = λ p. c.apply_bets.ensures p 3 (variable_at _ (omega arith))

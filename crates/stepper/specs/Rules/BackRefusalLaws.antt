@@ -130,6 +130,11 @@ module _ (M : Machine) where
   begins_refused : (e : Event) → AtStart e → candidate M e ≡ refused possible
   unfolding candidate
   begins_refused (event call g [] []) w = refl
+  begins_refused (event call g [] (_ ∷ _)) w = elim w [ ]
+  begins_refused (event call g (_ ∷ _) _) w = elim w [ ]
+  begins_refused (event exit g _ _) w = elim w [ ]
+  begins_refused (event fail g _ _) w = elim w [ ]
+  begins_refused (event redo g _ _) w = elim w [ ]
 
   -- where no rule leads to the event, only 7 refuses
   only_matches : (e : Event) (q : Question) → (AtStart e → ⊥) → ((N : Machine) (c : Event) → Rule N c e → ⊥) → BackRefusal M e q → q ≡ matches

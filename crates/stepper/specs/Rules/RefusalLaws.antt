@@ -134,8 +134,12 @@ module _ (M : Machine) where
 
   pub ends_refused : (e : Event) → AtEnd e → rule M e ≡ refused possible
   unfolding rule
+  ends_refused (event call g _ s) w = elim w [ ]
   ends_refused (event exit g [] s) w = refl
+  ends_refused (event exit g (_ ∷ _) s) w = elim w [ ]
   ends_refused (event fail g [] s) w = refl
+  ends_refused (event fail g (_ ∷ _) s) w = elim w [ ]
+  ends_refused (event redo g _ s) w = elim w [ ]
 
   -- every listed refusal is made
   refusal_made : (e : Event) (q : Question) → Refusal M e q → step_forward M e ≡ refused q

@@ -190,7 +190,7 @@ module _ (program : Bor (List ℕ)) (event : List ℕ) (known : Known program.no
       rw is (omega arith, w.within)
 
   pub looked_up : (part : Bor (List ℕ)) → part.now ≡ take (r.to - r.from) (drop r.from program.now) → part.ref_ptr.0 ≡ program.ref_ptr.0
-      → part.ref_ptr.1 ≡ r.from + program.ptr.1 → LookedUp part program event
+      → part.ref_ptr.1 ≡ r.from + program.ref_ptr.1 → LookedUp part program event
   unfolding part_of
   looked_up part now block place =
       let w = lookup_holds program.now event (bytes_all program.now known) in

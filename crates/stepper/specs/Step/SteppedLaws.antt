@@ -3,7 +3,7 @@ use Rattle.std.specs.Prelude.{◌≡◌, refl, false, List, ℕ, ◌≤◌, ◌<
 use Rattle.std.proofs.Math.Path.{sym, ap}
 use Rattle.std.proofs.Common.{◌∙◌, lt-ltb}
 use Rattle.std.proofs.Math.Option.{none}
-use Rattle.records.specs.Format.Syntax.{Event, event}
+use Rattle.records.specs.Format.Syntax.{Event}
 use Rattle.records.specs.Format.Encode.{event_record}
 use Rattle.records.specs.Gate.Question.{Question, fits, question_number}
 use Rattle.records.specs.Gate.Gate.{tree, read_program, read_event}

@@ -1,0 +1,32 @@
+use mathlib.Core.Path.{refl}
+use borrow.Author.Tests.{ne_eqb}
+use Rattle.stepper.specs.Plans.Numbers.{call_rule}
+use Rattle.stepper.proofs.forward.call_rule.Goals as goal
+
+pub returns-in-16 : goal.returns-in-16
+unfolding call_rule
+returns-in-16 c = rw c.in-16.is refl
+
+pub returns-in-17 : goal.returns-in-17
+unfolding call_rule
+returns-in-17 c = rw c.in-17.is refl
+
+pub returns-in-18 : goal.returns-in-18
+unfolding call_rule
+returns-in-18 c = rw c.in-18.is refl
+
+pub returns-in-19 : goal.returns-in-19
+unfolding call_rule
+returns-in-19 c = rw c.in-19.is refl
+
+pub returns-in-20 : goal.returns-in-20
+unfolding call_rule
+returns-in-20 c = rw c.in-20.is refl
+
+pub returns-in-21 : goal.returns-in-21
+unfolding call_rule
+returns-in-21 c = rw c.in-21.is refl
+
+pub returns-in_default : goal.returns-in_default
+unfolding call_rule
+returns-in_default c = rw (ne_eqb _ 0x10 c.in_default.in_default-own.rest.0.0.0.0.0.1, ne_eqb _ 0x11 c.in_default.in_default-own.rest.0.0.0.0.1, ne_eqb _ 0x12 c.in_default.in_default-own.rest.0.0.0.1, ne_eqb _ 0x13 c.in_default.in_default-own.rest.0.0.1, ne_eqb _ 0x14 c.in_default.in_default-own.rest.0.1, ne_eqb _ 0x15 c.in_default.in_default-own.rest.1) refl

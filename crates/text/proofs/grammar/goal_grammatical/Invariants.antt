@@ -1,0 +1,11 @@
+use Rattle.text.specs.Parsing.Questions.{goal_grammatical, goal_accepts}
+use Rattle.text.specs.Parsing.QuestionsLaws.{ReadTo}
+use Prim.Native.Nat.{◌-◌}
+use lib.ListN.{length}
+use Rattle.text.proofs.grammar.goal_grammatical.Given as goal
+
+abbrev pub invariant-loop-t : goal.invariant-loop-t
+invariant-loop-t l = ReadTo (goal_grammatical l.s) goal_accepts l.s l.state l.at
+
+abbrev pub decreases-loop-t : goal.decreases-loop-t
+decreases-loop-t l = length l.s - l.at

@@ -1,0 +1,12 @@
+use Rattle.text.specs.Parsing.Table.{accepts}
+use Rattle.text.specs.Parsing.Questions.{grammatical}
+use Rattle.text.specs.Parsing.QuestionsLaws.{ReadTo}
+use Prim.Native.Nat.{◌-◌}
+use lib.ListN.{length}
+use Rattle.text.proofs.grammar.grammatical.Given as goal
+
+abbrev pub invariant-loop-t : goal.invariant-loop-t
+invariant-loop-t l = ReadTo (grammatical l.s) accepts l.s l.state l.at
+
+abbrev pub decreases-loop-t : goal.decreases-loop-t
+decreases-loop-t l = length l.s - l.at

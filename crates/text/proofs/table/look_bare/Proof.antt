@@ -1,9 +1,0 @@
-use borrow.Author.Rules.{rules}
-use Rattle.text.proofs.table.look_bare.Statement.{statement}
-use Rattle.text.proofs.table.look_bare.Tie as tie
-
-returns : tie.Need-returns
-returns c = rw (c.before.make.ensures, c.before.before.bad.ensures) at c.mark_row.ensures
-
-pub look_bare_spec : {M : Type 1} → statement M
-look_bare_spec = tie.close (tie.spec (λ c κs. search rules) (λ c κs. search rules) (λ c κs. search rules) returns)

@@ -1,5 +1,5 @@
 -- What code puts together for a cell is what the cell makes of an emission.
-use Rattle.std.specs.Prelude.{◌≡◌, refl, [], ◌∷◌, ℕ, ◌-◌}
+use Rattle.std.specs.Prelude.{◌≡◌, refl, [], ◌∷◌, ℕ}
 use Rattle.records.specs.Format.Encode.{word}
 use Rattle.reader.specs.Emit.Cells.{Emission, emission, cell, emit_cell, primary}
 use Rattle.reader.specs.Emit.Emits.{with_bytes, with_symbol, with_clause, with_top, starting_kind}

@@ -1,7 +1,7 @@
 -- Laws of bytes that are put in front of others: one thing behind another, what no longer fits, and what is due.
-use Rattle.std.specs.Prelude.{◌≡◌, refl, Bool, true, false, List, [], ◌∷◌, ◌++◌, ℕ, zero, suc, ◌+◌, ◌-◌, ◌≤◌, ◌<◌, length, drop, set}
+use Rattle.std.specs.Prelude.{◌≡◌, refl, Bool, true, false, List, [], ◌∷◌, ◌++◌, ℕ, zero, suc, ◌-◌, ◌≤◌, ◌<◌, length, drop, set}
 use Rattle.std.proofs.Common.{sym, ap, ◌∙◌, append_assoc, arith, length-set}
-use Rattle.reader.specs.Emit.Cells.{behind, due}
+use Rattle.reader.specs.Emit.Cells.{due}
 use Rattle.reader.specs.Emit.Emits.{Held, Pushes}
 
 -- nothing, and one thing behind another

@@ -84,9 +84,9 @@ module _ {out after : List ℕ} {e : State} {next : ℕ} (counts brackets : List
       })
 
 module _ {out after : List ℕ} {e : State} {next : ℕ} (k : ℕ) {count : ℕ} (same : count ≡ capped k) (counts brackets : List ℕ) where
-  pub turns_symbol : {kind a : ℕ} {r : State} → Pushes out e.at (headed kind a count []) after next → r ≡ over_state e next (leb 17 count || e.over)
+  pub turns_symbol : {kind : ℕ} (a : ℕ) {r : State} → Pushes out e.at (headed kind a count []) after next → r ≡ over_state e next (leb 17 count || e.over)
       → Turns out counts brackets e after counts brackets r (with_symbol kind a k)
-  turns_symbol {kind} {a} {r} p i = record { keeps = p.keeps; counts_keep = refl; brackets_keep = refl; lower = rw i p.lower; emits = go }
+  turns_symbol {kind} a {r} p i = record { keeps = p.keeps; counts_keep = refl; brackets_keep = refl; lower = rw i p.lower; emits = go }
     where
       go : (x : Emission) → Emits out counts brackets e x → Emits after counts brackets r (with_symbol kind a k x)
       go (emission l o n ks bs c s q v) h = rw i (record {
@@ -101,9 +101,9 @@ module _ {out after : List ℕ} {e : State} {next : ℕ} (k : ℕ) {count : ℕ}
         variables_are = h.variables_are;
       })
 
-  pub turns_clause : {a : ℕ} {r : State} → Pushes out e.at (shown_clause a count e.variables []) after next → r ≡ headed_state e next (leb 17 count || e.over)
+  pub turns_clause : (a : ℕ) {r : State} → Pushes out e.at (shown_clause a count e.variables []) after next → r ≡ headed_state e next (leb 17 count || e.over)
       → Turns out counts brackets e after counts brackets r (with_clause a k)
-  turns_clause {a} {r} p i = record { keeps = p.keeps; counts_keep = refl; brackets_keep = refl; lower = rw i p.lower; emits = go }
+  turns_clause a {r} p i = record { keeps = p.keeps; counts_keep = refl; brackets_keep = refl; lower = rw i p.lower; emits = go }
     where
       go : (x : Emission) → Emits out counts brackets e x → Emits after counts brackets r (with_clause a k x)
       go (emission l o n ks bs c s q v) h = rw i (record {

@@ -1,5 +1,5 @@
 -- Names in tables: what it is for a trie and a table of numbers to hold a list of names.
-use Rattle.std.specs.Prelude.{◌≡◌, List, [], ℕ, zero, ◌+◌, ◌≤◌, ◌<◌, length, get_or}
+use Rattle.std.specs.Prelude.{◌≡◌, List, [], ℕ, ◌+◌, ◌≤◌, ◌<◌, length, get_or}
 use Rattle.reader.specs.Form.Meaning.{place, with_name}
 use Rattle.reader.specs.Names.Seek.{seek}
 use Rattle.reader.specs.Names.Trie.{trie_node, Tables, Filled, Trie}

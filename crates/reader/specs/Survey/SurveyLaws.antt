@@ -131,16 +131,13 @@ module _ {names : List (List ℕ)} {numbers list scratch : List ℕ} {count list
 
 -- the items of a text are those of the clauses, or of the goal, that it says
 pub clauses_text_items : (text : List ℕ) (cs : List ClauseTree) → Says text cs → text_items start text ≡ clauses_items cs
-unfolding text_items
 clauses_text_items text cs h = ap (items start) (reading_tokens text cs h) ∙ clauses_sorted cs h.proper
 
 pub query_text_items : (query : List ℕ) (g : GoalTree) → SaysGoal query g → text_items goal_start query ≡ goal_items g []
-unfolding text_items
 query_text_items query g h = ap (items goal_start) (goal_reading_tokens query g h) ∙ query_sorted g h.proper
 
 -- its names are words of some bytes
 pub text_named : (from : State) (s : List ℕ) → NamesSome (text_items from s)
-unfolding text_items
 text_named from s = items_named from (tokens_of s)
 
 module _ {numbers list scratch : List ℕ} {count listed : ℕ} {r : Survey} where

@@ -1,0 +1,10 @@
+-- `enter_item` goes by the number of the role.
+use mathlib.Core.Path.{sym, ◌∙◌}
+use Rattle.reader.specs.Names.NamingLaws.{entered_none}
+use Rattle.reader.proofs.names.enter_item.Goals as goal
+
+pub returns-then-takes_name : goal.returns-then-takes_name
+returns-then-takes_name c = rw (sym c.takes_name.ensures ∙ c.if-takes_name.true) c.enter_name.ensures
+
+pub returns : goal.returns
+returns c = rw (sym c.takes_name.ensures ∙ c.if-takes_name.false) (entered_none c.requires.filled.0 c.requires.filled.1)

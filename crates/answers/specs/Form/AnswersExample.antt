@@ -1,6 +1,6 @@
 -- Lists of answers, by evaluation: p(V) :- V=a ; V=b., whose query p(V) has two answers; r :- true ; r., whose exits deeper down are none; a variable that
 -- no bet binds.
-use Rattle.std.specs.Prelude.{◌≡◌, refl, List, [], ◌∷◌, ◌++◌, ℕ, ◌+◌}
+use Rattle.std.specs.Prelude.{◌≡◌, refl, List, [], ◌∷◌, ◌++◌, ℕ}
 use Rattle.std.proofs.Math.Decide.{ℕ_discrete, dec_lt}
 use Rattle.records.specs.Format.Syntax.{var, app, nil, cons, Goal, truth, equal, disj, atom, Definition, definition, goal?, event?}
 use Rattle.records.specs.Format.Encode.{record_of, goal_bytes}

@@ -1,0 +1,12 @@
+use Prim.Native.Nat.{◌+◌, ◌-◌, ◌≤◌}
+use lib.ListN.{length}
+use Rattle.terms.specs.Standing.Frames.{BetsAt}
+use Rattle.answers.specs.Writing.UsedLaws.{UsedSoFar}
+use Rattle.answers.proofs.used.used_size.Given as goal
+
+abbrev pub invariant-loop-left : goal.invariant-loop-left
+invariant-loop-left l =
+    ((b : BetsAt l.event l.at l.n) → UsedSoFar l.event b.items l.pos l.left l.size) × (l.size.count + (length l.event - l.pos) ≤ length l.event) × (l.size.length + (length l.event - l.pos) ≤ length l.event)
+
+abbrev pub decreases-loop-left : goal.decreases-loop-left
+decreases-loop-left l = l.left

@@ -1,6 +1,5 @@
 -- The measure is the number of cases that are left before the limit. Nothing has to hold from case to case.
 use Prim.Native.Nat.{◌-◌}
-use borrow.Author.Rules.{rules}
 use Rattle.answers_cases.proofs.main.Given as goal
 
 abbrev pub invariant-loop-ordinal : goal.invariant-loop-ordinal

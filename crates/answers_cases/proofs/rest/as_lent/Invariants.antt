@@ -3,9 +3,6 @@ use Prim.Native.Nat.{◌+◌, ◌≤◌, ◌-◌}
 use mathlib.Core.Path.{◌≡◌}
 use lib.ListN.{length, drop}
 use Rattle.answers_cases.specs.Rest.{as_lent}
-use Rattle.answers_cases.specs.RestLaws.{lent_turn, lent_stops, lent_done}
-use native.Mathlib.Omega.{arith}
-use borrow.Author.Rules.{rules}
 use Rattle.answers_cases.proofs.rest.as_lent.Given as goal
 
 abbrev pub invariant-loop-i : goal.invariant-loop-i

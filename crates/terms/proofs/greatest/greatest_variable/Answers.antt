@@ -1,6 +1,10 @@
 -- `greatest_variable` takes what is above each part.
 use Rattle.terms.specs.Body.TopLaws.{goal_on, goal_top}
+use Rattle.std.proofs.Common.{rules}
 use Rattle.terms.proofs.greatest.greatest_variable.Goals as goal
+
+pub stack_top-bets-requires : goal.stack_top-bets-requires
+stack_top-bets-requires c = search rules
 
 pub variables_top-goal-requires : goal.variables_top-goal-requires
 variables_top-goal-requires c = goal_on c.requires.goal

@@ -2,7 +2,7 @@
 -- event e, reached or not, with at most n steps and the output `out`, and `written` is the record that it writes. `DoorOf e d` says that d is a call of
 -- the goal of e with the ancestors of e, whatever its bets, and `EndsSo` why a way ends. `Program`, `Start`, `Move` and `served` are those of `Demands`,
 -- and `EndsAt` is that of `Training`: the list of steps ms from q's first event ends at e. `DoorExample` has ways.
-use Rattle.std.specs.Prelude.{◌≡◌, List, ◌++◌, ◌⊎◌, ℕ, ◌+◌, ◌<◌, ◌≤◌, length, drop}
+use Rattle.std.specs.Prelude.{◌≡◌, List, ◌++◌, ◌⊎◌, ℕ, ◌<◌, ◌≤◌, length, drop}
 use Rattle.std.proofs.Common.{ap, inl, inr, arith}
 use Rattle.std.proofs.Math.Decide.{dec_le}
 use Rattle.records.specs.Format.HeadLaws.{Bytes}

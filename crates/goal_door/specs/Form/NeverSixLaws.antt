@@ -1,13 +1,13 @@
 -- A way never ends with 6: where steps back from an event lead to a call with both stacks empty, that is the first event of its goal as a query, so the event
 -- is reached from it, and a reached event has its door at its query's first event or after it. Nor is a step back refused by 32.
-use Rattle.std.specs.Prelude.{◌≡◌, Bool, true, false, [], ℕ, ◌≤◌, ltb, length}
+use Rattle.std.specs.Prelude.{◌≡◌, Bool, true, false, [], ◌∷◌, ℕ, ◌≤◌, ltb, length}
 use Rattle.std.proofs.Math.Path.{refl, subst}
 use Rattle.std.proofs.Common.{sym, ◌∙◌, inl, inr, zero-add, arith}
 use Rattle.std.proofs.Math.Option.{some}
 use Rattle.std.proofs.Math.Decide.{dec_le}
 use Rattle.records.specs.Format.Encode.{event_record}
 use Rattle.records.specs.Format.Never.{never}
-use Rattle.records.specs.Format.Syntax.{Goal, call, Event, event}
+use Rattle.records.specs.Format.Syntax.{Goal, call, exit, fail, redo, Event, event}
 use Rattle.records.specs.Gate.Question.{Question, possible, fits, allowed}
 use Rattle.stepper.specs.Rules.BackRefusalLaws.{back_refused_iff}
 use Rattle.stepper.specs.Rules.Machine.{Machine, Admits, LimitLaws, refused}
@@ -52,14 +52,25 @@ not_allowed M ten d h = go d allowed refl ((back_refused_iff M d allowed).0 h)
 -- a step back that is refused by 6 is one from a query's first event
 six_first : (M : Machine) → LimitIsTen M → (d : Event) → step_back M d ≡ refused possible → (g : Goal) × (first_event g ≡ d)
 unfolding first_event
-six_first M ten d h = go ((back_refused_iff M d possible).0 h)
+six_first M ten d h = go d possible refl ((back_refused_iff M d possible).0 h)
   where
     first : (d : Event) → AtStart d → (g : Goal) × (first_event g ≡ d)
     first (event call g [] []) s = (g, refl)
+    first (event call g [] (_ ∷ _)) s = elim s [ ]
+    first (event call g (_ ∷ _) _) s = elim s [ ]
+    first (event exit g _ _) s = elim s [ ]
+    first (event fail g _ _) s = elim s [ ]
+    first (event redo g _ _) s = elim s [ ]
 
-    go : BackRefusal M d possible → (g : Goal) × (first_event g ≡ d)
-    go (walk_begins s) = first d s
-    go (candidate_refused {c = c} k u l) = let t = ten c possible l in never cc
+    go : (d : Event) (q : Question) → q ≡ possible → BackRefusal M d q → (g : Goal) × (first_event g ≡ d)
+    go d q e (walk_begins s) = first d s
+    go d q e (no_right_side s n) = never cc
+    go d q e (exit_value_too_large k) = never cc
+    go d q e (fail_value_too_large k) = never cc
+    go d q e (body_local_too_large k) = never cc
+    go d q e (fail_local_too_large k) = never cc
+    go d q e (candidate_refused {c = c} k u l) = let t = ten c q l in never cc
+    go d q e (leads_elsewhere k l n) = never cc
 
 module _ (M : Machine) (limits : LimitLaws M) (ten : LimitIsTen M) (e : Event) (n : ℕ) where
   abbrev way : RunEnd

@@ -1,0 +1,12 @@
+-- `put_sorted`: the clauses' entries, listed and then sorted, have the whole program to make.
+use Rattle.canonical.specs.Sorting.RemainingLaws.{clauses_stand, ordered_remaining}
+use Rattle.canonical.proofs.service.put_sorted.Goals as goal
+
+pub list_clauses-requires : goal.list_clauses-requires
+list_clauses-requires c = clauses_stand _ c.type_inv.s c.requires.accepted _ c.requires.table_len
+
+pub put_program-requires : goal.put_program-requires
+put_program-requires c = record { remaining = ordered_remaining c.type_inv.s c.requires.accepted (c.list_clauses.ensures (clauses_stand _ c.type_inv.s c.requires.accepted _ c.requires.table_len)) c.sort.ensures; in_bounds = c.requires.in_bounds }
+
+pub returns : goal.returns
+returns c = c.put_program.ensures

@@ -1,6 +1,6 @@
 /* The rule desk for C and C++: walks of pure Prolog queries by the four-port calculus, forward and back.
  *
- * Link with libfourport.a, which `rt staticlib fourport` makes for x86-64 Linux; it needs memcpy and memset of the C library and nothing else.
+ * Link with libfourport.a, which `host/archive` makes for x86-64 Linux; it needs memcpy and memset of the C library and nothing else.
  * What is said here of an answer, of what is written and of what stays untouched is proved for every input; see the contracts in crates/fourport.
  * The inline functions are not in the archive, and nothing is proved of them.
  *
@@ -41,7 +41,7 @@
  *  - What is written (`out`, `names`, `named`, `taken`, `written`, `at`, `part`, `greatest`, `counts`) overlaps nothing else that the call is given. What
  *    is only read may overlap.
  *  - Nobody else writes any of it during the call, or reads what the call writes.
- *  - The thread has the stack, of which nothing is proved: the deepest calls we know of need 1,616 KiB, so give 4 MiB. Linux gives a main thread 8.
+ *  - The thread has the stack, of which nothing is proved: the deepest calls we know of need some 1,616 KiB, so give 4 MiB. Linux gives a main thread 8.
  *
  * There is no state between calls, no heap and no input or output: calls on different data may run at the same time in any number of threads.
  * Every call ends.

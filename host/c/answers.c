@@ -1,7 +1,7 @@
 /* Prints every answer of a query: the value of each of its variables as the bytes of a term, and the branches and bodies that gave it, the oldest first.
  * The file has two records, the program and behind it the query, as those under examples/ have.
  *
- *   rt staticlib fourport
+ *   host/archive
  *   cc -std=c99 -Wall -Wextra -Iinclude host/c/answers.c target/staticlib/libfourport.a -o target/c-answers
  *   target/c-answers examples/one-bay.in
  */

@@ -1,6 +1,6 @@
 /* Reads rules and a query as text, and prints the names by number and the two records.
  *
- *   rt staticlib fourport
+ *   host/archive
  *   cc -std=c99 -Wall -Wextra -Iinclude host/c/read.c target/staticlib/libfourport.a -o target/c-read
  *   target/c-read examples/one-bay.pl examples/one-bay.query
  */

@@ -2,7 +2,7 @@
  * how many ancestors its goal stands.
  * The file has two records, the program and behind it the query, as those under examples/ have.
  *
- *   rt staticlib fourport
+ *   host/archive
  *   cc -std=c99 -Wall -Wextra -Iinclude host/c/walk.c target/staticlib/libfourport.a -o target/c-walk
  *   target/c-walk examples/one-bay.in
  */

@@ -1,4 +1,4 @@
-//! Links the desk's archive: the one that FOURPORT_ARCHIVE names, else the one that `rt staticlib fourport` writes.
+//! Links the desk's archive: the one that FOURPORT_ARCHIVE names, else the one that `host/archive` makes.
 //!
 //! Without an archive there is a warning that says how to make it. Documents and checks need none; what is linked then fails by the library's name.
 
@@ -31,8 +31,8 @@ fn copied() -> Result<(), String> {
     }
     fs::copy(&archive, copy).map(|_| ()).map_err(|_| {
         format!(
-            "there is no archive of the desk at {}: no program that uses fourport can be linked. `rt staticlib fourport`, run in the repository's \
-             root, makes the archive; FOURPORT_ARCHIVE, a whole path from the root of the file system, names one that stands elsewhere",
+            "there is no archive of the desk at {}: no program that uses fourport can be linked. `host/archive`, run in the repository's root, makes \
+             the archive; FOURPORT_ARCHIVE, a whole path from the root of the file system, names one that stands elsewhere",
             archive.display()
         )
     })

@@ -1,5 +1,5 @@
 //! The walk program itself, as it is built: the stored inputs of crates/walk_cases through a pipe, pipes that stay open, and outputs that are closed.
-//! The program is `target/bin/walk` of the repository, which `rt check walk` makes, or the one that FOURPORT_WALK names. The form of the stored
+//! The program is `target/bin/walk` of the repository, which `host/walk` makes, or the one that FOURPORT_WALK names. The form of the stored
 //! inputs and lines stands at the top of tools/walk-cases.
 
 use std::env;
@@ -25,7 +25,7 @@ fn repository() -> PathBuf {
 
 fn walk_program() -> PathBuf {
     let path = env::var_os("FOURPORT_WALK").map_or_else(|| repository().join("target/bin/walk"), PathBuf::from);
-    assert!(path.exists(), "there is no program at {}: `rt check walk`, run in the repository's root, makes it", path.display());
+    assert!(path.exists(), "there is no program at {}: `host/walk`, run in the repository's root, makes it", path.display());
     path
 }
 

@@ -1,4 +1,4 @@
-//! The rule desk for Rust: safe calls into its proved archive (`rt staticlib fourport`).
+//! The rule desk for Rust: safe calls into its proved archive (`host/archive` makes it).
 //!
 //! The desk walks a query through pure Prolog clauses, one port event after another (call, exit, fail, redo), forward and back. Every answer is the
 //! proved code's; this crate lends it memory and gives its numbers names.

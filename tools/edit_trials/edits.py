@@ -1,8 +1,8 @@
 """Must-fail edits: replacements of text in the files of one crate, as rt reads and applies them."""
 import glob, os, re
 
-# what is no code: contracts, what they import, comments
-NO_CODE = re.compile(r'\b(?:requires|ensures)\b[^{]*\{.*?⌝ \}|ghost use [^;]*;|//[^\n]*', re.S)
+# what is no code: contracts, a clause from its word to the end of a line that closes it; what they import; what tells the prover how; comments
+NO_CODE = re.compile(r'^ *(?:requires|ensures)\b.*?\}$|ghost use [^;]*;|#!?\[tactic\([^\n]*\)\]|//[^\n]*', re.M | re.S)
 
 
 class Unfit(Exception):

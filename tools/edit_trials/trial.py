@@ -1,9 +1,9 @@
 """What an edit does to the lines of the stored cases."""
-import os, shutil, subprocess, tempfile
+import os, shutil, tempfile
 from itertools import zip_longest
 
 from edit_trials.edits import Unfit, apply
-from edit_trials.kit import built
+from edit_trials.kit import printed
 
 # the programs whose stored cases ask what a crate answers; what records writes is asked for by way of the stepper
 PROGRAMS = {
@@ -17,7 +17,6 @@ PROGRAMS = {
     'reader': ['reader_cases'],
     'walk_text': ['walk_cases'],
 }
-SECONDS = 60
 
 
 def copied(root, folder):
@@ -30,17 +29,6 @@ def copied(root, folder):
                 shutil.copytree(source, os.path.join(folder, 'crates', crate, part))
 
 
-def printed(words, stdin):
-    with open(stdin, 'rb') as cases:
-        try:
-            ended = subprocess.run(words, stdin=cases, stdout=subprocess.PIPE, stderr=subprocess.DEVNULL, timeout=SECONDS)
-        except subprocess.TimeoutExpired:
-            raise Unfit(f'the program does not end within {SECONDS} s')
-    if ended.returncode:
-        raise Unfit(f'the program ends with status {ended.returncode}')
-    return ended.stdout.decode(errors='replace').split('\n')
-
-
 def differences(root, program, crate=None, edit=None):
     """number, stored text and printed text of each line of a program that an edit of a crate changes"""
     stored = os.path.join(root, 'crates', program)
@@ -48,10 +36,12 @@ def differences(root, program, crate=None, edit=None):
         copied(root, folder)
         if edit:
             apply(edit, os.path.join(folder, 'crates', crate))
-        got = printed(built(folder, program), os.path.join(stored, 'stdin'))
+        fault, text = printed(folder, program, os.path.join(stored, 'stdin'))
+    if fault:
+        raise Unfit(f'the program {fault}')
     with open(os.path.join(stored, 'stdout')) as f:
         want = f.read().split('\n')
-    pairs = enumerate(zip_longest(want, got, fillvalue=''), 1)
+    pairs = enumerate(zip_longest(want, text.split('\n'), fillvalue=''), 1)
     return [(number, old, new) for number, (old, new) in pairs if old != new]
 
 

@@ -2,9 +2,21 @@
 import difflib
 import re
 
-CRATES = {'R': 'records', 'T': 'terms', 'S': 'stepper', 'A': 'answers', 'D': 'goal_door', 'C': 'canonical', 'X': 'text', 'E': 'reader', 'W': 'walk_text', 'P': 'walk'}
+CRATES = {
+    'R': 'records',
+    'T': 'terms',
+    'S': 'stepper',
+    'A': 'answers',
+    'M': 'meaning',
+    'D': 'goal_door',
+    'C': 'canonical',
+    'X': 'text',
+    'E': 'reader',
+    'W': 'walk_text',
+    'P': 'walk',
+}
 QUOTED = re.compile(r'`([^`]+)`')
-FILES = re.compile(r'\b([RTSADCXEWP])/((?:[A-Z]\w*/)*[A-Z]\w*)((?: \(?`[^`]+`(?:, `[^`]+`)*)?)')
+FILES = re.compile(r'\b([RTSAMDCXEWP])/((?:[A-Z]\w*/)*[A-Z]\w*)((?: \(?`[^`]+`(?:, `[^`]+`)*)?)')
 EDITS = re.compile(r'must-fail ((?:`[a-z_0-9]+`(?:, )?)+)')
 FUNCTIONS = re.compile(r'\bfn ((?:`[a-z_0-9]+`(?:, )?)+)')
 

@@ -1,0 +1,12 @@
+-- `fourport_value` hands on what `value` answers; a value's length fits four bytes.
+use native.Mathlib.Omega.{arith}
+use lib.ListN.{length}
+use Rattle.records.specs.Gate.Gate.{read_event}
+use Rattle.fourport.specs.AnswerLaws.{value_short}
+use borrow.Author.Rules.{rules}
+use Rattle.fourport.proofs.look.fourport_value.Goals as goal
+
+pub overflow_cast-written : goal.overflow_cast-written
+overflow_cast-written c =
+    let short = value_short (read_event c.args.event.now) (length c.args.out.now) c.args.v in
+    record { fits = omega (arith, c.value-receipt.ensures.length_is, short) }

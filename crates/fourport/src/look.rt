@@ -24,7 +24,7 @@ pub extern "C" fn fourport_value(event: &[u8], v: u16, out: &mut [u8], written: 
 // How many bytes of the program the definition has that the event's goal names, 0 if there is none. Where it starts is left in `at`.
 #[unsafe(no_mangle)]
 pub extern "C" fn fourport_lookup(program: &[u8], event: &[u8], at: &mut usize) -> usize
-    ensures { record { at = at.exit.now; size = result } ≡ lookup program.now event.now }
+    ensures { record { at = at.new; size = result } ≡ lookup program.now event.now }
 {
     let range = lookup_range(program, event);
     *at = range.from;

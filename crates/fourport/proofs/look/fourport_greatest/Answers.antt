@@ -2,7 +2,6 @@
 use native.Mathlib.Omega.{arith}
 use mathlib.Core.Path.{ap}
 use Rattle.terms.specs.Body.GreatestServiceLaws.{greatest_small}
-use borrow.Author.Rules.{rules}
 use Rattle.fourport.proofs.look.fourport_greatest.Goals as goal
 
 pub overflow_cast-greatest : goal.overflow_cast-greatest

@@ -1,5 +1,4 @@
 -- `fourport_lookup` hands on the range that `lookup_range` finds, as a place and a size.
-use borrow.Author.Rules.{rules}
 use Rattle.fourport.specs.AnswerLaws.{range_in_order, part_of_range}
 use Rattle.fourport.proofs.look.fourport_lookup.Goals as goal
 

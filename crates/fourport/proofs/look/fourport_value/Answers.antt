@@ -3,7 +3,6 @@ use native.Mathlib.Omega.{arith}
 use lib.ListN.{length}
 use Rattle.records.specs.Gate.Gate.{read_event}
 use Rattle.fourport.specs.AnswerLaws.{value_short}
-use borrow.Author.Rules.{rules}
 use Rattle.fourport.proofs.look.fourport_value.Goals as goal
 
 pub overflow_cast-written : goal.overflow_cast-written

@@ -2,6 +2,3 @@
 pub mod Reading
 pub mod ReadingLaws
 pub mod ExitLaws
-pub mod ListLaws
-pub mod FormedLaws
-pub mod BytesLaws

@@ -5,4 +5,3 @@ pub mod FaithfulLaws
 pub mod ExtendedLaws
 pub mod RightLaws
 pub mod InwardLaws
-pub mod WholeLaws

@@ -29,7 +29,7 @@ use Rattle.canonical.specs.Form.Canonical.{canonical}
 use Rattle.meaning.specs.Says.Holds.{equal_holds, both_hold, atom_holds, ClauseBody, Follows}
 use Rattle.meaning.specs.Says.ClausesLaws.{follows_holds}
 use Rattle.meaning.specs.Solutions.Faithful.{Faithful, New}
-use Rattle.meaning.specs.Solutions.WholeLaws.{failed_never}
+use Rattle.meaning.proofs.WholeLaws.{failed_never}
 
 -- constants 1 and 2, g of a term, the query's variable
 abbrev one : Term

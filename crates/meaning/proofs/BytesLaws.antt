@@ -33,8 +33,8 @@ use Rattle.meaning.specs.Solutions.FaithfulLaws.{desk_faithful, desk_new}
 use Rattle.meaning.specs.Answers.Reading.{SolutionFormed, KeptAre, RightAnswer, WholeList}
 use Rattle.meaning.specs.Answers.ReadingLaws.{one_reading}
 use Rattle.meaning.specs.Answers.ExitLaws.{ExitReached}
-use Rattle.meaning.specs.Answers.FormedLaws.{solution_formed}
-use Rattle.meaning.specs.Answers.ListLaws.{told_all, told_exits, told_right, told_whole}
+use Rattle.meaning.proofs.FormedLaws.{solution_formed}
+use Rattle.meaning.proofs.ListLaws.{told_all, told_exits, told_right, told_whole}
 
 -- the length of a first event
 first_length : (q : Goal) → length (event_record (first_event (all_of q))) ≡ 10 + length (goal_bytes q)

@@ -29,9 +29,9 @@ use Rattle.meaning.specs.Says.ClausesLaws.{holds_follows, follows_holds}
 use Rattle.meaning.specs.Solutions.FaithfulLaws.{desk_faithful, desk_new}
 use Rattle.meaning.specs.Solutions.General.{AsGeneral}
 use Rattle.meaning.specs.Solutions.RightLaws.{reached_right}
-use Rattle.meaning.specs.Solutions.WholeLaws.{reached_whole, failed_never}
+use Rattle.meaning.proofs.WholeLaws.{reached_whole, failed_never}
 use Rattle.meaning.specs.Answers.Reading.{KeptAre, RightAnswer, WholeList}
-use Rattle.meaning.specs.Answers.BytesLaws.{kept_one_list, kept_right, kept_whole, right_by, whole_by}
+use Rattle.meaning.proofs.BytesLaws.{kept_one_list, kept_right, kept_whole, right_by, whole_by}
 
 -- What holds, holds however its variables are filled; and clauses say what their canonical form says.
 pub holds_however_filled : (P : List Definition) (θ : Substitution) (g : Goal) → Holds P g → Holds P (substitute_goal θ g)

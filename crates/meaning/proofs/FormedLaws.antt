@@ -12,7 +12,7 @@ use Rattle.answers.specs.Writing.MarkedLaws.{all_append, variables_formed, varia
 use Rattle.answers.specs.Writing.SolvedLaws.{pairs_length}
 use Rattle.answers.specs.Writing.Values.{value_pairs}
 use Rattle.meaning.specs.Answers.Reading.{SolutionFormed}
-use Rattle.meaning.specs.Answers.ListLaws.{values_are}
+use Rattle.meaning.proofs.ListLaws.{values_are}
 
 -- what was used is among the bets,
 used_formed : (s : List Bet) → All BetFormed s → All BetFormed (used_of s)

@@ -39,7 +39,7 @@ use Rattle.meaning.specs.Says.HoldsLaws.{holds_same}
 use Rattle.meaning.specs.Solutions.Faithful.{Faithful, New}
 use Rattle.meaning.specs.Solutions.General.{AsGeneral}
 use Rattle.meaning.specs.Solutions.RightLaws.{reached_right}
-use Rattle.meaning.specs.Solutions.WholeLaws.{reached_whole}
+use Rattle.meaning.proofs.WholeLaws.{reached_whole}
 use Rattle.meaning.specs.Answers.Reading.{RightAnswer, WholeList}
 use Rattle.meaning.specs.Answers.ExitLaws.{ExitReached, exits_reached, reached_in}
 

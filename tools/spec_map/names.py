@@ -8,6 +8,7 @@ CRATES = {
     'S': 'stepper',
     'A': 'answers',
     'M': 'meaning',
+    'N': 'meaning',
     'D': 'goal_door',
     'C': 'canonical',
     'X': 'text',
@@ -15,8 +16,10 @@ CRATES = {
     'W': 'walk_text',
     'P': 'walk',
 }
+# of these the theorems in `proofs` are meant
+PROVED = {'N'}
 QUOTED = re.compile(r'`([^`]+)`')
-FILES = re.compile(r'\b([RTSAMDCXEWP])/((?:[A-Z]\w*/)*[A-Z]\w*)((?: \(?`[^`]+`(?:, `[^`]+`)*)?)')
+FILES = re.compile(r'\b([RTSAMNDCXEWP])/((?:[A-Z]\w*/)*[A-Z]\w*)((?: \(?`[^`]+`(?:, `[^`]+`)*)?)')
 EDITS = re.compile(r'must-fail ((?:`[a-z_0-9]+`(?:, )?)+)')
 FUNCTIONS = re.compile(r'\bfn ((?:`[a-z_0-9]+`(?:, )?)+)')
 
@@ -44,7 +47,7 @@ class Names:
     def __init__(self, root):
         self.files = {}
         for letter, crate in CRATES.items():
-            folder = root / 'crates' / crate / 'specs'
+            folder = root / 'crates' / crate / ('proofs' if letter in PROVED else 'specs')
             for path in sorted(folder.rglob('*.antt')):
                 self.files[f'{letter}/{path.relative_to(folder).with_suffix("")}'] = defined(path.read_text())
         code = '\n'.join(path.read_text() for path in sorted(root.glob('crates/*/src/**/*.rt')))

@@ -63,7 +63,7 @@
 //! programs of your own, read them from text.
 //!
 //! # Stack
-//! The desk recurses on nested terms. The deepest calls that we know need 1,616 KiB of native stack; a thread of [`STACK`] bytes has enough. The main thread of a
+//! The desk recurses on nested terms. The deepest calls that we know need 1,128 KiB of native stack; a thread of [`STACK`] bytes has enough. The main thread of a
 //! Linux program usually has 8 MiB, Rust's other threads 2 MiB unless asked for more. A call that runs out of stack ends the process.
 //!
 //! # Panics

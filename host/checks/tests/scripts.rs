@@ -1,7 +1,7 @@
 //! The scripts that make the desk, on machines that are made up: a PATH with a few commands of this one, and with a dpkg, an apt-get, a sudo and a user
 //! that only tell what they were asked.
 
-use std::os::unix::fs::{symlink, PermissionsExt};
+use std::os::unix::fs::PermissionsExt;
 use std::path::{Path, PathBuf};
 use std::process::Command;
 use std::{env, fs};
@@ -37,10 +37,8 @@ impl Machine {
         let _ = fs::remove_dir_all(&folder);
         let machine = Machine { path: folder.join("bin"), log: folder.join("log") };
         fs::create_dir_all(&machine.path).expect("a folder");
-        for name in COMMANDS {
-            symlink(found(name), machine.path.join(name)).expect("a link");
-        }
-        machine
+        // no links, since the gate lets none stand in the repository
+        COMMANDS.iter().fold(machine, |machine, name| machine.with(name, &format!("exec {} \"$@\"", found(name).display())))
     }
 
     fn with(self, name: &str, code: &str) -> Machine {

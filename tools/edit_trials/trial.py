@@ -16,6 +16,7 @@ PROGRAMS = {
     'text': ['reader_cases'],
     'reader': ['reader_cases'],
     'walk_text': ['walk_cases'],
+    'case_io': ['records_cases', 'walk_cases'],
 }
 
 

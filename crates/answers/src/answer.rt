@@ -1,23 +1,23 @@
 // One answer: the values of the query's variables, and the bodies and branches used. It is measured, refused by 8 or 10, and then written.
 ghost use Rattle.std.specs.Prelude.{◌≡◌, ◌≤◌, ◌<◌, length};
 ghost use Rattle.records.specs.Format.Formed.{All};
+ghost use Rattle.records.specs.Gate.Receipt.{receipt_of};
 ghost use Rattle.records.specs.Gate.Reply.{Receipted};
 ghost use Rattle.records.specs.Writing.Patched.{Put};
 ghost use Rattle.terms.specs.Standing.BetRow.{RuledBets};
 ghost use Rattle.terms.specs.Theory.Outcome.{value_limit};
 ghost use Rattle.terms.specs.Values.Answered.{Buffers};
 ghost use Rattle.terms.specs.Values.Entries.{PairsListed};
-ghost use Rattle.terms.specs.Values.Links.{PairsLinked};
+ghost use Rattle.terms.specs.Values.Pairs.{PairsOf};
 ghost use Rattle.answers.specs.Form.Answer.{solution_for, solution_into, solution_bytes};
 ghost use Rattle.answers.specs.Writing.Solved.{solution_of, SolutionFits};
 
 use crate::used::{UsedSize, put_used, used_size};
 use crate::values::{put_value_pairs, values_length};
-use records::put::{Receipt, put_word};
-use records::questions::{DONE, FITS, VALUES};
+use records::put::put_word;
+use records::questions::Refusal;
 use terms::links::link_pairs;
-use terms::pairs::list_bets;
-use terms::substitute::Sized;
+use terms::pairs::{ListedPair, PairList, list_bets};
 use terms::tables::LINKS;
 
 // The two counts of an answer.
@@ -25,74 +25,48 @@ const COUNTS: usize = 4;
 
 // Writes an answer that is given and fits.
 fn write_answer(
-    event: &[u8],
     at: usize,
     n: usize,
-    places: &[usize],
-    firsts: &[usize],
-    k: usize,
-    links: &[u16],
+    pairs: PairList<'_>,
     variables: &[usize],
     value: &mut [u8],
     used: UsedSize,
     out: &mut [u8],
 ) -> usize
-    requires pairs_listed { (p : RuledBets event.now at n) × PairsListed p.row.items event.now places.now firsts.now k × SolutionFits variables.now p.row.items used (length out.old) }
+    requires pairs_of { (p : RuledBets pairs.event.now at n) × PairsOf p.row.items pairs × SolutionFits variables.now p.row.items used (length out.old) }
     requires all { All (λ v. v < 65536) variables.now }
     requires value_len { length value.old ≡ value_limit }
-    requires pairs_linked { PairsLinked event.now places.now k links.now }
-    ensures { (p : RuledBets event.now at n) → PairsListed p.row.items event.now places.now firsts.now k → SolutionFits variables.now p.row.items used (length out.old) → Put out.old 0 (solution_bytes (solution_of variables.now p.row.items)) out.new result }
+    ensures { (p : RuledBets pairs.entry.event.now at n) → PairsOf p.row.items pairs.entry → SolutionFits variables.now p.row.items used (length out.old) → Put out.old 0 (solution_bytes (solution_of variables.now p.row.items)) out.new result }
 {
     let pairs_at = put_word(out, 0, variables.len());
-    let count_at = put_value_pairs(
-        event, places, firsts, k, links, variables, value, out, pairs_at,
-    );
+    let count_at = put_value_pairs(pairs, variables, value, out, pairs_at);
     let used_at = put_word(out, count_at, used.count);
     let end = used_at + used.length;
-    put_used(event, at, n, out, end);
+    put_used(pairs.event, at, n, out, end);
     end
 }
 
 // The answer by pairs that are listed and linked.
 fn answer_by(
-    event: &[u8],
     at: usize,
     n: usize,
-    places: &[usize],
-    firsts: &[usize],
-    k: usize,
-    links: &[u16],
+    pairs: PairList<'_>,
     variables: &[usize],
     value: &mut [u8],
     out: &mut [u8],
-) -> Receipt
-    requires pairs_listed { (p : RuledBets event.now at n) × PairsListed p.row.items event.now places.now firsts.now k }
-    requires pairs_linked { PairsLinked event.now places.now k links.now }
-    requires event_len_bound { (length event.now ≤ 32768) × (length value.old ≡ value_limit) }
+) -> Result<usize, Refusal>
+    requires pairs_of { (p : RuledBets pairs.event.now at n) × PairsOf p.row.items pairs }
+    requires event_len_bound { (length pairs.event.now ≤ 32768) × (length value.old ≡ value_limit) }
     requires all { All (λ v. v < 65536) variables.now }
     requires variables_len_bound { length variables.now ≤ 65535 }
-    ensures { (p : RuledBets event.now at n) → PairsListed p.row.items event.now places.now firsts.now k → Receipted (λ b. b) (solution_into (length out.old) (solution_for variables.now p.row.items)) out.old result out.new }
+    ensures { (p : RuledBets pairs.entry.event.now at n) → PairsOf p.row.items pairs.entry → Receipted (λ b. b) (solution_into (length out.old) (solution_for variables.now p.row.items)) out.old (receipt_of result) out.new }
 {
-    let Sized::Fits(pairs) = values_length(event, places, firsts, k, links, variables, value) else {
-        return Receipt {
-            number: VALUES,
-            length: 0,
-        };
-    };
-    let used = used_size(event, at, n);
-    if out.len() < COUNTS + pairs + used.length {
-        return Receipt {
-            number: FITS,
-            length: 0,
-        };
+    let size = values_length(pairs, variables, value).ok_or(Refusal::Values)?;
+    let used = used_size(pairs.event, at, n);
+    if out.len() < COUNTS + size + used.length {
+        return Err(Refusal::Fits);
     }
-    let length = write_answer(
-        event, at, n, places, firsts, k, links, variables, value, used, out,
-    );
-    Receipt {
-        number: DONE,
-        length,
-    }
+    Ok(write_answer(at, n, pairs, variables, value, used, out))
 }
 
 // The answer by pairs that are listed; they are linked here.
@@ -100,63 +74,57 @@ fn linked_answer(
     event: &[u8],
     at: usize,
     n: usize,
-    places: &[usize],
-    firsts: &[usize],
-    k: usize,
+    entries: &[ListedPair],
     variables: &[usize],
     value: &mut [u8],
     out: &mut [u8],
-) -> Receipt
-    requires pairs_listed { (p : RuledBets event.now at n) × PairsListed p.row.items event.now places.now firsts.now k }
+) -> Result<usize, Refusal>
+    requires pairs_listed { (p : RuledBets event.now at n) × PairsListed p.row.items event.now entries.now (length entries.now) }
     requires event_len_bound { (length event.now ≤ 32768) × (length value.old ≡ value_limit) }
     requires all { All (λ v. v < 65536) variables.now }
     requires variables_len_bound { length variables.now ≤ 65535 }
-    ensures { (p : RuledBets event.now at n) → PairsListed p.row.items event.now places.now firsts.now k → Receipted (λ b. b) (solution_into (length out.old) (solution_for variables.now p.row.items)) out.old result out.new }
+    ensures { (p : RuledBets event.now at n) → PairsListed p.row.items event.now entries.now (length entries.now) → Receipted (λ b. b) (solution_into (length out.old) (solution_for variables.now p.row.items)) out.old (receipt_of result) out.new }
 {
     let mut links: [u16; LINKS] = [0; LINKS];
-    link_pairs(event, places, k, &mut links);
-    answer_by(
-        event, at, n, places, firsts, k, &links, variables, value, out,
-    )
+    link_pairs(event, entries, &mut links);
+    let pairs = PairList {
+        event,
+        entries,
+        links: &links,
+    };
+    answer_by(at, n, pairs, variables, value, out)
 }
 
 // Where variables times pairs are fewer, the pairs are not linked: to look through them costs less than to clear a table for links.
 const FEW_LOOKS: usize = 1024;
 
-// The answer at an exit with n bets at a position, from the start of the output on. The tables are for the pairs of the bets, which are listed once, and
+// The answer at an exit with n bets at a position, from the start of the output on. The table is for the pairs of the bets, which are listed once, and
 // the buffer is for a value.
 pub fn put_answer(
     event: &[u8],
     at: usize,
     n: usize,
-    places: &mut [usize],
-    firsts: &mut [usize],
+    entries: &mut [ListedPair],
     variables: &[usize],
     value: &mut [u8],
     out: &mut [u8],
-) -> Receipt
+) -> Result<usize, Refusal>
     requires ruled_bets { RuledBets event.now at n }
-    requires buffers { Buffers event.now places.old firsts.old value.old }
+    requires buffers { Buffers event.now entries.old value.old }
     requires event_len_bound { length event.now ≤ 32768 }
     requires all { All (λ v. v < 65536) variables.now }
     requires variables_len_bound { length variables.now ≤ 65535 }
-    ensures { (p : RuledBets event.now at n) → Receipted (λ b. b) (solution_into (length out.old) (solution_for variables.now p.row.items)) out.old result out.new }
+    ensures { (p : RuledBets event.now at n) → Receipted (λ b. b) (solution_into (length out.old) (solution_for variables.now p.row.items)) out.old (receipt_of result) out.new }
 {
-    let k = list_bets(event, at, n, places, firsts);
+    let k = list_bets(event, at, n, entries);
+    let listed = &entries[..k];
     if k < FEW_LOOKS / (variables.len() + 1) {
-        let none: [u16; 1] = [0; 1];
-        return answer_by(
+        let pairs = PairList {
             event,
-            at,
-            n,
-            places,
-            firsts,
-            k,
-            &none[..0],
-            variables,
-            value,
-            out,
-        );
+            entries: listed,
+            links: &[],
+        };
+        return answer_by(at, n, pairs, variables, value, out);
     }
-    linked_answer(event, at, n, places, firsts, k, variables, value, out)
+    linked_answer(event, at, n, listed, variables, value, out)
 }

@@ -23,12 +23,7 @@ pub struct UsedSize {
 fn is_used(event: &[u8], at: usize) -> bool
     ensures { result ≡ head_used (bet_head_at event.now at) }
 {
-    match bet_head(event, at) {
-        BetHead::Unifier(_) => false,
-        BetHead::Or(_) => true,
-        BetHead::By => true,
-        BetHead::NoBet => false,
-    }
+    matches!(bet_head(event, at), Some(BetHead::Or(_) | BetHead::By))
 }
 
 // One more that has so many bytes, if the bet at a position is one.
@@ -52,16 +47,14 @@ pub fn used_size(event: &[u8], at: usize, n: usize) -> UsedSize
     ensures { (b : BetsAt event.now at n) → result ≡ used_size (used_of b.items) }
 {
     let mut pos = at;
-    let mut left = n;
     let mut size = UsedSize {
         count: 0,
         length: 0,
     };
-    while 0 < left {
+    for _ in 0..n {
         let end = position(bet_end(event, pos));
         size = with_bet(size, event, pos, end - pos);
         pos = end;
-        left = left - 1;
     }
     size
 }
@@ -88,12 +81,10 @@ pub fn put_used(event: &[u8], at: usize, n: usize, out: &mut [u8], to: usize)
     ensures { (b : BetsAt event.now at n) → length (each bet_bytes (used_of b.items)) ≤ to → Put out.old (to - length (each bet_bytes (used_of b.items))) (each bet_bytes (used_of b.items)) out.new to }
 {
     let mut pos = at;
-    let mut left = n;
     let mut from = to;
-    while 0 < left {
+    for _ in 0..n {
         let end = position(bet_end(event, pos));
         from = put_bet(event, pos, end, out, from);
         pos = end;
-        left = left - 1;
     }
 }

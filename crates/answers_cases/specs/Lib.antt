@@ -1,3 +1,3 @@
--- `Rest` says how many bytes are as they were lent. `RestLaws` is what its loop needs.
+-- `Rest` says how many bytes are as they were lent. `RestLaws` is what a loop over them needs.
 pub mod Rest
 pub mod RestLaws

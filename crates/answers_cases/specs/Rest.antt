@@ -1,7 +1,7 @@
 -- The bytes at the front of a list that are as they were lent.
-use Rattle.std.specs.Prelude.{cond, List, [], ◌∷◌, ℕ, suc, eqb}
+use Rattle.std.specs.Prelude.{List, ℕ, eqb}
+use Rattle.std.specs.List.{prefix_len}
 
 -- how many there are, up to the first that is not
-unfoldable pub as_lent : List ℕ → ℕ
-as_lent [] = 0
-as_lent (b ∷ bytes) = cond (eqb b 0xA5) (suc (as_lent bytes)) 0
+abbrev pub as_lent : List ℕ → ℕ
+as_lent bytes = prefix_len (λ b. eqb b 0xA5) bytes

@@ -6,15 +6,12 @@ use Rattle.answers_cases.specs.Rest.{as_lent}
 
 module _ (bytes : List ℕ) (i : ℕ) where
   lent_next : i < length bytes → eqb (get_or bytes i 0) 0xA5 ≡ true → as_lent (drop i bytes) ≡ suc (as_lent (drop (i + 1) bytes))
-  unfolding as_lent
-  lent_next h e = rw (add-one i, drop-cons bytes i 0, e)
+  lent_next h e = let q : as_lent (drop i bytes) ≡ 1 + as_lent (drop (i + 1) bytes) = rw (add-one i, drop-cons bytes i 0 h, e) in omega (arith, q)
 
   lent_first : i < length bytes → eqb (get_or bytes i 0) 0xA5 ≡ false → as_lent (drop i bytes) ≡ 0
-  unfolding as_lent
-  lent_first h e = rw (drop-cons bytes i 0, e)
+  lent_first h e = rw (drop-cons bytes i 0 h, e)
 
   lent_none : length bytes ≤ i → as_lent (drop i bytes) ≡ 0
-  unfolding as_lent
   lent_none h = rw (drop_of_length-le bytes h)
 
   module _ {whole : ℕ} (inv : i + as_lent (drop i bytes) ≡ whole) where

@@ -9,15 +9,17 @@ mod rest;
 
 use crate::rest::{LENT, as_lent};
 use answers::service::{ListAnswer, answers};
-use case_io::input::{at_most, read_field, read_number_field, wide};
+use case_io::cases::each_case;
+use case_io::input::{at_most, read_field, read_number_field};
 use case_io::line::{print_end, print_number, print_record};
+use records::questions::outcome_number;
 
 // Answers of at most so many bytes are printed whole.
 const WHOLE: usize = 200;
 
 // What is written, where something is.
 fn print_answers(written: &[u8]) {
-    if 0 < written.len() {
+    if !written.is_empty() {
         print_record(written, WHOLE);
     }
 }
@@ -26,9 +28,9 @@ fn print_listing(ordinal: u64, listing: ListAnswer, out: &[u8]) {
     let n = at_most(listing.written, out);
     let left = as_lent(&out[n..]);
     io::print_decimal(1, ordinal);
-    print_number(wide(listing.number) as u64);
+    print_number(u64::from(outcome_number(&listing.outcome)));
     print_number(listing.written as u64);
-    print_number(listing.taken as u64);
+    print_number(u64::from(listing.taken));
     print_number(left as u64);
     print_answers(&out[..n]);
     print_end();
@@ -46,35 +48,23 @@ fn case_with(ordinal: u64, program: &[u8], query: &[u8], steps: u32, room: u32) 
     print_case(ordinal, program, query, steps, &mut out[..n]);
 }
 
-// The rest of a case behind its program. False, with nothing printed, where the input does not hold it.
-fn query_case(ordinal: u64, program: &[u8]) -> bool {
+// The rest of a case behind its program. None, with nothing printed, where the input does not hold it.
+fn query_case(ordinal: u64, program: &[u8]) -> Option<()> {
     let mut buf = [0u8; 40000];
-    let field = read_field(&mut buf);
-    let steps = read_number_field();
-    let room = read_number_field();
-    if !field.there || !steps.there || !room.there {
-        return false;
-    }
-    let n = field.size;
-    case_with(ordinal, program, &buf[..n], steps.value, room.value);
-    true
+    let n = read_field(&mut buf)?;
+    let steps = read_number_field()?;
+    let room = read_number_field()?;
+    case_with(ordinal, program, &buf[..n], steps, room);
+    Some(())
 }
 
-// Reads a case and prints its line.
-fn next_case(ordinal: u64) -> bool {
+// Reads a case and prints its line. None where the input ends.
+fn next_case(ordinal: u64) -> Option<()> {
     let mut buf = [0u8; 40000];
-    let field = read_field(&mut buf);
-    if !field.there {
-        return false;
-    }
-    let n = field.size;
+    let n = read_field(&mut buf)?;
     query_case(ordinal, &buf[..n])
 }
 
-// A proved loop has to end, so the number of cases has a limit.
 fn main() {
-    let mut ordinal = 1;
-    while ordinal < 10000 && next_case(ordinal) {
-        ordinal += 1;
-    }
+    each_case(next_case);
 }

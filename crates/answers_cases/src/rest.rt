@@ -9,9 +9,5 @@ pub const LENT: u8 = 0xA5;
 pub fn as_lent(bytes: &[u8]) -> usize
     ensures { result ≡ as_lent bytes.now }
 {
-    let mut i = 0;
-    while i < bytes.len() && bytes[i] == LENT {
-        i += 1;
-    }
-    i
+    bytes.iter().take_while(|b| **b == LENT).count()
 }

@@ -10,7 +10,7 @@ ghost use Rattle.canonical.specs.Sorting.Entries.{ClauseAt, clause_at};
 ghost use Rattle.canonical.specs.Writing.Equation.{equation};
 
 use records::ends::{position, term_end};
-use records::heads::{Signature, clause_head};
+use records::heads::clause_head;
 use records::kinds::{CONJ, EQUAL};
 use records::put::put_part;
 use records::traverse::Cursor;
@@ -26,36 +26,24 @@ fn put_equation(out: &mut [u8], at: usize, s: &[u8], pos: usize, x: usize, base:
 {
     let left_at = put_part(out, at, &[CONJ, EQUAL]);
     let right_at = write_variable(out, left_at, x);
-    let term = Cursor {
-        pos,
-        terms: 1,
-        goals: 0,
-    };
-    write_renamed(out, right_at, s, term, base)
+    write_renamed(out, right_at, s, Cursor::term(pos), base)
 }
 
-// The branch of the clause at `place`.
+// The branch of the clause at `place`. Record and place stay two arguments: the function is public, and a type with the clause in it would ask more.
 pub fn put_branch(out: &mut [u8], first: usize, s: &[u8], place: usize, base: usize) -> usize
     requires clause_at { ClauseAt s.now place }
     requires base_bound { base ≤ 65536 }
     requires place_in_bounds { first + length (goal_bytes (branch base (clause_at s.now place))) ≤ length out.old }
     ensures { Put out.old first (goal_bytes (branch base (clause_at s.now place))) out.new result }
 {
-    let Signature::Predicate(_, k, _) = clause_head(s, place) else {
+    let Some(signature) = clause_head(s, place) else {
         return first;
     };
     let mut at = first;
     let mut pos = place + 4;
-    let mut x = 0;
-    while x < k {
+    for x in 0..signature.arity {
         at = put_equation(out, at, s, pos, x, base);
         pos = position(term_end(s, pos));
-        x += 1;
     }
-    let goal = Cursor {
-        pos,
-        terms: 0,
-        goals: 1,
-    };
-    write_renamed(out, at, s, goal, base)
+    write_renamed(out, at, s, Cursor::goal(pos), base)
 }

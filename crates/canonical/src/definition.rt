@@ -8,9 +8,9 @@ ghost use Rattle.canonical.specs.Sorting.Entries.{ClauseAt, clause_at, clauses_i
 ghost use Rattle.canonical.specs.Writing.Definition.{joined_branches, group_definition, Sums};
 
 use crate::branch::put_branch;
-use crate::order::PLACES;
-use records::ends::{Found, clause_end};
-use records::heads::{Signature, clause_head};
+use crate::entry::Entry;
+use records::ends::clause_end;
+use records::heads::clause_head;
 use records::kinds::DISJ;
 use records::put::{put_byte, put_part, put_word};
 
@@ -26,8 +26,8 @@ fn clause_variables(s: &[u8], place: usize) -> usize
     ensures { result ≡ variable_count (clause_at s.now place) }
 {
     match clause_head(s, place) {
-        Signature::Predicate(_, _, v) => v,
-        Signature::NoPredicate => 0,
+        Some(signature) => signature.count,
+        None => 0,
     }
 }
 
@@ -36,71 +36,71 @@ fn clause_size(s: &[u8], place: usize) -> usize
     requires { ClauseAt s.now place }
     ensures { result ≡ suc (branch_size (clause_at s.now place)) }
 {
-    let Signature::Predicate(_, k, _) = clause_head(s, place) else {
+    let Some(signature) = clause_head(s, place) else {
         return 0;
     };
-    match clause_end(s, place) {
-        Found::At(e) => 5 * k + (e - place - 3),
-        Found::Nothing => 0,
-    }
+    let Some(end) = clause_end(s, place) else {
+        return 0;
+    };
+    5 * signature.arity + (end - place - 3)
 }
 
-pub fn group_totals(s: &[u8], group: &[usize]) -> Totals
+// Record and group stay two arguments: a struct of both, with `GroupAt` for its fact, would be made for this one call.
+pub(crate) fn group_totals(s: &[u8], group: &[Entry]) -> Totals
     requires { GroupAt s.now group.now }
     ensures { Sums (clauses_in s.now group.now) result }
 {
     let mut locals: usize = 0;
     let mut size: usize = 0;
-    let mut i = 0;
-    while i < group.len() {
-        let place = group[i] % PLACES;
+    for entry in group {
+        let place = entry.place();
         locals += clause_variables(s, place);
         size += clause_size(s, place);
-        i += 1;
     }
     Totals { locals, size }
 }
 
 // The branches of a group, each but the last behind the byte that joins it to the next one, the variables of each numbered behind those of the one before it.
-fn put_branches(out: &mut [u8], first: usize, s: &[u8], group: &[usize], arity: usize) -> usize
+fn put_branches(out: &mut [u8], first: usize, s: &[u8], group: &[Entry], arity: usize) -> usize
     requires group_at { GroupAt s.now group.now }
     requires group_nonzero { 0 < length group.now }
     requires group_bound { arity + locals_of (clauses_in s.now group.now) ≤ 65536 }
     requires group_in_bounds { first + length (goal_bytes (joined_branches arity (clauses_in s.now group.now))) ≤ length out.old }
     ensures { Put out.old first (goal_bytes (joined_branches arity (clauses_in s.now group.now))) out.new result }
 {
+    let Some((last, others)) = group.split_last() else {
+        return first;
+    };
     let mut at = first;
     let mut base = arity;
-    let mut i = 0;
-    while i + 1 < group.len() {
-        let place = group[i] % PLACES;
+    for entry in others {
+        let place = entry.place();
         let branch_at = put_byte(out, at, DISJ);
         at = put_branch(out, branch_at, s, place, base);
         base += clause_variables(s, place);
-        i += 1;
     }
-    let last = group[i] % PLACES;
-    put_branch(out, at, s, last, base)
+    put_branch(out, at, s, last.place(), base)
 }
 
 // The definition that a group makes, whose locals pass question 9.
-pub fn put_definition(out: &mut [u8], at: usize, s: &[u8], group: &[usize]) -> usize
+pub(crate) fn put_definition(out: &mut [u8], at: usize, s: &[u8], group: &[Entry]) -> usize
     requires group_at { GroupAt s.now group.now }
     requires group_nonzero { 0 < length group.now }
     requires group_bound { locals_of (clauses_in s.now group.now) ≤ 255 }
     requires group_in_bounds { at + length (definition_bytes (group_definition (clauses_in s.now group.now))) ≤ length out.old }
     ensures { Put out.old at (definition_bytes (group_definition (clauses_in s.now group.now))) out.new result }
 {
-    let place = group[0] % PLACES;
-    let Signature::Predicate(p, k, _) = clause_head(s, place) else {
+    let place = group[0].place();
+    let Some(signature) = clause_head(s, place) else {
         return at;
     };
     let totals = group_totals(s, group);
-    let arity_at = put_word(out, at, p);
+    let arity_at = put_word(out, at, signature.predicate);
+    // The remainders stay: without them the wrong program of must-fail/locals_256.edit would stop in place of a wrong answer.
     let goal_at = put_part(
         out,
         arity_at,
-        &[(k % 256) as u8, (totals.locals % 256) as u8],
+        &[(signature.arity % 256) as u8, (totals.locals % 256) as u8],
     );
-    put_branches(out, goal_at, s, group, k)
+    put_branches(out, goal_at, s, group, signature.arity)
 }

@@ -4,6 +4,7 @@
 #![tactic(auto)]
 
 use canonical::service::canonical;
+use case_io::cases::each_case;
 use case_io::input::{read_field, read_kind};
 use case_io::line::{print_end, print_number, print_record, record_length};
 
@@ -17,38 +18,29 @@ fn print_program(out: &[u8]) {
 }
 
 fn print_case(ordinal: u64, clauses: &[u8], out: &mut [u8]) {
-    let number = canonical(clauses, out);
+    let outcome = canonical(clauses, out);
     io::print_decimal(1, ordinal);
-    print_number(number as u64);
-    if number == 0 {
-        print_program(out);
+    match outcome {
+        Ok(()) => {
+            print_number(0);
+            print_program(out);
+        }
+        Err(refusal) => print_number(u64::from(refusal.number())),
     }
     print_end();
 }
 
 // Reads a case and prints its line. False, with nothing printed, where the input ends or the case is longer than the buffer.
-fn next_case(ordinal: u64) -> bool {
+fn next_case(ordinal: u64) -> Option<()> {
     let mut buf = [0u8; 40000];
     let mut out = [0u8; 32768];
-    let kind = read_kind();
-    let field = read_field(&mut buf);
-    if !kind.there || !field.there {
-        return false;
-    }
-    let n = field.size;
-    let byte = kind.byte;
-    if byte == b'w' {
-        print_case(ordinal, &buf[..n], &mut out);
-    } else {
-        print_case(ordinal, &buf[..n], &mut out[..32767]);
-    }
-    true
+    let kind = read_kind()?;
+    let n = read_field(&mut buf)?;
+    let room = if kind == b'w' { 32768 } else { 32767 };
+    print_case(ordinal, &buf[..n], &mut out[..room]);
+    Some(())
 }
 
-// A proved loop has to end, so the number of cases has a limit.
 fn main() {
-    let mut ordinal = 1;
-    while ordinal < 10000 && next_case(ordinal) {
-        ordinal += 1;
-    }
+    each_case(next_case);
 }

@@ -1,5 +1,6 @@
 -- The digest of a text: how many bytes and lines it has, and its checksum, FNV-1a. Each number has 32 bits.
-use Rattle.std.specs.Prelude.{ℕ, ◌+◌, ◌*◌, ◌%◌, cond, List, [], ◌∷◌, ◌==◌, bit_xor}
+use Rattle.std.specs.Prelude.{ℕ, ◌+◌, ◌*◌, ◌%◌, cond, List, ◌==◌, bit_xor}
+use Rattle.std.specs.List.{fold}
 use Rattle.case_io.specs.declared.digest.Digest.{Digest}
 
 -- how many lines a byte ends
@@ -18,9 +19,8 @@ digest_more d b = record {
 }
 
 -- from a digest on
-unfoldable pub digest_from : Digest → List ℕ → Digest
-digest_from d [] = d
-digest_from d (b ∷ bytes) = digest_from (digest_more d b) bytes
+abbrev pub digest_from : Digest → List ℕ → Digest
+digest_from d bytes = fold digest_more d bytes
 
 abbrev pub no_bytes : Digest
 no_bytes = record { bytes = 0; lines = 0; checksum = 0x811c9dc5 }

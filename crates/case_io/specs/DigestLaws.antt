@@ -1,6 +1,7 @@
 -- Laws of the digest: by one byte, along a loop over bytes, and of one part after another.
-use Rattle.std.specs.Prelude.{◌≡◌, ℕ, ◌+◌, ◌<◌, ◌≤◌, List, [], ◌∷◌, ◌++◌, length, drop, ◌≢◌, slice_index, refl}
+use Rattle.std.specs.Prelude.{◌≡◌, ℕ, ◌+◌, ◌<◌, ◌≤◌, List, ◌++◌, length, drop, ◌≢◌, slice_index}
 use Rattle.std.proofs.Common.{sym, ◌∙◌, add-one, ne_eqb, drop_of_length-le, drop-cons}
+use Rattle.std.proofs.lemmas.List.Sums.{fold-append}
 use Rattle.case_io.specs.declared.digest.Digest.{Digest}
 use Rattle.case_io.specs.Digest.{line_ends, digest_more, digest_from}
 
@@ -13,8 +14,7 @@ module _ (b : ℕ) where
 
 digest_next : (bytes : List ℕ) (i : ℕ) (d : Digest) → i < length bytes
     → digest_from d (drop i bytes) ≡ digest_from (digest_more d (slice_index bytes i)) (drop (i + 1) bytes)
-unfolding digest_from
-digest_next bytes i d h = rw (add-one i, drop-cons bytes i 0)
+digest_next bytes i d h = rw (add-one i, drop-cons bytes i 0 h)
 
 -- along a loop over bytes: one byte more, and all
 module _ (bytes : List ℕ) (i : ℕ) (d : Digest) {whole : Digest} where
@@ -23,10 +23,7 @@ module _ (bytes : List ℕ) (i : ℕ) (d : Digest) {whole : Digest} where
   digest_turn h q inv = rw q (sym (digest_next bytes i d h) ∙ inv)
 
   pub digest_done : length bytes ≤ i → digest_from d (drop i bytes) ≡ whole → d ≡ whole
-  unfolding digest_from
   digest_done h inv = rw (drop_of_length-le bytes h) at inv
 
 pub digest_append : (d : Digest) (a b : List ℕ) → digest_from d (a ++ b) ≡ digest_from (digest_from d a) b
-unfolding digest_from
-digest_append d [] b = refl
-digest_append d (x ∷ a) b = digest_append (digest_more d x) a b
+digest_append d a b = fold-append digest_more d a b

@@ -1,8 +1,12 @@
 // What is told of a text: how many bytes and lines it has, and its checksum.
-ghost use Rattle.std.specs.Prelude.{◌≡◌, ◌<◌, ◌≤◌, length, take};
+ghost use Rattle.std.specs.Prelude.{◌≡◌};
 ghost use Rattle.case_io.specs.Digest.{line_ends, mixed, no_bytes, digest_more, digest_from, digest_of};
 
-use crate::input::wide;
+// Before the first byte.
+const FIRST_CHECKSUM: u32 = 0x811c9dc5;
+
+// What a checksum is multiplied by.
+const PRIME: u32 = 0x01000193;
 
 // Each number modulo 2^32.
 #[derive(Clone, Copy)]
@@ -16,22 +20,22 @@ pub struct Digest {
 fn line_ends(b: u8) -> u32
     ensures { result ≡ line_ends b }
 {
-    if b == b'\n' { 1 } else { 0 }
+    u32::from(b == b'\n')
 }
 
 // The checksum with one byte more.
 fn mixed(sum: u32, b: u8) -> u32
     ensures { result ≡ mixed sum b }
 {
-    ((sum as u64 ^ wide(b) as u64) * 0x01000193 % 0x1_0000_0000) as u32
+    (sum ^ u32::from(b)).wrapping_mul(PRIME)
 }
 
 fn add_byte(d: Digest, b: u8) -> Digest
     ensures { result ≡ digest_more d b }
 {
     Digest {
-        bytes: std::num::wrapping_add_u32(d.bytes, 1),
-        lines: std::num::wrapping_add_u32(d.lines, line_ends(b)),
+        bytes: d.bytes.wrapping_add(1),
+        lines: d.lines.wrapping_add(line_ends(b)),
         checksum: mixed(d.checksum, b),
     }
 }
@@ -43,35 +47,20 @@ pub fn no_bytes() -> Digest
     Digest {
         bytes: 0,
         lines: 0,
-        checksum: 0x811c9dc5,
+        checksum: FIRST_CHECKSUM,
     }
 }
 
 // All bytes of a slice more.
-fn add_bytes(d: Digest, bytes: &[u8]) -> Digest
+pub fn add_bytes(d: Digest, bytes: &[u8]) -> Digest
     ensures { result ≡ digest_from d bytes.now }
 {
-    let mut sum = d;
-    let mut i = 0;
-    while i < bytes.len() {
-        sum = add_byte(sum, bytes[i]);
-        i += 1;
-    }
-    sum
-}
-
-// The first n bytes of a slice more.
-pub fn add_front(d: Digest, bytes: &[u8], n: usize) -> Digest
-    requires { n ≤ length bytes.now }
-    ensures { result ≡ digest_from d (take n bytes.now) }
-{
-    add_bytes(d, &bytes[..n])
+    bytes.iter().fold(d, |sum, b| add_byte(sum, *b))
 }
 
 // The checksum of a slice.
 pub fn checksum(bytes: &[u8]) -> u32
     ensures { result ≡ (digest_of bytes.now).checksum }
 {
-    let digest = add_bytes(no_bytes(), bytes);
-    digest.checksum
+    add_bytes(no_bytes(), bytes).checksum
 }

@@ -1,11 +1,11 @@
-// A line of standard output, part by part. Each part but the first stands after a blank.
+// A line of standard output, part by part. Each part but the first stands after a blank. Numbers are printed by `io`, the library that this project's
+// programs use, and not by a `Display`.
 ghost use Rattle.std.specs.Prelude.{◌≡◌, ◌*◌, ◌<◌, ◌≤◌, length, take};
 ghost use Rattle.io.specs.Counts.{IsPrefixLen};
 ghost use Rattle.io.specs.Digits.{hex_digit_ascii};
 ghost use Rattle.case_io.specs.Hex.{hex_digits};
 
 use crate::digest::checksum;
-use crate::input::wide;
 
 // The case's ordinal and kind.
 pub fn print_start(ordinal: u64, kind: u8) {
@@ -13,6 +13,7 @@ pub fn print_start(ordinal: u64, kind: u8) {
     io::write_all(1, &[b' ', kind]);
 }
 
+// A number. A usize is widened with `as` by who prints it: there is no `From` for it.
 pub fn print_number(n: u64) {
     io::write_all(1, b" ");
     io::print_decimal(1, n);
@@ -27,12 +28,12 @@ pub fn print_end() {
     io::write_all(1, b"\n");
 }
 
-// A hexadecimal digit, in lower case.
-fn digit(n: usize) -> u8
+// A hexadecimal digit, in lower case. By hand: std's `from_digit` makes an Option of a char, with two casts around it.
+fn digit(n: u8) -> u8
     requires { n < 16 }
     ensures { result ≡ hex_digit_ascii n }
 {
-    if n < 10 { 48 + n as u8 } else { 87 + n as u8 }
+    if n < 10 { b'0' + n } else { b'a' + (n - 10) }
 }
 
 // Two hexadecimal digits for each byte, at the start of a buffer. Gives how many digits there are.
@@ -41,16 +42,11 @@ fn hex(bytes: &[u8], text: &mut [u8]) -> usize
     ensures prefix_len { IsPrefixLen result text.new }
     ensures text_after { take result text.new ≡ hex_digits bytes.now }
 {
-    let mut next = 0;
-    let mut i = 0;
-    while i < bytes.len() {
-        let b = wide(bytes[i]);
-        text[next] = digit(b / 16);
-        text[next + 1] = digit(b % 16);
-        next += 2;
-        i += 1;
+    for (i, b) in bytes.iter().enumerate() {
+        text[2 * i] = digit(*b / 16);
+        text[2 * i + 1] = digit(*b % 16);
     }
-    next
+    2 * bytes.len()
 }
 
 // Bytes in hexadecimal, at most 256.
@@ -62,13 +58,6 @@ fn print_hex(bytes: &[u8])
     io::write_all(1, &text[..n]);
 }
 
-// The first 16 bytes.
-fn print_first(bytes: &[u8])
-    requires { 16 ≤ length bytes.now }
-{
-    print_hex(&bytes[..16]);
-}
-
 // #, the length, :, the first 16 bytes, :, the checksum.
 fn print_long(bytes: &[u8])
     requires { 16 ≤ length bytes.now }
@@ -76,9 +65,9 @@ fn print_long(bytes: &[u8])
     io::write_all(1, b"#");
     io::print_decimal(1, bytes.len() as u64);
     io::write_all(1, b":");
-    print_first(bytes);
+    print_hex(&bytes[..16]);
     io::write_all(1, b":");
-    io::print_hex(1, checksum(bytes) as u64, 8);
+    io::print_hex(1, u64::from(checksum(bytes)), 8);
 }
 
 // A record, in hexadecimal where it has at most so many bytes.
@@ -93,16 +82,14 @@ pub fn print_record(bytes: &[u8], most: usize)
     }
 }
 
-// How many bytes the record has that a buffer starts with, by its length field; none where the buffer does not hold so many.
+// How many bytes the record has that a buffer starts with, by its length field; 0 where the buffer does not hold so many.
+// No Option: each caller takes the front of that length, which is empty then.
 pub fn record_length(buffer: &[u8]) -> usize
     ensures { IsPrefixLen result buffer.now }
 {
-    if buffer.len() < 2 {
+    let [high, low, ..] = buffer else {
         return 0;
-    }
-    let n = 2 + (wide(buffer[0]) * 256 + wide(buffer[1]));
-    if buffer.len() < n {
-        return 0;
-    }
-    n
+    };
+    let n = 2 + usize::from(u16::from_be_bytes([*high, *low]));
+    if buffer.len() < n { 0 } else { n }
 }

@@ -4,6 +4,7 @@ ghost use Rattle.stepper.specs.Run.RunService.{RunReplied};
 ghost use Rattle.stepper.specs.Services.Desk.{layers};
 
 use goal_door::service::goal_door;
+use records::questions::outcome_number;
 
 // Back to the nearest event, the given one included, that calls the same goal with the same ancestors, within so many steps. The steps made are left in
 // `taken`.
@@ -19,5 +20,5 @@ pub extern "C" fn fourport_door(
 {
     let answer = goal_door(program, event, limit, out);
     *taken = answer.taken;
-    answer.number as u32
+    u32::from(outcome_number(&answer.outcome))
 }

@@ -3,6 +3,7 @@ ghost use Rattle.answers.specs.Form.Service.{answers_record, AnswersReplied};
 ghost use Rattle.stepper.specs.Services.Desk.{layers};
 
 use answers::service::answers;
+use records::questions::outcome_number;
 
 // Every answer of a query, and what gave it, within so many steps and as far as the output goes. The bytes of the answers are left in `written`, and the
 // steps made in `taken`.
@@ -20,5 +21,5 @@ pub extern "C" fn fourport_answers(
     let list = answers(program, query, steps, out);
     *written = list.written;
     *taken = list.taken;
-    list.number as u32
+    u32::from(outcome_number(&list.outcome))
 }

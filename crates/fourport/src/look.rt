@@ -7,6 +7,7 @@ ghost use Rattle.terms.specs.Body.GreatestService.{greatest_record};
 ghost use Rattle.terms.specs.Values.ValueService.{value_answer};
 ghost use Rattle.stepper.specs.Services.Lookup.{lookup};
 
+use records::questions::outcome_number;
 use stepper::lookup::lookup_range;
 use terms::part::greatest_part;
 use terms::value::value;
@@ -17,8 +18,9 @@ pub extern "C" fn fourport_value(event: &[u8], v: u16, out: &mut [u8], written: 
     ensures { Receipted term_bytes (value_answer (read_event event.now) (length out.old) v) out.old (record { number = result; length = written.new }) out.new }
 {
     let receipt = value(event, v, out);
-    *written = receipt.length as u32;
-    receipt.number as u32
+    // `as`: a value's length fits by proof, and `try_from` would add a case that never comes
+    *written = receipt.unwrap_or(0) as u32;
+    u32::from(outcome_number(&receipt))
 }
 
 // How many bytes of the program the definition has that the event's goal names, 0 if there is none. Where it starts is left in `at`.
@@ -37,8 +39,11 @@ pub extern "C" fn fourport_lookup(program: &[u8], event: &[u8], at: &mut usize) 
 pub extern "C" fn fourport_greatest(event: &[u8], part: &mut u32, greatest: &mut u32) -> u32
     ensures { record { number = result; part = part.new; variable = greatest.new } ≡ greatest_record event.now }
 {
-    let answer = greatest_part(event);
-    *part = answer.part as u32;
-    *greatest = answer.variable as u32;
-    answer.number as u32
+    let told = greatest_part(event);
+    // `as`: a variable fits by proof too
+    (*part, *greatest) = match told {
+        Ok(Some(found)) => (u32::from(found.part.number()), found.variable as u32),
+        Ok(None) | Err(_) => (0, 0),
+    };
+    u32::from(outcome_number(&told))
 }

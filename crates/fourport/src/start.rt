@@ -5,6 +5,7 @@ ghost use Rattle.stepper.specs.Services.Desk.{layers};
 ghost use Rattle.records.specs.Gate.Reply.{Replied};
 
 use canonical::service::canonical;
+use records::questions::outcome_number;
 use stepper::first::first_event;
 
 // Clauses to canonical program.
@@ -12,7 +13,7 @@ use stepper::first::first_event;
 pub extern "C" fn fourport_canonical(clauses: &[u8], out: &mut [u8]) -> u32
     ensures { Replied (canonical_record clauses.now out.old) result out.new }
 {
-    canonical(clauses, out) as u32
+    u32::from(outcome_number(&canonical(clauses, out)))
 }
 
 // Query to first event.
@@ -20,5 +21,5 @@ pub extern "C" fn fourport_canonical(clauses: &[u8], out: &mut [u8]) -> u32
 pub extern "C" fn fourport_first(query: &[u8], out: &mut [u8]) -> u32
     ensures { Replied (first_record layers query.now out.old) result out.new }
 {
-    first_event(query, out) as u32
+    u32::from(outcome_number(&first_event(query, out)))
 }

@@ -6,6 +6,7 @@ ghost use Rattle.records.specs.Gate.Reply.{Replied};
 ghost use Rattle.stepper.specs.Run.RunService.{run_record, RunReplied};
 ghost use Rattle.fourport.specs.Directions.{direction_of};
 
+use records::questions::outcome_number;
 use stepper::run::run;
 use stepper::service::{step_back, step_forward};
 
@@ -14,8 +15,7 @@ use stepper::service::{step_back, step_forward};
 pub extern "C" fn fourport_forward(program: &[u8], event: &[u8], out: &mut [u8]) -> u32
     ensures { Replied (step_record layers forward program.now event.now out.old) result out.new }
 {
-    let answer = step_forward(program, event, out);
-    answer.number as u32
+    u32::from(outcome_number(&step_forward(program, event, out)))
 }
 
 // One step back.
@@ -23,8 +23,7 @@ pub extern "C" fn fourport_forward(program: &[u8], event: &[u8], out: &mut [u8])
 pub extern "C" fn fourport_back(program: &[u8], event: &[u8], out: &mut [u8]) -> u32
     ensures { Replied (step_record layers back program.now event.now out.old) result out.new }
 {
-    let answer = step_back(program, event, out);
-    answer.number as u32
+    u32::from(outcome_number(&step_back(program, event, out)))
 }
 
 // A run of so many steps, forward where `back` is 0. The steps that it took are left in `taken`.
@@ -41,5 +40,5 @@ pub extern "C" fn fourport_run(
 {
     let answer = run(program, event, steps, back != 0, out);
     *taken = answer.taken;
-    answer.number as u32
+    u32::from(outcome_number(&answer.outcome()))
 }

@@ -5,10 +5,12 @@
 // and the output's length; these two numbers have four bytes, high byte first.
 #![tactic(auto)]
 
+use case_io::cases::each_case;
 use case_io::digest::checksum;
-use case_io::input::{at_most, read_field, read_number_field, wide};
+use case_io::input::{at_most, read_field, read_number_field};
 use case_io::line::{print_end, print_number, print_record, record_length};
 use goal_door::service::{DoorAnswer, goal_door};
+use records::questions::{Refusal, outcome_number};
 
 // Every byte of an output that is lent, so that the checksum tells whether those behind the record are as they were.
 const LENT: u8 = 0xA5;
@@ -18,27 +20,26 @@ const WHOLE: usize = 200;
 
 fn print_checksum(out: &[u8]) {
     io::write_all(1, b" ");
-    io::print_hex(1, checksum(out) as u64, 8);
+    io::print_hex(1, u64::from(checksum(out)), 8);
 }
 
-// The record that the output starts with; none is written where the number is 1 to 5 or 11 to 14.
-fn print_reached(number: u8, out: &[u8]) {
-    match number {
-        1..=5 | 11..=14 => {}
-        _ => {
-            let n = record_length(out);
-            print_record(&out[..n], WHOLE);
-        }
+// The record that the output starts with; none is written where the gate refuses.
+fn print_reached(outcome: Result<(), Refusal>, out: &[u8]) {
+    if !matches!(
+        outcome,
+        Err(Refusal::Program(_) | Refusal::Event(_) | Refusal::Output)
+    ) {
+        let n = record_length(out);
+        print_record(&out[..n], WHOLE);
     }
 }
 
 fn print_door(ordinal: u64, answer: DoorAnswer, out: &[u8]) {
-    let number = answer.number;
     io::print_decimal(1, ordinal);
-    print_number(wide(number) as u64);
-    print_number(answer.taken as u64);
+    print_number(u64::from(outcome_number(&answer.outcome)));
+    print_number(u64::from(answer.taken));
     print_checksum(out);
-    print_reached(number, out);
+    print_reached(answer.outcome, out);
     print_end();
 }
 
@@ -54,35 +55,23 @@ fn case_with(ordinal: u64, program: &[u8], event: &[u8], limit: u32, room: u32) 
     print_case(ordinal, program, event, limit, &mut out[..n]);
 }
 
-// The rest of a case behind its program. False, with nothing printed, where the input does not hold it.
-fn event_case(ordinal: u64, program: &[u8]) -> bool {
+// The rest of a case behind its program. None, with nothing printed, where the input does not hold it.
+fn event_case(ordinal: u64, program: &[u8]) -> Option<()> {
     let mut buf = [0u8; 40000];
-    let field = read_field(&mut buf);
-    let limit = read_number_field();
-    let room = read_number_field();
-    if !field.there || !limit.there || !room.there {
-        return false;
-    }
-    let n = field.size;
-    case_with(ordinal, program, &buf[..n], limit.value, room.value);
-    true
+    let n = read_field(&mut buf)?;
+    let limit = read_number_field()?;
+    let room = read_number_field()?;
+    case_with(ordinal, program, &buf[..n], limit, room);
+    Some(())
 }
 
-// Reads a case and prints its line.
-fn next_case(ordinal: u64) -> bool {
+// Reads a case and prints its line. None where the input ends.
+fn next_case(ordinal: u64) -> Option<()> {
     let mut buf = [0u8; 40000];
-    let field = read_field(&mut buf);
-    if !field.there {
-        return false;
-    }
-    let n = field.size;
+    let n = read_field(&mut buf)?;
     event_case(ordinal, &buf[..n])
 }
 
-// A proved loop has to end, so the number of cases has a limit.
 fn main() {
-    let mut ordinal = 1;
-    while ordinal < 10000 && next_case(ordinal) {
-        ordinal += 1;
-    }
+    each_case(next_case);
 }

@@ -9,6 +9,7 @@ pub mod PlaceLaws
 pub mod SeekLaws
 pub mod TrieLaws
 pub mod NewNodeLaws
+pub mod NodeLaws
 pub mod HoldsLaws
 pub mod NamingLaws
 pub mod Examples

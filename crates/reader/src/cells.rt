@@ -4,36 +4,37 @@ ghost use Rattle.reader.specs.Emit.Cells.{cell, emit_cell, emitted};
 ghost use Rattle.reader.specs.Emit.Emits.{Turns, Room, table_cells, EmittedCells, and_state, equal_state};
 
 use crate::emit::{
-    Emission, close_bracket, disjunction, emit_functor, emit_head, emit_symbol, emit_variable,
-    end_clause, end_fact, goal_constant, goal_functor, goal_plain, goal_variable, head_functor,
-    next_argument, open_bracket, shut, whole,
+    Behind, Emission, close_bracket, disjunction, emit_functor, emit_head, emit_symbol,
+    emit_variable, end_clause, end_fact, goal_constant, goal_functor, goal_plain, goal_variable,
+    head_functor, next_argument, open_bracket, shut, whole,
 };
-use crate::roles::{Role, coded_role};
-use crate::tables::wide;
+use crate::roles::Role;
 use records::kinds::{FAILURE, SYMBOL, TRUTH};
 
 // A comma behind a primary, and = behind a left side.
 fn conjunction(e: Emission) -> Emission
     ensures { result ≡ and_state e }
 {
-    let mut r = e;
-    r.comma = true;
-    r
+    Emission {
+        behind: Behind {
+            comma: true,
+            ..e.behind
+        },
+        ..e
+    }
 }
 
 fn equality(e: Emission) -> Emission
     ensures { result ≡ equal_state e }
 {
-    let mut r = e;
-    r.equal = true;
-    r
+    Emission { equal: true, ..e }
 }
 
 // One cell in front.
 fn emit_cell(
     out: &mut [u8],
     counts: &mut [u8],
-    brackets: &mut [u8],
+    brackets: &mut [Behind],
     e: Emission,
     role: Role,
     name: usize,
@@ -67,37 +68,39 @@ fn emit_cell(
 }
 
 // The cells that the tables hold, from the last to the first.
-pub fn emit_cells(
+pub(crate) fn emit_cells(
     out: &mut [u8],
-    roles: &[u8],
+    roles: &[Role],
     names: &[u16],
     variables: &[u8],
-    count: usize,
 ) -> Emission
-    requires count_bound { count ≤ 65535 }
-    requires count_in_bounds { (count ≤ length roles.now) × (count ≤ length names.now) × (count ≤ length variables.now) }
-    ensures { EmittedCells (length out.old) out.new result (emitted (table_cells roles.now names.now variables.now 0 count)) }
+    requires count_bound { length roles.now ≤ 65535 }
+    requires count_in_bounds { (length roles.now ≤ length names.now) × (length roles.now ≤ length variables.now) }
+    ensures { EmittedCells (length out.old) out.new result (emitted (table_cells roles.now names.now variables.now 0 (length roles.now))) }
 {
     let mut counts = [0u8; 65536];
-    let mut brackets = [0u8; 65536];
+    let mut brackets = [Behind::NOTHING; 65536];
     let mut e = Emission {
         at: out.len(),
         over: false,
         clauses: 0,
         terms: 0,
         goals: 0,
-        comma: false,
-        semicolon: false,
+        behind: Behind::NOTHING,
         equal: false,
         variables: 0,
     };
-    let mut i = count;
-    while 0 < i {
-        i -= 1;
-        let role = coded_role(roles[i]);
-        let name = wide(names[i]);
-        let v = variables[i];
-        e = emit_cell(out, &mut counts, &mut brackets, e, role, name, v);
+    for i in (0..roles.len()).rev() {
+        let name = usize::from(names[i]);
+        e = emit_cell(
+            out,
+            &mut counts,
+            &mut brackets,
+            e,
+            roles[i],
+            name,
+            variables[i],
+        );
     }
     e
 }

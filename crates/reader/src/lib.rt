@@ -11,6 +11,5 @@ pub mod reply;
 pub mod roles;
 pub mod sort;
 pub mod survey;
-pub mod tables;
 pub mod trie;
 pub mod variables;

@@ -2,33 +2,20 @@
 ghost use Rattle.std.specs.Prelude.{◌≡◌, true, cond, [], ◌+◌, ◌-◌, ◌*◌, ◌≤◌, length};
 ghost use Rattle.records.specs.Ends.Range.{cut, Inside};
 ghost use Rattle.records.specs.Writing.Patched.{Put};
-ghost use Rattle.reader.specs.Names.Naming.{name_code, name_bytes, NameEntered, NamedItems};
-ghost use Rattle.reader.specs.Names.Trie.{tables, Filled};
+ghost use Rattle.reader.specs.Items.Roles.{name_role};
+ghost use Rattle.reader.specs.Names.Naming.{name_bytes, naming, entry_of, NameEntered, NamedItems};
+ghost use Rattle.reader.specs.Names.Trie.{links, marks};
 
-use crate::trie::name_number;
+use crate::roles::Role;
+use crate::trie::Trie;
 use records::put::{Range, put_range, put_word};
 use text::lexer::next_token;
 
-// The nodes of the trie, the names in it, and the bytes of their list.
-#[derive(Clone, Copy)]
-pub struct Naming {
-    pub nodes: usize,
-    pub names: usize,
-    pub listed: usize,
-}
-
-// The number of an item's name, and the names behind it.
+// The number of an item's name, and the bytes of the list behind it.
 #[derive(Clone, Copy)]
 pub struct Entry {
     pub number: u16,
-    pub naming: Naming,
-}
-
-// Whether the role with that number takes a name.
-fn takes_name(code: u8) -> bool
-    ensures { result ≡ name_code code }
-{
-    (code == 1) | (code == 2) | (code == 4) | (code == 5) | (code == 8) | (code == 9)
+    pub listed: usize,
 }
 
 // A name in the list, where it is new.
@@ -45,101 +32,62 @@ fn list_name(s: &[u8], w: Range, list: &mut [u8], at: usize, new: bool) -> usize
 }
 
 // The number of a name, which goes to the end of the list where it is new.
-fn enter_name(
-    s: &[u8],
-    w: Range,
-    child: &mut [u16],
-    sibling: &mut [u16],
-    letter: &mut [u8],
-    number: &mut [u16],
-    list: &mut [u8],
-    before: Naming,
-) -> Entry
+fn enter_name(s: &[u8], w: Range, trie: &mut Trie, list: &mut [u8], listed: usize) -> Entry
     requires inside { Inside w s.now }
-    requires from_bound { (before.nodes + (w.to - w.from) ≤ 65536) × (before.names + 1 ≤ 65535) × (before.listed + (2 + (w.to - w.from)) ≤ length list.old) }
-    requires filled { Filled (tables child.old sibling.old letter.old) before.nodes × (length number.old ≡ 65536) }
-    ensures { NameEntered true s.now w (tables child.old sibling.old letter.old) number.old list.old before (tables child.new sibling.new letter.new) number.new list.new result }
+    requires from_bound { (trie.old.used + (w.to - w.from) ≤ 65536) × (trie.old.names + 1 ≤ 65535) × (listed + (2 + (w.to - w.from)) ≤ length list.old) }
+    ensures { NameEntered true s.now w (links trie.old.nodes) (marks trie.old.nodes) list.old (naming trie.old listed) (links trie.new.nodes) (marks trie.new.nodes) list.new (entry_of trie.new result) }
 {
-    let found = name_number(
-        s,
-        w,
-        child,
-        sibling,
-        letter,
-        number,
-        before.nodes,
-        before.names,
-    );
-    let new = found.names != before.names;
-    let listed = list_name(s, w, list, before.listed, new);
+    let before = trie.names;
+    let number = trie.name_number(&s[w.from..w.to]);
+    let new = trie.names != before;
+    let listed = list_name(s, w, list, listed, new);
     Entry {
-        number: found.number as u16,
-        naming: Naming {
-            nodes: found.nodes,
-            names: found.names,
-            listed,
-        },
+        // It fits by proof; `try_from` would add a case that never comes.
+        number: number as u16,
+        listed,
     }
 }
 
 // One item: 0 stands for the number of what takes no name.
 fn enter_item(
     s: &[u8],
-    code: u8,
+    role: Role,
     w: Range,
-    child: &mut [u16],
-    sibling: &mut [u16],
-    letter: &mut [u8],
-    number: &mut [u16],
+    trie: &mut Trie,
     list: &mut [u8],
-    before: Naming,
+    listed: usize,
 ) -> Entry
     requires inside { Inside w s.now }
-    requires from_bound { (before.nodes + (w.to - w.from) ≤ 65536) × (before.names + 1 ≤ 65535) × (before.listed + (2 + (w.to - w.from)) ≤ length list.old) }
-    requires filled { Filled (tables child.old sibling.old letter.old) before.nodes × (length number.old ≡ 65536) }
-    ensures { NameEntered (name_code code) s.now w (tables child.old sibling.old letter.old) number.old list.old before (tables child.new sibling.new letter.new) number.new list.new result }
+    requires from_bound { (trie.old.used + (w.to - w.from) ≤ 65536) × (trie.old.names + 1 ≤ 65535) × (listed + (2 + (w.to - w.from)) ≤ length list.old) }
+    ensures { NameEntered (name_role role) s.now w (links trie.old.nodes) (marks trie.old.nodes) list.old (naming trie.old listed) (links trie.new.nodes) (marks trie.new.nodes) list.new (entry_of trie.new result) }
 {
-    if takes_name(code) {
-        return enter_name(s, w, child, sibling, letter, number, list, before);
+    if role.takes_name() {
+        return enter_name(s, w, trie, list, listed);
     }
-    Entry {
-        number: 0,
-        naming: before,
-    }
+    Entry { number: 0, listed }
 }
 
-// All items, by the table of their roles, behind the names that the trie and the list hold.
-pub fn number_names(
+// All items, by the table of their roles, behind the names that the trie and the list hold. Gives the bytes of the list there are then.
+pub(crate) fn number_names(
     s: &[u8],
-    roles: &[u8],
-    count: usize,
+    roles: &[Role],
     numbers: &mut [u16],
-    child: &mut [u16],
-    sibling: &mut [u16],
-    letter: &mut [u8],
-    number: &mut [u16],
+    trie: &mut Trie,
     list: &mut [u8],
-    before: Naming,
-) -> Naming
-    requires count_in_bounds { (count ≤ length s.now) × (count ≤ length roles.now) × (count ≤ length numbers.old) }
-    requires s_bound { (before.nodes + length s.now ≤ 65536) × (before.names + length s.now ≤ 65535) × (before.listed + 3 * length s.now ≤ length list.old) }
-    requires filled { Filled (tables child.old sibling.old letter.old) before.nodes × (length number.old ≡ 65536) }
-    ensures { NamedItems s.now roles.now count numbers.old (tables child.old sibling.old letter.old) number.old list.old before numbers.new (tables child.new sibling.new letter.new) number.new list.new result }
+    before: usize,
+) -> usize
+    requires count_in_bounds { (length roles.now ≤ length s.now) × (length roles.now ≤ length numbers.old) }
+    requires s_bound { (trie.old.used + length s.now ≤ 65536) × (trie.old.names + length s.now ≤ 65535) × (before + 3 * length s.now ≤ length list.old) }
+    ensures { NamedItems s.now roles.now (length roles.now) numbers.old (links trie.old.nodes) (marks trie.old.nodes) list.old (naming trie.old before) numbers.new (links trie.new.nodes) (marks trie.new.nodes) list.new (naming trie.new result) }
 {
-    let mut naming = before;
+    let mut listed = before;
     let mut at = 0;
-    let mut k = 0;
-    while k < count {
+    for (k, role) in roles.iter().enumerate() {
         let t = next_token(s, at);
-        let w = Range {
-            from: t.from,
-            to: t.to,
-        };
-        let e = enter_item(s, roles[k], w, child, sibling, letter, number, list, naming);
+        let e = enter_item(s, *role, t.word, trie, list, listed);
         numbers[k] = e.number;
-        naming = e.naming;
+        listed = e.listed;
         at = t.next;
-        k += 1;
     }
-    naming
+    listed
 }

@@ -30,7 +30,7 @@ pub fn push_due(out: &mut [u8], at: usize, due: bool, b: u8) -> usize
     at
 }
 
-// A two-byte number.
+// A two-byte number; of a greater one its low half, so no `u16::try_from`.
 fn push_word(out: &mut [u8], at: usize, n: usize) -> usize
     requires { at ≤ length out.old }
     ensures { Pushes out.old at (word n) out.new result }

@@ -1,7 +1,7 @@
 // What a token does in its clause.
 ghost use Rattle.std.specs.Prelude.{cond, ◌≡◌};
 ghost use Rattle.reader.specs.Items.Items.{position, word_role, mark_role, stop_role, role_of};
-ghost use Rattle.reader.specs.Items.Roles.{role_code, coded_role};
+ghost use Rattle.reader.specs.Items.Roles.{name_role, variable_role, end_role};
 ghost use Rattle.reader.specs.declared.roles.Role.TheVariants.{GoalConstant};
 
 use text::table::Mode;
@@ -31,59 +31,33 @@ pub enum Role {
     Rule,
 }
 
-// Its number in a table of roles.
-pub fn role_code(role: Role) -> u8
-    ensures { result ≡ role_code role }
-{
-    match role {
-        Role::Variable => 0,
-        Role::Constant => 1,
-        Role::Functor => 2,
-        Role::GoalVariable => 3,
-        Role::GoalConstant => 4,
-        Role::GoalFunctor => 5,
-        Role::Truth => 6,
-        Role::Failure => 7,
-        Role::Head => 8,
-        Role::HeadFunctor => 9,
-        Role::Shut => 10,
-        Role::Next => 11,
-        Role::And => 12,
-        Role::Or => 13,
-        Role::Equal => 14,
-        Role::Open => 15,
-        Role::Close => 16,
-        Role::Neck => 17,
-        Role::Fact => 18,
-        Role::Rule => 19,
+impl Role {
+    // Whether it has a name.
+    pub(crate) fn takes_name(self) -> bool
+        ensures { result ≡ name_role self }
+    {
+        matches!(
+            self,
+            Role::Constant
+                | Role::Functor
+                | Role::GoalConstant
+                | Role::GoalFunctor
+                | Role::Head
+                | Role::HeadFunctor
+        )
     }
-}
 
-// The role with a number.
-pub fn coded_role(n: u8) -> Role
-    ensures { result ≡ coded_role n }
-{
-    match n {
-        0 => Role::Variable,
-        1 => Role::Constant,
-        2 => Role::Functor,
-        3 => Role::GoalVariable,
-        4 => Role::GoalConstant,
-        5 => Role::GoalFunctor,
-        6 => Role::Truth,
-        7 => Role::Failure,
-        8 => Role::Head,
-        9 => Role::HeadFunctor,
-        10 => Role::Shut,
-        11 => Role::Next,
-        12 => Role::And,
-        13 => Role::Or,
-        14 => Role::Equal,
-        15 => Role::Open,
-        16 => Role::Close,
-        17 => Role::Neck,
-        18 => Role::Fact,
-        _ => Role::Rule,
+    pub(crate) fn is_variable(self) -> bool
+        ensures { result ≡ variable_role self }
+    {
+        matches!(self, Role::Variable | Role::GoalVariable)
+    }
+
+    // Whether its clause ends with it.
+    pub(crate) fn is_end(self) -> bool
+        ensures { result ≡ end_role self }
+    {
+        matches!(self, Role::Fact | Role::Rule)
     }
 }
 
@@ -93,15 +67,8 @@ fn word_role(mode: Mode, head: Role, goal: Role, other: Role) -> Role
 {
     match mode {
         Mode::Clause => head,
-        Mode::Headed => other,
         Mode::Goal => goal,
-        Mode::Left => other,
-        Mode::Bare => other,
-        Mode::Right => other,
-        Mode::Done => other,
-        Mode::Term(_) => other,
-        Mode::Rest(_) => other,
-        Mode::Bad => other,
+        _ => other,
     }
 }
 
@@ -110,16 +77,8 @@ fn mark_role(mode: Mode, argument: Role, other: Role) -> Role
     ensures { result ≡ mark_role (position mode) argument other }
 {
     match mode {
-        Mode::Clause => other,
-        Mode::Headed => other,
-        Mode::Goal => other,
-        Mode::Left => other,
-        Mode::Bare => other,
-        Mode::Right => other,
-        Mode::Done => other,
-        Mode::Term(_) => other,
         Mode::Rest(_) => argument,
-        Mode::Bad => other,
+        _ => other,
     }
 }
 
@@ -127,16 +86,8 @@ fn stop_role(mode: Mode) -> Role
     ensures { result ≡ stop_role (position mode) }
 {
     match mode {
-        Mode::Clause => Role::Rule,
         Mode::Headed => Role::Fact,
-        Mode::Goal => Role::Rule,
-        Mode::Left => Role::Rule,
-        Mode::Bare => Role::Rule,
-        Mode::Right => Role::Rule,
-        Mode::Done => Role::Rule,
-        Mode::Term(_) => Role::Rule,
-        Mode::Rest(_) => Role::Rule,
-        Mode::Bad => Role::Rule,
+        _ => Role::Rule,
     }
 }
 
@@ -144,10 +95,7 @@ fn stop_role(mode: Mode) -> Role
 fn goal_role(equals: bool, goal: Role) -> Role
     ensures { result ≡ cond equals GoalConstant goal }
 {
-    if equals {
-        return Role::GoalConstant;
-    }
-    goal
+    if equals { Role::GoalConstant } else { goal }
 }
 
 // The role of a token behind a mode, by its kind and whether = comes next.
@@ -167,9 +115,7 @@ pub fn role_at(mode: Mode, kind: Kind, equals: bool) -> Role
         Kind::Comma => mark_role(mode, Role::Next, Role::And),
         Kind::Semicolon => Role::Or,
         Kind::Equals => Role::Equal,
-        Kind::Neck => Role::Neck,
         Kind::Stop => stop_role(mode),
-        Kind::Wrong => Role::Neck,
-        Kind::End => Role::Neck,
+        Kind::Neck | Kind::Wrong | Kind::End => Role::Neck,
     }
 }

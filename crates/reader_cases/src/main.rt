@@ -7,13 +7,14 @@
 
 mod pieces; // pieces.rt: a text, made of its pieces
 
+use case_io::cases::each_case;
 use case_io::digest::checksum;
-use case_io::input::{at_most, read_kind, read_number, wide};
+use case_io::input::{at_most, read_kind, read_number};
 use case_io::line::{print_end, print_number, print_record, record_length};
 use pieces::read_text;
 use reader::query::read_query;
 use reader::read::read;
-use reader::reply::Told;
+use records::questions::{Refusal, outcome_number};
 
 // Every byte of a buffer that is lent, so that the checksum tells whether those that nothing is written to are as they were.
 const LENT: u8 = 0xA5;
@@ -31,24 +32,19 @@ const MOST_ROOM: usize = 40000;
 // How many bytes of each buffer a case lends.
 #[derive(Clone, Copy)]
 struct Rooms {
-    there: bool,
     names: usize,
     record: usize,
 }
 
-fn read_rooms() -> Rooms {
-    let names = read_number();
-    let record = read_number();
-    Rooms {
-        there: names.there && record.there,
-        names: names.value as usize,
-        record: record.value as usize,
-    }
+fn read_rooms() -> Option<Rooms> {
+    let names = read_number()? as usize;
+    let record = read_number()? as usize;
+    Some(Rooms { names, record })
 }
 
 fn print_checksum(buffer: &[u8]) {
     io::write_all(1, b" ");
-    io::print_hex(1, checksum(buffer) as u64, 8);
+    io::print_hex(1, u64::from(checksum(buffer)), 8);
 }
 
 // The record that the output starts with.
@@ -64,15 +60,13 @@ fn print_names(named: usize, names: &[u8]) {
     }
 }
 
-fn print_line(ordinal: u64, told: Told, names: &[u8], out: &[u8]) {
-    let number = told.number;
-    let named = told.named;
+fn print_line(ordinal: u64, told: Result<usize, Refusal>, names: &[u8], out: &[u8]) {
     io::print_decimal(1, ordinal);
-    print_number(wide(number) as u64);
-    print_number(named as u64);
+    print_number(u64::from(outcome_number(&told)));
+    print_number(told.unwrap_or(0) as u64);
     print_checksum(names);
     print_checksum(out);
-    if number == 0 {
+    if let Ok(named) = told {
         print_made(out);
         print_names(named, names);
     }
@@ -89,31 +83,24 @@ fn print_query(ordinal: u64, rules: &[u8], query: &[u8], names: &mut [u8], out: 
     print_line(ordinal, told, names, out);
 }
 
-// The rest of a case behind its rules. False, with nothing printed, where the input does not hold it.
-fn rules_case(ordinal: u64, text: &[u8]) -> bool {
+// The rest of a case behind its rules. None, with nothing printed, where the input does not hold it.
+fn rules_case(ordinal: u64, text: &[u8]) -> Option<()> {
     let mut names: [u8; MOST_NAMES] = [LENT; MOST_NAMES];
     let mut out: [u8; MOST_ROOM] = [LENT; MOST_ROOM];
-    let rooms = read_rooms();
-    if !rooms.there {
-        return false;
-    }
+    let rooms = read_rooms()?;
     let n = at_most(rooms.names, &names);
     let m = at_most(rooms.record, &out);
     print_read(ordinal, text, &mut names[..n], &mut out[..m]);
-    true
+    Some(())
 }
 
 // The same with a query.
-fn query_case(ordinal: u64, rules: &[u8]) -> bool {
+fn query_case(ordinal: u64, rules: &[u8]) -> Option<()> {
     let mut query: [u8; LONGEST] = [0; LONGEST];
     let mut names: [u8; MOST_NAMES] = [LENT; MOST_NAMES];
     let mut out: [u8; MOST_ROOM] = [LENT; MOST_ROOM];
-    let text = read_text(&mut query);
-    let rooms = read_rooms();
-    if !text.there || !rooms.there {
-        return false;
-    }
-    let size = text.size;
+    let size = read_text(&mut query)?;
+    let rooms = read_rooms()?;
     let n = at_most(rooms.names, &names);
     let m = at_most(rooms.record, &out);
     print_query(
@@ -123,30 +110,21 @@ fn query_case(ordinal: u64, rules: &[u8]) -> bool {
         &mut names[..n],
         &mut out[..m],
     );
-    true
+    Some(())
 }
 
-// Reads a case and prints its line.
-fn next_case(ordinal: u64) -> bool {
+// Reads a case and prints its line. None where the input ends.
+fn next_case(ordinal: u64) -> Option<()> {
     let mut rules: [u8; LONGEST] = [0; LONGEST];
-    let kind = read_kind();
-    let text = read_text(&mut rules);
-    if !kind.there || !text.there {
-        return false;
-    }
-    let n = text.size;
-    let byte = kind.byte;
-    if byte == b'q' {
+    let kind = read_kind()?;
+    let n = read_text(&mut rules)?;
+    if kind == b'q' {
         query_case(ordinal, &rules[..n])
     } else {
         rules_case(ordinal, &rules[..n])
     }
 }
 
-// A proved loop has to end, so the number of cases has a limit.
 fn main() {
-    let mut ordinal = 1;
-    while ordinal < 10000 && next_case(ordinal) {
-        ordinal += 1;
-    }
+    each_case(next_case);
 }

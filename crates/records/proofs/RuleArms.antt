@@ -1,4 +1,5 @@
 -- What the code for the record rules returns, from what a head or a callee said.
+use Rattle.std.specs.Prelude.{Option, Some, None}
 use Prim.Native.Nat.{ℕ, ◌+◌, ◌-◌, ◌*◌, ◌≤◌, ◌<◌}
 use native.Mathlib.Numerals.{add-one}
 use native.Mathlib.Omega.{arith}
@@ -32,13 +33,8 @@ use Rattle.records.specs.Ends.HeadRoomLaws.{word_room, definition_room}
 use Rattle.records.specs.Gate.Ranks.{ranked_reader, ranks, signature_rank, rank_at, ranked_end, ranks_end, ranks_rise}
 use Rattle.records.specs.declared.rules.Ranked.{Ranked}
 use Rattle.records.specs.declared.rules.Ranked.TheVariants.{Pairs, Definitions}
-use Rattle.records.specs.declared.ends.Found.{Found}
-use Rattle.records.specs.declared.ends.Found.TheVariants.{At, Nothing}
-use Rattle.records.specs.declared.heads.BetHead.TheVariants.{Unifier, Or, By, NoBet}
-use Rattle.records.specs.declared.heads.Word.{Word}
-use Rattle.records.specs.declared.heads.Word.TheVariants.{Number, Short}
+use Rattle.records.specs.declared.heads.BetHead.TheVariants.{Unifier, Or, By}
 use Rattle.records.specs.declared.heads.Signature.{Signature}
-use Rattle.records.specs.declared.heads.Signature.TheVariants.{Predicate, NoPredicate}
 
 -- none of the variables of a list is marked
 abbrev pub unmarked : List ℕ → List ℕ → Bool
@@ -54,21 +50,21 @@ pub at_most : {a b : ℕ} (n : ℕ) → a ≡ b → leb a n ≡ leb b n
 at_most {a} {b} n e = ap (λ (x : ℕ). leb x n) e
 
 -- where a definition, or a clause, was found, it has a head
-pub no_definition : (s : List ℕ) (at : ℕ) {h : Signature} {b : Bool} → h ≡ definition_head_at s at → h ≡ NoPredicate → Ends (end_of read_definition s at) → b ≡ kept_at definition_rules read_definition s at
-no_definition s at is e w = absurd (rw (sym (definition_ends s at is NoPredicate e)) at w)
+pub no_definition : (s : List ℕ) (at : ℕ) {h : Option Signature} {b : Bool} → h ≡ definition_head_at s at → h ≡ None → Ends (end_of read_definition s at) → b ≡ kept_at definition_rules read_definition s at
+no_definition s at is e w = absurd (rw (sym (definition_ends s at is None e)) at w)
 
-pub no_clause : (s : List ℕ) (at : ℕ) {h : Signature} {b : Bool} → h ≡ clause_head_at s at → h ≡ NoPredicate → Ends (end_of read_clause s at) → b ≡ kept_at clause_rules read_clause s at
-no_clause s at is e w = absurd (rw (sym (clause_ends s at is NoPredicate e)) at w)
+pub no_clause : (s : List ℕ) (at : ℕ) {h : Option Signature} {b : Bool} → h ≡ clause_head_at s at → h ≡ None → Ends (end_of read_clause s at) → b ≡ kept_at clause_rules read_clause s at
+no_clause s at is e w = absurd (rw (sym (clause_ends s at is None e)) at w)
 
 -- a row that was found does not break off
-pub no_break : {A P : Type 0} (r : Reader A) (s : List ℕ) (n at : ℕ) {f : Found} → 0 < n → Ends (end_of (many r n) s at) → f ≡ end_of r s at → f ≡ Nothing → P
+pub no_break : {A P : Type 0} (r : Reader A) (s : List ℕ) (n at : ℕ) {f : Option ℕ} → 0 < n → Ends (end_of (many r n) s at) → f ≡ end_of r s at → f ≡ None → P
 no_break r s n at z w is q = absurd (rw (sym is ∙ q) at (row_first r s n at z w))
 
-pub no_pair : {P : Type 0} (s : List ℕ) (n at : ℕ) {h : Word} → 0 < n → Ends (end_of (many read_binding n) s at) → h ≡ word_at s at → h ≡ Short → P
-no_pair s n at z w is q = no_break read_binding s n at z w (binding_ends s at is Short q) refl
+pub no_pair : {P : Type 0} (s : List ℕ) (n at : ℕ) {h : Option ℕ} → 0 < n → Ends (end_of (many read_binding n) s at) → h ≡ word_at s at → h ≡ None → P
+no_pair s n at z w is q = no_break read_binding s n at z w (binding_ends s at is None q) refl
 
-no_key : {P : Type 0} (s : List ℕ) (n at : ℕ) {h : Signature} → 0 < n → Ends (end_of (many read_definition n) s at) → h ≡ definition_head_at s at → h ≡ NoPredicate → P
-no_key s n at z w is q = no_break read_definition s n at z w (definition_ends s at is NoPredicate q) refl
+no_key : {P : Type 0} (s : List ℕ) (n at : ℕ) {h : Option Signature} → 0 < n → Ends (end_of (many read_definition n) s at) → h ≡ definition_head_at s at → h ≡ None → P
+no_key s n at z w is q = no_break read_definition s n at z w (definition_ends s at is None q) refl
 
 -- the first of some pairs, and the rest
 pub record PairsNext (s : List ℕ) (n at v e : ℕ) : Type 0 where
@@ -77,8 +73,8 @@ pub record PairsNext (s : List ℕ) (n at v e : ℕ) : Type 0 where
   pub through : On (traverse s (at + 2) 1 0)
   pub rest : Ends (end_of (many read_binding (n - 1)) s e)
 
-pub pairs_next : (s : List ℕ) (n at : ℕ) {h : Word} {v : ℕ} {f : Found} {e : ℕ} → 0 < n → Ends (end_of (many read_binding n) s at) → h ≡ word_at s at → h ≡ Number v
-    → f ≡ end_of read_binding s at → f ≡ At e → PairsNext s n at v e
+pub pairs_next : (s : List ℕ) (n at : ℕ) {h : Option ℕ} {v : ℕ} {f : Option ℕ} {e : ℕ} → 0 < n → Ends (end_of (many read_binding n) s at) → h ≡ word_at s at → h ≡ Some v
+    → f ≡ end_of read_binding s at → f ≡ Some e → PairsNext s n at v e
 pairs_next s n at {v = v} {e = e} z w is q ends k =
     let d = row_more read_binding s n at z w ends k in
     let p = pair_read s at is q d.is in
@@ -90,59 +86,59 @@ pairs_next s n at {v = v} {e = e} z w is q ends k =
     }
 
 -- the first of some definitions, and the rest
-definition_key : (s : List ℕ) (at : ℕ) {h : Signature} {p k m n : ℕ} {d : Definition} → h ≡ definition_head_at s at → h ≡ Predicate p k m → read_definition (drop at s) ≡ found d n → key d ≡ p * 256 + k
+definition_key : (s : List ℕ) (at : ℕ) {h : Option Signature} {d : Signature} {n : ℕ} {a : Definition} → h ≡ definition_head_at s at → h ≡ Some d → read_definition (drop at s) ≡ found a n → key a ≡ d.predicate * 256 + d.arity
 unfolding read_definition definition_head_at
-definition_key s at {h} {p} {k} {m} {n} {d} is q e =
-    let x : definition_head (drop at s) ≡ Predicate p k m = sym is ∙ q in
+definition_key s at {h} {d} {n} {a} is q e =
+    let x : definition_head (drop at s) ≡ Some d = sym is ∙ q in
     go (read (drop 4 (drop at s)) 0 1) (rw x at e)
   where
-    go : (o : Read Parts) → also (λ w. definition p k m (first_goal w)) 4 o ≡ found d n → key d ≡ p * 256 + k
+    go : (o : Read Parts) → also (λ w. definition d.predicate d.arity d.count (first_goal w)) 4 o ≡ found a n → key a ≡ d.predicate * 256 + d.arity
     go unread z = never cc
-    go (found w j) z = let y : definition p k m (first_goal w) ≡ d = cc in rw (← y)
+    go (found w j) z = let y : definition d.predicate d.arity d.count (first_goal w) ≡ a = cc in rw (← y)
 
-keys_next : (s : List ℕ) (n at : ℕ) {h : Signature} {p k m : ℕ} {f : Found} {e : ℕ} → 0 < n → Ends (end_of (many read_definition n) s at) → h ≡ definition_head_at s at → h ≡ Predicate p k m
-    → f ≡ end_of read_definition s at → f ≡ At e
-    → (keys (row_at read_definition n s at) ≡ (p * 256 + k) ∷ keys (row_at read_definition (n - 1) s e)) × Ends (end_of (many read_definition (n - 1)) s e)
+keys_next : (s : List ℕ) (n at : ℕ) {h : Option Signature} {d : Signature} {f : Option ℕ} {e : ℕ} → 0 < n → Ends (end_of (many read_definition n) s at) → h ≡ definition_head_at s at → h ≡ Some d
+    → f ≡ end_of read_definition s at → f ≡ Some e
+    → (keys (row_at read_definition n s at) ≡ (d.predicate * 256 + d.arity) ∷ keys (row_at read_definition (n - 1) s e)) × Ends (end_of (many read_definition (n - 1)) s e)
 keys_next s n at {e = e} z w is q ends k =
-    let d = row_more read_definition s n at z w ends k in
-    (ap keys d.row ∙ ap (λ (x : ℕ). x ∷ keys (row_at read_definition (n - 1) s e)) (definition_key s at is q d.is), d.rest)
+    let a = row_more read_definition s n at z w ends k in
+    (ap keys a.row ∙ ap (λ (x : ℕ). x ∷ keys (row_at read_definition (n - 1) s e)) (definition_key s at is q a.is), a.rest)
 
 -- the first of a row of items with numbers, and the rest
 RanksNext : Ranked → (s : List ℕ) (n at x e : ℕ) → Type 0
 RanksNext row s n at x e = (ranks row (row_at (ranked_reader row) n s at) ≡ x ∷ ranks row (row_at (ranked_reader row) (n - 1) s e)) × Ends (ranks_end row (n - 1) s e)
 
-ranks_next : (row : Ranked) (s : List ℕ) (n at : ℕ) {h : Word} {x : ℕ} {f : Found} {e : ℕ} → 0 < n → Ends (ranks_end row n s at) → h ≡ rank_at row s at → h ≡ Number x
-    → f ≡ ranked_end row s at → f ≡ At e → RanksNext row s n at x e
+ranks_next : (row : Ranked) (s : List ℕ) (n at : ℕ) {h : Option ℕ} {x : ℕ} {f : Option ℕ} {e : ℕ} → 0 < n → Ends (ranks_end row n s at) → h ≡ rank_at row s at → h ≡ Some x
+    → f ≡ ranked_end row s at → f ≡ Some e → RanksNext row s n at x e
 unfolding RanksNext rank_at ranked_end ranks_end
 ranks_next Pairs s n at z w is q ends g = let p = pairs_next s n at z w is q ends g in (p.bound_next, p.rest)
 ranks_next Definitions s n at {x = x} {e = e} z w is q ends g = go (definition_head_at s at) refl (sym is ∙ q)
   where
-    go : (i : Signature) → definition_head_at s at ≡ i → signature_rank i ≡ Number x
+    go : (i : Option Signature) → definition_head_at s at ≡ i → signature_rank i ≡ Some x
         → (keys (row_at read_definition n s at) ≡ x ∷ keys (row_at read_definition (n - 1) s e)) × Ends (end_of (many read_definition (n - 1)) s e)
-    go (Predicate p k m) a b = let y : p * 256 + k ≡ x = cc in rw (← y) (keys_next s n at z w (sym a) refl ends g)
-    go NoPredicate a b = never cc
+    go (Some d) a b = let y : d.predicate * 256 + d.arity ≡ x = cc in rw (← y) (keys_next s n at z w (sym a) refl ends g)
+    go None a b = never cc
 
-pub no_rank : {P : Type 0} (row : Ranked) (s : List ℕ) (n at : ℕ) {h : Word} → 0 < n → Ends (ranks_end row n s at) → h ≡ rank_at row s at → h ≡ Short → P
+pub no_rank : {P : Type 0} (row : Ranked) (s : List ℕ) (n at : ℕ) {h : Option ℕ} → 0 < n → Ends (ranks_end row n s at) → h ≡ rank_at row s at → h ≡ None → P
 unfolding rank_at ranks_end
 no_rank Pairs s n at z w is q = no_pair s n at z w is q
 no_rank {P} Definitions s n at z w is q = go (definition_head_at s at) refl (sym is ∙ q)
   where
-    go : (i : Signature) → definition_head_at s at ≡ i → signature_rank i ≡ Short → P
-    go (Predicate p k m) a b = never cc
-    go NoPredicate a b = no_key s n at z w (sym a) refl
+    go : (i : Option Signature) → definition_head_at s at ≡ i → signature_rank i ≡ None → P
+    go (Some d) a b = never cc
+    go None a b = no_key s n at z w (sym a) refl
 
-pub no_ranked : {P : Type 0} (row : Ranked) (s : List ℕ) (n at : ℕ) {f : Found} → 0 < n → Ends (ranks_end row n s at) → f ≡ ranked_end row s at → f ≡ Nothing → P
+pub no_ranked : {P : Type 0} (row : Ranked) (s : List ℕ) (n at : ℕ) {f : Option ℕ} → 0 < n → Ends (ranks_end row n s at) → f ≡ ranked_end row s at → f ≡ None → P
 unfolding ranked_end ranks_end
 no_ranked row s n at z w is q = no_break (ranked_reader row) s n at z w is q
 
-pub rank_room : (row : Ranked) (s : List ℕ) (at : ℕ) → Known s → {h : Word} {x : ℕ} → h ≡ rank_at row s at → h ≡ Number x → x < 16777216
+pub rank_room : (row : Ranked) (s : List ℕ) (at : ℕ) → Known s → {h : Option ℕ} {x : ℕ} → h ≡ rank_at row s at → h ≡ Some x → x < 16777216
 unfolding rank_at
-rank_room Pairs s at known is q = omega (arith, word_room s at known is (Number _) q)
+rank_room Pairs s at known is q = omega (arith, word_room s at known is (Some _) q)
 rank_room Definitions s at known {x = x} is q = go (definition_head_at s at) refl (sym is ∙ q)
   where
-    go : (i : Signature) → definition_head_at s at ≡ i → signature_rank i ≡ Number x → x < 16777216
-    go (Predicate p k m) a b = let y : p * 256 + k ≡ x = cc in omega (arith, y, definition_room s at known (sym a) (Predicate p k m) refl)
-    go NoPredicate a b = never cc
+    go : (i : Option Signature) → definition_head_at s at ≡ i → signature_rank i ≡ Some x → x < 16777216
+    go (Some d) a b = let y : d.predicate * 256 + d.arity ≡ x = cc in omega (arith, y, definition_room s at known (sym a) (Some d) refl)
+    go None a b = never cc
 
 -- one number of a row that is to rise
 rises : {l k : List ℕ} {low x : ℕ} → l ≡ x ∷ k → low ≤ x → rising_from low l ≡ rising_from (x + 1) k
@@ -161,7 +157,7 @@ module _ (row : Ranked) (s : List ℕ) (n at low : ℕ) where
       go Pairs = rw (row_none read_binding s n at z)
       go Definitions = rw (row_none read_definition s n at z)
 
-  module _ {h : Word} {x : ℕ} {f : Found} {e : ℕ} (z : 0 < n) (w : Ends (ranks_end row n s at)) (is : h ≡ rank_at row s at) (q : h ≡ Number x) (ends : f ≡ ranked_end row s at) (g : f ≡ At e) where
+  module _ {h : Option ℕ} {x : ℕ} {f : Option ℕ} {e : ℕ} (z : 0 < n) (w : Ends (ranks_end row n s at)) (is : h ≡ rank_at row s at) (q : h ≡ Some x) (ends : f ≡ ranked_end row s at) (g : f ≡ Some e) where
     pub ranks_fall : x < low → false ≡ ranks_rise row low n s at
     unfolding ranks_rise RanksNext
     ranks_fall l = falls (ranks_next row s n at z w is q ends g).0 l
@@ -227,11 +223,11 @@ module _ (s : List ℕ) (at n : ℕ) (known : Known s) (w : Ends (end_of (many r
   rising_unifier {r = r} is e q u = u ∙ sym (rules_row ∙ unifier_rules_marked (row_at read_binding n s at) pairs_formed ∙ rw (← is, e, ← q))
 
 -- no unifier
-pub or_other : {k : ℕ} (n : ℕ) → Or k ≡ Unifier n → ⊥
+pub or_other : {k : ℕ} (n : ℕ) → (Some (Or k)) ≡ (Some (Unifier n)) → ⊥
 or_other n e = never cc
 
-pub by_other : (n : ℕ) → By ≡ Unifier n → ⊥
+pub by_other : (n : ℕ) → (Some By) ≡ (Some (Unifier n)) → ⊥
 by_other n e = never cc
 
-pub none_other : (n : ℕ) → NoBet ≡ Unifier n → ⊥
+pub none_other : (n : ℕ) → None ≡ (Some (Unifier n)) → ⊥
 none_other n e = never cc

@@ -2,6 +2,7 @@
 pub mod Question
 pub mod RecordRules
 pub mod Gate
+pub mod Receipt
 pub mod Reply
 pub mod Door
 pub mod Sets
@@ -14,6 +15,7 @@ pub mod RowsLaws
 pub mod RecordRulesLaws
 pub mod GateLaws
 pub mod ReplyLaws
+pub mod OutcomeLaws
 pub mod DoorLaws
 pub mod SetLaws
 pub mod KeptLaws

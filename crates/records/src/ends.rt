@@ -6,186 +6,145 @@ ghost use Rattle.records.specs.Ends.EndLaws.{next_goal, announced};
 ghost use Rattle.records.specs.Ends.ItemEnds.{item_end, items_end};
 
 use crate::heads::{
-    AncestorHead, BetHead, GoalHead, Signature, TermHead, Word, ancestor_head, bet_head,
-    clause_head, definition_head, goal_head, term_head, word_at,
+    AncestorHead, BetHead, GoalHead, TermHead, ancestor_head, bet_head, clause_head,
+    definition_head, goal_head, term_head, word_at,
 };
 
-// The position after it, if it is there.
-#[derive(Clone, Copy)]
-pub enum Found {
-    At(usize),
-    Nothing,
-}
-
-// The place that was found, else 0.
-pub fn position(f: Found) -> usize
-    ensures { result ≡ position f }
+// The place that was found, else 0: a number and no Option, for code that puts it into a range.
+pub fn position(found: Option<usize>) -> usize
+    ensures { result ≡ position found }
 {
-    match f {
-        Found::At(e) => e,
-        Found::Nothing => 0,
-    }
+    found.unwrap_or(0)
 }
 
 // A term.
 #[cycle(args_end_term_end)]
-pub fn term_end(s: &[u8], at: usize) -> Found
+pub fn term_end(s: &[u8], at: usize) -> Option<usize>
     ensures { result ≡ end_at s.now at 1 0 }
 {
-    match term_head(s, at) {
-        TermHead::Variable(_) => Found::At(at + 3),
+    match term_head(s, at)? {
+        TermHead::Variable(_) => Some(at + 3),
         TermHead::Symbol(_, k) => args_end(s, at + 4, k),
-        TermHead::NoTerm => Found::Nothing,
     }
 }
 
 // An argument list of k terms.
 #[cycle(args_end_term_end)]
-pub fn args_end(s: &[u8], at: usize, k: usize) -> Found
+pub fn args_end(s: &[u8], at: usize, k: usize) -> Option<usize>
     ensures { result ≡ end_at s.now at k 0 }
 {
     if k == 0 {
-        return Found::At(at);
+        return Some(at);
     }
-    match term_end(s, at) {
-        Found::At(e) => args_end(s, e, k - 1),
-        Found::Nothing => Found::Nothing,
-    }
+    args_end(s, term_end(s, at)?, k - 1)
 }
 
 // What follows a goal's own head and terms: from where on, and how many goals the head announced.
 #[derive(Clone, Copy)]
-pub enum GoalHeadEnd {
-    On(usize, usize),
-    Off,
+pub struct Ahead {
+    pub at: usize,
+    pub goals: usize,
 }
 
-fn announced(f: Found) -> GoalHeadEnd
-    ensures { result ≡ announced f }
+fn announced(terms_end: Option<usize>) -> Option<Ahead>
+    ensures { result ≡ announced terms_end }
 {
-    match f {
-        Found::At(e) => GoalHeadEnd::On(e, 0),
-        Found::Nothing => GoalHeadEnd::Off,
-    }
+    Some(Ahead {
+        at: terms_end?,
+        goals: 0,
+    })
 }
 
 // One goal's head, and the terms that follow it.
-fn next_goal(s: &[u8], at: usize) -> GoalHeadEnd
+fn next_goal(s: &[u8], at: usize) -> Option<Ahead>
     ensures { result ≡ next_goal s.now at }
 {
-    match goal_head(s, at) {
-        GoalHead::Truth => GoalHeadEnd::On(at + 1, 0),
-        GoalHead::Failure => GoalHeadEnd::On(at + 1, 0),
+    match goal_head(s, at)? {
+        GoalHead::Truth | GoalHead::Failure => announced(Some(at + 1)),
         GoalHead::Equal => announced(args_end(s, at + 1, 2)),
-        GoalHead::Conj => GoalHeadEnd::On(at + 1, 2),
-        GoalHead::Disj => GoalHeadEnd::On(at + 1, 2),
+        GoalHead::Conj | GoalHead::Disj => Some(Ahead {
+            at: at + 1,
+            goals: 2,
+        }),
         GoalHead::Atom(_, k) => announced(args_end(s, at + 4, k)),
-        GoalHead::NoGoal => GoalHeadEnd::Off,
     }
 }
 
-// A row of g goals. The goals to come are counted, so no nesting goes on the stack.
-pub fn goals_end(s: &[u8], at: usize, g: usize) -> Found
+// A row of g goals. The goals to come are counted, so no nesting goes on the stack; no `for`, since a head adds to the count.
+pub fn goals_end(s: &[u8], at: usize, g: usize) -> Option<usize>
     requires { g ≤ 65536 }
     ensures { result ≡ end_at s.now at 0 g }
 {
     let mut pos = at;
     let mut left = g;
     while 0 < left {
-        match next_goal(s, pos) {
-            GoalHeadEnd::On(e, more) => {
-                pos = e;
-                left = more + (left - 1);
-            }
-            GoalHeadEnd::Off => {
-                return Found::Nothing;
-            }
-        }
+        let next = next_goal(s, pos)?;
+        pos = next.at;
+        left = next.goals + (left - 1);
     }
-    Found::At(pos)
+    Some(pos)
 }
 
 // k terms and then g goals.
-pub fn parts_end(s: &[u8], at: usize, k: usize, g: usize) -> Found
+pub fn parts_end(s: &[u8], at: usize, k: usize, g: usize) -> Option<usize>
     requires { g ≤ 65536 }
     ensures { result ≡ end_at s.now at k g }
 {
-    match args_end(s, at, k) {
-        Found::At(e) => goals_end(s, e, g),
-        Found::Nothing => Found::Nothing,
-    }
+    goals_end(s, args_end(s, at, k)?, g)
 }
 
-pub fn ancestor_end(s: &[u8], at: usize) -> Found
+pub fn ancestor_end(s: &[u8], at: usize) -> Option<usize>
     ensures { result ≡ end_of read_ancestor s.now at }
 {
-    match ancestor_head(s, at) {
+    match ancestor_head(s, at)? {
         AncestorHead::Called(_, k) => args_end(s, at + 4, k),
-        AncestorHead::InConj(_) => goals_end(s, at + 2, 2),
-        AncestorHead::InDisj(_) => goals_end(s, at + 2, 2),
-        AncestorHead::NoAncestor => Found::Nothing,
+        AncestorHead::InConj(_) | AncestorHead::InDisj(_) => goals_end(s, at + 2, 2),
     }
 }
 
 // A pair of a unifier.
-pub fn binding_end(s: &[u8], at: usize) -> Found
+pub fn binding_end(s: &[u8], at: usize) -> Option<usize>
     ensures { result ≡ end_of read_binding s.now at }
 {
-    match word_at(s, at) {
-        Word::Number(_) => term_end(s, at + 2),
-        Word::Short => Found::Nothing,
-    }
+    word_at(s, at)?;
+    term_end(s, at + 2)
 }
 
-pub fn bindings_end(s: &[u8], at: usize, n: usize) -> Found
+pub fn bindings_end(s: &[u8], at: usize, n: usize) -> Option<usize>
     ensures { result ≡ end_of (many read_binding n) s.now at }
 {
     let mut pos = at;
-    let mut left = n;
-    while 0 < left {
-        match binding_end(s, pos) {
-            Found::At(e) => {
-                pos = e;
-                left = left - 1;
-            }
-            Found::Nothing => {
-                return Found::Nothing;
-            }
-        }
+    for _ in 0..n {
+        pos = binding_end(s, pos)?;
     }
-    Found::At(pos)
+    Some(pos)
 }
 
-pub fn bet_end(s: &[u8], at: usize) -> Found
+pub fn bet_end(s: &[u8], at: usize) -> Option<usize>
     ensures { result ≡ end_of read_bet s.now at }
 {
-    match bet_head(s, at) {
+    match bet_head(s, at)? {
         BetHead::Unifier(n) => bindings_end(s, at + 3, n),
-        BetHead::Or(_) => Found::At(at + 2),
+        BetHead::Or(_) => Some(at + 2),
         BetHead::By => goals_end(s, at + 1, 1),
-        BetHead::NoBet => Found::Nothing,
     }
 }
 
-pub fn definition_end(s: &[u8], at: usize) -> Found
+pub fn definition_end(s: &[u8], at: usize) -> Option<usize>
     ensures { result ≡ end_of read_definition s.now at }
 {
-    match definition_head(s, at) {
-        Signature::Predicate(_, _, _) => goals_end(s, at + 4, 1),
-        Signature::NoPredicate => Found::Nothing,
-    }
+    definition_head(s, at)?;
+    goals_end(s, at + 4, 1)
 }
 
-pub fn clause_end(s: &[u8], at: usize) -> Found
+pub fn clause_end(s: &[u8], at: usize) -> Option<usize>
     ensures { result ≡ end_of read_clause s.now at }
 {
-    match clause_head(s, at) {
-        Signature::Predicate(_, k, _) => parts_end(s, at + 4, k, 1),
-        Signature::NoPredicate => Found::Nothing,
-    }
+    let signature = clause_head(s, at)?;
+    parts_end(s, at + 4, signature.arity, 1)
 }
 
-// What a record holds a row of.
+// What a record holds a row of. No closure tells how one is read: the definitions of rows and of their rules go over the same four kinds.
 #[derive(Clone, Copy)]
 pub enum Item {
     Ancestor,
@@ -194,7 +153,7 @@ pub enum Item {
     Clause,
 }
 
-pub fn item_end(s: &[u8], at: usize, item: Item) -> Found
+pub fn item_end(s: &[u8], at: usize, item: Item) -> Option<usize>
     ensures { result ≡ item_end item s.now at }
 {
     match item {
@@ -206,21 +165,12 @@ pub fn item_end(s: &[u8], at: usize, item: Item) -> Found
 }
 
 // A row of n items of one kind.
-pub fn items_end(s: &[u8], at: usize, item: Item, n: usize) -> Found
+pub fn items_end(s: &[u8], at: usize, item: Item, n: usize) -> Option<usize>
     ensures { result ≡ items_end item n s.now at }
 {
     let mut pos = at;
-    let mut left = n;
-    while 0 < left {
-        match item_end(s, pos, item) {
-            Found::At(e) => {
-                pos = e;
-                left = left - 1;
-            }
-            Found::Nothing => {
-                return Found::Nothing;
-            }
-        }
+    for _ in 0..n {
+        pos = item_end(s, pos, item)?;
     }
-    Found::At(pos)
+    Some(pos)
 }

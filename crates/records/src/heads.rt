@@ -9,7 +9,6 @@ use crate::kinds::{ARITY_LIMIT, *};
 pub enum TermHead {
     Variable(usize),
     Symbol(usize, usize),
-    NoTerm,
 }
 
 // An atom has its predicate and its arity.
@@ -21,7 +20,6 @@ pub enum GoalHead {
     Conj,
     Disj,
     Atom(usize, usize),
-    NoGoal,
 }
 
 // A conjunction and a disjunction have their tag.
@@ -30,7 +28,6 @@ pub enum AncestorHead {
     Called(usize, usize),
     InConj(usize),
     InDisj(usize),
-    NoAncestor,
 }
 
 // A unifier has its count of pairs, OR its tag.
@@ -39,27 +36,14 @@ pub enum BetHead {
     Unifier(usize),
     Or(usize),
     By,
-    NoBet,
-}
-
-// A two-byte number.
-#[derive(Clone, Copy)]
-pub enum Word {
-    Number(usize),
-    Short,
 }
 
 // What a definition or a clause starts with: predicate, arity, and the number of locals or of variables.
 #[derive(Clone, Copy)]
-pub enum Signature {
-    Predicate(usize, usize, usize),
-    NoPredicate,
-}
-
-fn wide(b: u8) -> usize
-    ensures { (result ≡ b) × (result < 256) }
-{
-    b as usize
+pub struct Signature {
+    pub predicate: usize,
+    pub arity: usize,
+    pub count: usize,
 }
 
 // What two bytes come to, the high one first.
@@ -67,94 +51,89 @@ fn two_bytes(s: &[u8], at: usize) -> usize
     requires { at + 2 ≤ length s.now }
     ensures { (result ≡ joined (get_or s.now at 0) (get_or s.now (at + 1) 0)) × (result < 65536) }
 {
-    wide(s[at]) * 256 + wide(s[at + 1])
+    usize::from(s[at]) * 256 + usize::from(s[at + 1])
 }
 
 // The number of bytes from `at` on.
 pub fn room(s: &[u8], at: usize) -> usize
     ensures { result ≡ length s.now - at }
 {
-    let n = s.len();
-    if at <= n { n - at } else { 0 }
+    s.len().saturating_sub(at)
 }
 
-pub fn term_head(s: &[u8], at: usize) -> TermHead
+pub fn term_head(s: &[u8], at: usize) -> Option<TermHead>
     ensures { result ≡ term_head_at s.now at }
 {
     let left = room(s, at);
     if left < 3 {
-        return TermHead::NoTerm;
+        return None;
     }
     let b = s[at];
     let n = two_bytes(s, at + 1);
     if b == VARIABLE {
-        return TermHead::Variable(n);
+        return Some(TermHead::Variable(n));
     }
-    if b != SYMBOL {
-        return TermHead::NoTerm;
+    if b != SYMBOL || left < 4 {
+        return None;
     }
-    if left < 4 {
-        return TermHead::NoTerm;
-    }
-    let k = wide(s[at + 3]);
+    let k = usize::from(s[at + 3]);
     if k <= ARITY_LIMIT {
-        return TermHead::Symbol(n, k);
+        Some(TermHead::Symbol(n, k))
+    } else {
+        None
     }
-    TermHead::NoTerm
 }
 
-fn atom_head(s: &[u8], at: usize) -> GoalHead
+fn atom_head(s: &[u8], at: usize) -> Option<GoalHead>
     requires { at ≤ length s.now }
     ensures { result ≡ atom_head_at s.now at }
 {
     if s.len() - at < 3 {
-        return GoalHead::NoGoal;
+        return None;
     }
     let p = two_bytes(s, at);
-    let k = wide(s[at + 2]);
+    let k = usize::from(s[at + 2]);
     if k <= ARITY_LIMIT {
-        return GoalHead::Atom(p, k);
+        Some(GoalHead::Atom(p, k))
+    } else {
+        None
     }
-    GoalHead::NoGoal
 }
 
-pub fn goal_head(s: &[u8], at: usize) -> GoalHead
+pub fn goal_head(s: &[u8], at: usize) -> Option<GoalHead>
     ensures { result ≡ goal_head_at s.now at }
 {
     if s.len() <= at {
-        return GoalHead::NoGoal;
+        return None;
     }
-    let b = s[at];
-    match b {
-        TRUTH => GoalHead::Truth,
-        FAILURE => GoalHead::Failure,
-        EQUAL => GoalHead::Equal,
-        CONJ => GoalHead::Conj,
-        DISJ => GoalHead::Disj,
+    match s[at] {
+        TRUTH => Some(GoalHead::Truth),
+        FAILURE => Some(GoalHead::Failure),
+        EQUAL => Some(GoalHead::Equal),
+        CONJ => Some(GoalHead::Conj),
+        DISJ => Some(GoalHead::Disj),
         ATOM => atom_head(s, at + 1),
-        _ => GoalHead::NoGoal,
+        _ => None,
     }
 }
 
 // The head of an ancestor that is no atom.
-fn half_head(s: &[u8], at: usize) -> AncestorHead
+fn half_head(s: &[u8], at: usize) -> Option<AncestorHead>
     ensures { result ≡ half_head_at s.now at }
 {
     if room(s, at) < 2 {
-        return AncestorHead::NoAncestor;
+        return None;
     }
     let b = s[at];
-    let k = wide(s[at + 1]);
+    let k = usize::from(s[at + 1]);
     if !is_tag(k) {
-        return AncestorHead::NoAncestor;
+        return None;
     }
-    if b == IN_CONJ {
-        return AncestorHead::InConj(k);
+    match b {
+        IN_CONJ => Some(AncestorHead::InConj(k)),
+        IN_DISJ => Some(AncestorHead::InDisj(k)),
+        _ => None,
     }
-    if b == IN_DISJ {
-        return AncestorHead::InDisj(k);
-    }
-    AncestorHead::NoAncestor
 }
 
 fn is_tag(k: usize) -> bool
@@ -163,92 +142,91 @@ fn is_tag(k: usize) -> bool
     k == 1 || k == 2
 }
 
-pub fn ancestor_head(s: &[u8], at: usize) -> AncestorHead
+pub fn ancestor_head(s: &[u8], at: usize) -> Option<AncestorHead>
     ensures { result ≡ ancestor_head_at s.now at }
 {
-    match goal_head(s, at) {
-        GoalHead::Atom(p, k) => AncestorHead::Called(p, k),
-        GoalHead::Truth => half_head(s, at),
-        GoalHead::Failure => half_head(s, at),
-        GoalHead::Equal => half_head(s, at),
-        GoalHead::Conj => half_head(s, at),
-        GoalHead::Disj => half_head(s, at),
-        GoalHead::NoGoal => half_head(s, at),
+    let Some(head) = goal_head(s, at) else {
+        return half_head(s, at);
+    };
+    match head {
+        GoalHead::Atom(p, k) => Some(AncestorHead::Called(p, k)),
+        GoalHead::Truth | GoalHead::Failure | GoalHead::Equal | GoalHead::Conj | GoalHead::Disj =>
+            half_head(s, at),
     }
 }
 
-pub fn word_at(s: &[u8], at: usize) -> Word
+// A two-byte number.
+pub fn word_at(s: &[u8], at: usize) -> Option<usize>
     ensures { result ≡ word_at s.now at }
 {
     if room(s, at) < 2 {
-        return Word::Short;
+        return None;
     }
-    Word::Number(two_bytes(s, at))
+    Some(two_bytes(s, at))
 }
 
-fn unifier_head(w: Word) -> BetHead
+fn unifier_head(w: Option<usize>) -> Option<BetHead>
     ensures { result ≡ unifier_head w }
 {
-    match w {
-        Word::Number(n) => BetHead::Unifier(n),
-        Word::Short => BetHead::NoBet,
-    }
+    Some(BetHead::Unifier(w?))
 }
 
-fn or_head(s: &[u8], at: usize) -> BetHead
+fn or_head(s: &[u8], at: usize) -> Option<BetHead>
     ensures { result ≡ or_head_at s.now at }
 {
     if s.len() <= at {
-        return BetHead::NoBet;
+        return None;
     }
-    let k = wide(s[at]);
+    let k = usize::from(s[at]);
     if is_tag(k) {
-        return BetHead::Or(k);
+        Some(BetHead::Or(k))
+    } else {
+        None
     }
-    BetHead::NoBet
 }
 
-pub fn bet_head(s: &[u8], at: usize) -> BetHead
+pub fn bet_head(s: &[u8], at: usize) -> Option<BetHead>
     ensures { result ≡ bet_head_at s.now at }
 {
     if s.len() <= at {
-        return BetHead::NoBet;
+        return None;
     }
-    let b = s[at];
-    match b {
+    match s[at] {
         UNIFIER => unifier_head(word_at(s, at + 1)),
         OR => or_head(s, at + 1),
-        BY => BetHead::By,
-        _ => BetHead::NoBet,
+        BY => Some(BetHead::By),
+        _ => None,
     }
 }
 
-pub fn definition_head(s: &[u8], at: usize) -> Signature
+pub fn definition_head(s: &[u8], at: usize) -> Option<Signature>
     ensures { result ≡ definition_head_at s.now at }
 {
     if room(s, at) < 4 {
-        return Signature::NoPredicate;
+        return None;
     }
-    let p = two_bytes(s, at);
-    let k = wide(s[at + 2]);
-    let n = wide(s[at + 3]);
-    if k <= ARITY_LIMIT {
-        return Signature::Predicate(p, k, n);
+    let signature = Signature {
+        predicate: two_bytes(s, at),
+        arity: usize::from(s[at + 2]),
+        count: usize::from(s[at + 3]),
+    };
+    if signature.arity <= ARITY_LIMIT {
+        Some(signature)
+    } else {
+        None
     }
-    Signature::NoPredicate
 }
 
-pub fn clause_head(s: &[u8], at: usize) -> Signature
+// The most variables that a clause has.
+const VARIABLE_LIMIT: usize = 64;
+
+pub fn clause_head(s: &[u8], at: usize) -> Option<Signature>
     ensures { result ≡ clause_head_at s.now at }
 {
-    match definition_head(s, at) {
-        Signature::Predicate(p, k, v) => {
-            if v <= 64 {
-                Signature::Predicate(p, k, v)
-            } else {
-                Signature::NoPredicate
-            }
-        }
-        Signature::NoPredicate => Signature::NoPredicate,
+    let signature = definition_head(s, at)?;
+    if signature.count <= VARIABLE_LIMIT {
+        Some(signature)
+    } else {
+        None
     }
 }

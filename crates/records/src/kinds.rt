@@ -1,5 +1,6 @@
 // The bytes and sizes that SPECIFICATION 1 and 10 fix: the limits of records, of values and of arities, the version of every record, ports, tags,
-// and the kinds of terms, goals, ancestors and bets. An ancestor that is an atom has the atom's kind.
+// and the kinds of terms, goals, ancestors and bets. An ancestor that is an atom has the atom's kind. They are bytes of the format and written as they
+// are; what is read of them is an enum of `heads`.
 pub const RECORD_LIMIT: usize = 32768;
 
 pub const VALUE_LIMIT: usize = 8192;

@@ -5,8 +5,8 @@ ghost use Rattle.records.specs.Gate.Gate.{Accepted, read_event};
 ghost use Rattle.records.specs.Gate.Gate.Reading.{tree};
 ghost use Rattle.records.specs.Ends.Places.{RowAt, RowTo, GoalRange, EndsOf, event_places};
 
-use crate::ends::{Found, Item, goals_end, items_end};
-use crate::heads::{Word, word_at};
+use crate::ends::{Item, goals_end, items_end};
+use crate::heads::word_at;
 use crate::put::Range;
 
 // A row of items: how many, and from where to where.
@@ -33,28 +33,27 @@ pub struct PartEnds {
     pub ancestors: usize,
 }
 
+// Where there is no row.
+const NO_ROW: Row = Row {
+    count: 0,
+    from: 0,
+    to: 0,
+};
+
 // The row of items whose count stands at `at`.
 fn row_place(s: &[u8], at: usize, item: Item) -> Row
     ensures { RowAt s.now at item result }
 {
-    match word_at(s, at) {
-        Word::Number(n) => match items_end(s, at + 2, item, n) {
-            Found::At(e) => Row {
-                count: n,
-                from: at + 2,
-                to: e,
-            },
-            Found::Nothing => Row {
-                count: 0,
-                from: 0,
-                to: 0,
-            },
-        },
-        Word::Short => Row {
-            count: 0,
-            from: 0,
-            to: 0,
-        },
+    let Some(count) = word_at(s, at) else {
+        return NO_ROW;
+    };
+    let Some(to) = items_end(s, at + 2, item, count) else {
+        return NO_ROW;
+    };
+    Row {
+        count,
+        from: at + 2,
+        to,
     }
 }
 
@@ -63,25 +62,21 @@ fn row_to(s: &[u8], at: usize, to: usize) -> Row
     ensures { RowTo s.now at to result }
 {
     match word_at(s, at) {
-        Word::Number(n) => Row {
-            count: n,
+        Some(count) => Row {
+            count,
             from: at + 2,
             to,
         },
-        Word::Short => Row {
-            count: 0,
-            from: 0,
-            to: 0,
-        },
+        None => NO_ROW,
     }
 }
 
 fn goal_place(s: &[u8], at: usize) -> Range
     ensures { GoalRange s.now at result }
 {
-    match goals_end(s, at, 1) {
-        Found::At(e) => Range { from: at, to: e },
-        Found::Nothing => Range { from: at, to: at },
+    Range {
+        from: at,
+        to: goals_end(s, at, 1).unwrap_or(at),
     }
 }
 

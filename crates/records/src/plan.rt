@@ -4,11 +4,12 @@ ghost use Rattle.records.specs.Writing.Patched.{Put};
 ghost use Rattle.records.specs.Ends.Range.{size, Inside};
 ghost use Rattle.records.specs.Writing.Plan.{lead_bytes, piece_bytes, stack_bytes, planned_body, planned, PlanInside, piece_length, stack_length, body_length, plan_length, limited, plan_ends};
 ghost use Rattle.records.specs.Writing.Emitted.{Emitted};
+ghost use Rattle.records.specs.Gate.Receipt.{receipt_of};
 
 use crate::kinds::RECORD_LIMIT;
 use crate::places::PartEnds;
-use crate::put::{Range, Receipt, put_byte, put_range, put_record_head, put_word};
-use crate::questions::{DONE, FITS, OUTPUT};
+use crate::put::{Range, put_byte, put_range, put_record_head, put_word};
+use crate::questions::Refusal;
 
 // The bytes that stand before a part: a kind byte, and a tag.
 #[derive(Clone, Copy)]
@@ -63,8 +64,7 @@ fn put_piece(out: &mut [u8], at: usize, piece: Piece, source: &[u8]) -> usize
     requires piece_in_bounds { at + piece_length piece ≤ length out.old }
     ensures { Put out.old at (piece_bytes piece source.now) out.new result }
 {
-    let lead = piece.lead;
-    let next = put_lead(out, at, lead);
+    let next = put_lead(out, at, piece.lead);
     put_range(out, next, source, piece.range)
 }
 
@@ -99,22 +99,18 @@ const BEYOND: usize = RECORD_LIMIT + 1;
 fn limit(n: usize) -> usize
     ensures { result ≡ limited n }
 {
-    if n < BEYOND { n } else { BEYOND }
+    n.min(BEYOND)
 }
 
 // How many bytes a range has; none where its places are out of order.
 fn measure_range(range: Range) -> usize
     ensures { result ≡ limited (size range) }
 {
-    if range.to < range.from {
-        0
-    } else {
-        limit(range.to - range.from)
-    }
+    limit(range.to.saturating_sub(range.from))
 }
 
 // How many bytes a lead has.
-fn measure_lead(lead: Lead) -> u8
+fn measure_lead(lead: Lead) -> usize
     ensures { result ≡ length (lead_bytes lead) }
 {
     match lead {
@@ -128,8 +124,7 @@ fn measure_lead(lead: Lead) -> u8
 fn measure_piece(piece: Piece) -> usize
     ensures { result ≡ limited (piece_length piece) }
 {
-    let lead = piece.lead;
-    limit(measure_lead(lead) as usize + measure_range(piece.range))
+    limit(measure_lead(piece.lead) + measure_range(piece.range))
 }
 
 // How many bytes a stack has: its count, its top, the rest.
@@ -157,29 +152,19 @@ pub fn plan_ends(p: Plan) -> PartEnds
     }
 }
 
-// The record that a plan makes of a source, written from the output's start.
-// The number is 5 for an output that is too short, 10 for a record that is too long; then nothing is written.
-pub fn emit_plan(out: &mut [u8], p: Plan, source: &[u8]) -> Receipt
+// The record that a plan makes of a source, written from the output's start, and its length. Question 5 refuses an output that is too short, question 10 a
+// record that is too long; then nothing is written.
+pub fn emit_plan(out: &mut [u8], p: Plan, source: &[u8]) -> Result<usize, Refusal>
     requires { PlanInside p source.now }
-    ensures { Emitted out.old (planned p source.now) result out.new }
+    ensures { Emitted out.old (planned p source.now) (receipt_of result) out.new }
 {
     if out.len() < RECORD_LIMIT {
-        return Receipt {
-            number: OUTPUT,
-            length: 0,
-        };
+        return Err(Refusal::Output);
     }
     let n = measure_plan(p);
     if RECORD_LIMIT < n {
-        return Receipt {
-            number: FITS,
-            length: 0,
-        };
+        return Err(Refusal::Fits);
     }
     let body_at = put_record_head(out, n);
-    let end = put_body(out, body_at, p, source);
-    Receipt {
-        number: DONE,
-        length: end,
-    }
+    Ok(put_body(out, body_at, p, source))
 }

@@ -13,13 +13,6 @@ pub struct Range {
     pub to: usize,
 }
 
-// What a service tells that writes: its number, and how many bytes it wrote where that is 0, else 0.
-#[derive(Clone, Copy)]
-pub struct Receipt {
-    pub number: u8,
-    pub length: usize,
-}
-
 // One byte.
 pub fn put_byte(out: &mut [u8], at: usize, b: u8) -> usize
     requires { at < length out.old }
@@ -29,7 +22,7 @@ pub fn put_byte(out: &mut [u8], at: usize, b: u8) -> usize
     at + 1
 }
 
-// A two-byte number, high byte first.
+// A two-byte number, high byte first; of a greater one its low half, so no `u16::try_from`.
 pub fn put_word(out: &mut [u8], at: usize, n: usize) -> usize
     requires { at + 2 ≤ length out.old }
     ensures { Put out.old at (word n) out.new result }
@@ -47,17 +40,15 @@ pub fn put_record_head(out: &mut [u8], n: usize) -> usize
     put_byte(out, version_at, VERSION)
 }
 
-// All bytes of a slice.
+// All bytes of a slice. No `copy_from_slice`: it needs memmove, and the archive needs memcpy and memset alone.
 pub fn put_part(out: &mut [u8], at: usize, src: &[u8]) -> usize
     requires { at + length src.now ≤ length out.old }
     ensures { Put out.old at src.now out.new result }
 {
-    let mut j = 0;
-    while j < src.len() {
-        out[at + j] = src[j];
-        j += 1;
+    for (j, b) in src.iter().enumerate() {
+        out[at + j] = *b;
     }
-    at + j
+    at + src.len()
 }
 
 // The bytes of a range of a slice.
@@ -66,7 +57,5 @@ pub fn put_range(out: &mut [u8], at: usize, src: &[u8], range: Range) -> usize
     requires from_in_bounds { at + (range.to - range.from) ≤ length out.old }
     ensures { Put out.old at (cut src.now range) out.new result }
 {
-    let from = range.from;
-    let to = range.to;
-    put_part(out, at, &src[from..to])
+    put_part(out, at, &src[range.from..range.to])
 }

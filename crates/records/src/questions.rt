@@ -1,23 +1,75 @@
-// The numbers by which questions 5 to 10, 20 to 22 and 32 refuse (SPECIFICATION 7.3 to 7.7, 13.5), named as in the definitions; 0 is done.
-// Questions 1 to 4 have theirs in `program_number` and `event_number`.
-pub const DONE: u8 = 0;
+// The questions that refuse (SPECIFICATION 7.2 to 7.7, 13.5), and their numbers.
+ghost use Rattle.std.specs.Prelude.{◌≡◌, ◌<◌};
+ghost use Rattle.records.specs.Gate.Question.{fault_number, refusal_number};
+ghost use Rattle.records.specs.Gate.Reply.{outcome_number};
 
-pub const OUTPUT: u8 = 5;
+// Questions 1 to 4, put to every record.
+#[derive(Clone, Copy, PartialEq, Eq)]
+pub enum Fault {
+    Framing,
+    Version,
+    Grammar,
+    Rules,
+}
 
-pub const POSSIBLE: u8 = 6;
+// A question that refuses: one of 1 to 4 of a program or a clause record, the same of a query or an event, or one of those that a service puts besides.
+#[derive(Clone, Copy, PartialEq, Eq)]
+pub enum Refusal {
+    Program(Fault),
+    Event(Fault),
+    Output,
+    Possible,
+    Matches,
+    Values,
+    Locals,
+    Fits,
+    Characters,
+    Syntax,
+    Space,
+    Allowed,
+}
 
-pub const MATCHES: u8 = 7;
+impl Fault {
+    fn number(self) -> u8
+        ensures { (result ≡ fault_number self) × (result < 5) }
+    {
+        match self {
+            Fault::Framing => 1,
+            Fault::Version => 2,
+            Fault::Grammar => 3,
+            Fault::Rules => 4,
+        }
+    }
+}
 
-pub const VALUES: u8 = 8;
+impl Refusal {
+    // The number by which C programs and pages know the question.
+    pub fn number(self) -> u8
+        ensures { result ≡ refusal_number self }
+    {
+        match self {
+            Refusal::Program(fault) => fault.number(),
+            Refusal::Event(fault) => 10 + fault.number(),
+            Refusal::Output => 5,
+            Refusal::Possible => 6,
+            Refusal::Matches => 7,
+            Refusal::Values => 8,
+            Refusal::Locals => 9,
+            Refusal::Fits => 10,
+            Refusal::Characters => 20,
+            Refusal::Syntax => 21,
+            Refusal::Space => 22,
+            Refusal::Allowed => 32,
+        }
+    }
+}
 
-pub const LOCALS: u8 = 9;
-
-pub const FITS: u8 = 10;
-
-pub const CHARACTERS: u8 = 20;
-
-pub const SYNTAX: u8 = 21;
-
-pub const SPACE: u8 = 22;
-
-pub const ALLOWED: u8 = 32;
+// The number of an outcome: 0 where nothing refuses.
+pub fn outcome_number<T>(outcome: &Result<T, Refusal>) -> u8
+    ensures { result ≡ outcome_number outcome.now }
+{
+    match outcome {
+        Ok(_) => 0,
+        Err(refusal) => refusal.number(),
+    }
+}

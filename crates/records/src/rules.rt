@@ -9,9 +9,9 @@ ghost use Rattle.records.specs.Gate.Rows.{Ends, kept_at, row_at, item_kept, item
 ghost use Rattle.records.specs.Ends.ItemEnds.{item_end, items_end};
 ghost use Rattle.records.specs.Gate.Ranks.{rank_at, ranked_end, ranks_end, ranks_rise};
 
-use crate::ends::{Found, Item, binding_end, definition_end, item_end};
-use crate::heads::{BetHead, Signature, Word, bet_head, clause_head, definition_head, word_at};
-use crate::sets::{is_full, is_marked, mark, with_variable};
+use crate::ends::{Item, binding_end, definition_end, item_end};
+use crate::heads::{BetHead, bet_head, clause_head, definition_head, word_at};
+use crate::sets::{MARK_WORDS, VariableMarks, is_full, with_variable};
 use crate::traverse::{Cursor, NodeStep, next_node, variables_top};
 
 // Whether exactly the variables 0 to v - 1 are met: a set with one bit for each, compared with the full mask.
@@ -22,52 +22,39 @@ fn meets_exactly(s: &[u8], start: Cursor, v: usize) -> bool
 {
     let mut c = start;
     let mut set: u64 = 0;
-    loop {
-        match next_node(s, c) {
-            NodeStep::Variable(x, d) => {
+    while let Some(step) = next_node(s, c) {
+        match step {
+            NodeStep::Variable(x, next) => {
                 if v <= x {
                     return false;
                 }
                 set = with_variable(set, x);
-                c = d;
+                c = next;
             }
-            NodeStep::Other(d) => {
-                c = d;
-            }
-            NodeStep::Done => {
-                return is_full(set, v);
-            }
+            NodeStep::Other(next) => c = next,
         }
     }
+    is_full(set, v)
 }
 
 // Whether no marked variable occurs in the term at `at`.
-fn avoids(s: &[u8], at: usize, marks: &[u64]) -> bool
-    requires marks_len { length marks.now ≡ 1024 }
-    requires on { On (traverse s.now at 1 0) }
-    ensures { result ≡ every (λ x. not (is_marked marks.now x)) (met (traverse s.now at 1 0)) }
+fn avoids(s: &[u8], at: usize, marks: &VariableMarks) -> bool
+    requires { On (traverse s.now at 1 0) }
+    ensures { result ≡ every (λ x. not (is_marked marks.now.words x)) (met (traverse s.now at 1 0)) }
 {
-    let mut c = Cursor {
-        pos: at,
-        terms: 1,
-        goals: 0,
-    };
-    loop {
-        match next_node(s, c) {
-            NodeStep::Variable(x, d) => {
-                if is_marked(marks, x) {
+    let mut c = Cursor::term(at);
+    while let Some(step) = next_node(s, c) {
+        match step {
+            NodeStep::Variable(x, next) => {
+                if marks.is_marked(x) {
                     return false;
                 }
-                c = d;
+                c = next;
             }
-            NodeStep::Other(d) => {
-                c = d;
-            }
-            NodeStep::Done => {
-                return true;
-            }
+            NodeStep::Other(next) => c = next,
         }
     }
+    true
 }
 
 // Whether only the head's variables and the locals occur in the definition at `at`.
@@ -75,20 +62,11 @@ fn definition_kept(s: &[u8], at: usize) -> bool
     requires { Ends (end_of read_definition s.now at) }
     ensures { result ≡ kept_at definition_rules read_definition s.now at }
 {
-    match definition_head(s, at) {
-        Signature::Predicate(_, k, n) => {
-            let found = variables_top(
-                s,
-                Cursor {
-                    pos: at + 4,
-                    terms: 0,
-                    goals: 1,
-                },
-            );
-            found.top <= k + n
-        }
-        Signature::NoPredicate => true,
-    }
+    let Some(signature) = definition_head(s, at) else {
+        return true;
+    };
+    let found = variables_top(s, Cursor::goal(at + 4));
+    found.top <= signature.arity + signature.count
 }
 
 // Whether exactly its variables occur in the clause at `at`.
@@ -96,21 +74,19 @@ fn clause_kept(s: &[u8], at: usize) -> bool
     requires { Ends (end_of read_clause s.now at) }
     ensures { result ≡ kept_at clause_rules read_clause s.now at }
 {
-    match clause_head(s, at) {
-        Signature::Predicate(_, k, v) => meets_exactly(
-            s,
-            Cursor {
-                pos: at + 4,
-                terms: k,
-                goals: 1,
-            },
-            v,
-        ),
-        Signature::NoPredicate => true,
-    }
+    let Some(signature) = clause_head(s, at) else {
+        return true;
+    };
+    let parts = Cursor {
+        pos: at + 4,
+        terms: signature.arity,
+        goals: 1,
+    };
+    meets_exactly(s, parts, signature.count)
 }
 
-// A row of items with a number each: pairs by their variable, definitions by predicate, then arity.
+// A row of items with a number each: pairs by their variable, definitions by predicate, then arity. No closure tells the number: the definition
+// `ranks_rise` goes over the same two kinds.
 #[derive(Clone, Copy)]
 pub enum Ranked {
     Pairs,
@@ -118,19 +94,19 @@ pub enum Ranked {
 }
 
 // The number of the item at `at`.
-fn rank_at(s: &[u8], at: usize, row: Ranked) -> Word
+fn rank_at(s: &[u8], at: usize, row: Ranked) -> Option<usize>
     ensures { result ≡ rank_at row s.now at }
 {
     match row {
         Ranked::Pairs => word_at(s, at),
-        Ranked::Definitions => match definition_head(s, at) {
-            Signature::Predicate(p, k, _) => Word::Number(p * 256 + k),
-            Signature::NoPredicate => Word::Short,
-        },
+        Ranked::Definitions => {
+            let signature = definition_head(s, at)?;
+            Some(signature.predicate * 256 + signature.arity)
+        }
     }
 }
 
-fn ranked_end(s: &[u8], at: usize, row: Ranked) -> Found
+fn ranked_end(s: &[u8], at: usize, row: Ranked) -> Option<usize>
     ensures { result ≡ ranked_end row s.now at }
 {
     match row {
@@ -145,13 +121,12 @@ pub fn ranks_rise(s: &[u8], at: usize, row: Ranked, n: usize) -> bool
     ensures { result ≡ ranks_rise row 0 n s.now at }
 {
     let mut pos = at;
-    let mut left = n;
     let mut low: usize = 0;
-    while 0 < left {
-        let Word::Number(x) = rank_at(s, pos, row) else {
+    for _ in 0..n {
+        let Some(x) = rank_at(s, pos, row) else {
             return true;
         };
-        let Found::At(e) = ranked_end(s, pos, row) else {
+        let Some(e) = ranked_end(s, pos, row) else {
             return true;
         };
         if x < low {
@@ -159,52 +134,45 @@ pub fn ranks_rise(s: &[u8], at: usize, row: Ranked, n: usize) -> bool
         }
         low = x + 1;
         pos = e;
-        left = left - 1;
     }
     true
 }
 
 // Mark the variables of n pairs.
-fn mark_bound(s: &[u8], at: usize, n: usize, marks: &mut [u64])
-    requires marks_len { length marks.old ≡ 1024 }
-    requires ends { Ends (end_of (many read_binding n) s.now at) }
-    ensures { marks.new ≡ all_marked marks.old (bound (row_at read_binding n s.now at)) }
+fn mark_bound(s: &[u8], at: usize, n: usize, marks: &mut VariableMarks)
+    requires { Ends (end_of (many read_binding n) s.now at) }
+    ensures { marks.new.words ≡ all_marked marks.old.words (bound (row_at read_binding n s.now at)) }
 {
     let mut pos = at;
-    let mut left = n;
-    while 0 < left {
-        let Word::Number(v) = word_at(s, pos) else {
+    for _ in 0..n {
+        let Some(v) = word_at(s, pos) else {
             return;
         };
-        let Found::At(e) = binding_end(s, pos) else {
+        let Some(e) = binding_end(s, pos) else {
             return;
         };
-        mark(marks, v);
+        marks.mark(v);
         pos = e;
-        left = left - 1;
     }
 }
 
 // Whether no marked variable occurs in the terms of n pairs.
-fn free_avoid(s: &[u8], at: usize, n: usize, marks: &[u64]) -> bool
-    requires marks_len { length marks.now ≡ 1024 }
-    requires ends { Ends (end_of (many read_binding n) s.now at) }
-    ensures { result ≡ every (λ x. not (is_marked marks.now x)) (free (row_at read_binding n s.now at)) }
+fn free_avoid(s: &[u8], at: usize, n: usize, marks: &VariableMarks) -> bool
+    requires { Ends (end_of (many read_binding n) s.now at) }
+    ensures { result ≡ every (λ x. not (is_marked marks.now.words x)) (free (row_at read_binding n s.now at)) }
 {
     let mut pos = at;
-    let mut left = n;
-    while 0 < left {
-        let Word::Number(_) = word_at(s, pos) else {
+    for _ in 0..n {
+        let Some(_) = word_at(s, pos) else {
             return true;
         };
-        let Found::At(e) = binding_end(s, pos) else {
+        let Some(e) = binding_end(s, pos) else {
             return true;
         };
         if !avoids(s, pos + 2, marks) {
             return false;
         }
         pos = e;
-        left = left - 1;
     }
     true
 }
@@ -217,7 +185,9 @@ fn unifier_kept(s: &[u8], at: usize, n: usize) -> bool
     if !ranks_rise(s, at, Ranked::Pairs, n) {
         return false;
     }
-    let mut marks = [0u64; 1024];
+    let mut marks = VariableMarks {
+        words: [0; MARK_WORDS],
+    };
     mark_bound(s, at, n, &mut marks);
     free_avoid(s, at, n, &marks)
 }
@@ -227,11 +197,12 @@ fn bet_kept(s: &[u8], at: usize) -> bool
     requires { Ends (end_of read_bet s.now at) }
     ensures { result ≡ kept_at bet_rules read_bet s.now at }
 {
-    match bet_head(s, at) {
+    let Some(head) = bet_head(s, at) else {
+        return true;
+    };
+    match head {
         BetHead::Unifier(n) => unifier_kept(s, at + 3, n),
-        BetHead::Or(_) => true,
-        BetHead::By => true,
-        BetHead::NoBet => true,
+        BetHead::Or(_) | BetHead::By => true,
     }
 }
 
@@ -253,16 +224,14 @@ pub fn items_kept(s: &[u8], at: usize, item: Item, n: usize) -> bool
     ensures { result ≡ items_kept item n s.now at }
 {
     let mut pos = at;
-    let mut left = n;
-    while 0 < left {
+    for _ in 0..n {
         if !item_kept(s, pos, item) {
             return false;
         }
-        let Found::At(e) = item_end(s, pos, item) else {
+        let Some(e) = item_end(s, pos, item) else {
             return true;
         };
         pos = e;
-        left = left - 1;
     }
     true
 }

@@ -3,15 +3,21 @@
 #![tactic(auto)]
 
 ghost use Rattle.std.specs.Prelude.{◌≡◌};
+ghost use Rattle.records.specs.Gate.Reply.{outcome_number};
 ghost use Rattle.records_cases.specs.Case.{case_number};
 
+use case_io::cases::each_case;
 use case_io::input::{read_field, read_kind};
 use case_io::line::{print_end, print_number, print_start};
 use records::door::{clauses_door, event_door, program_door, query_door};
+use records::questions::{Refusal, outcome_number};
+
+// The longest record of a case.
+const LONGEST: usize = 40000;
 
 // What questions 1 to 4 say of the slice, as a record of that kind (SPECIFICATION 7.2).
-fn number_of(kind: u8, s: &[u8]) -> u8
-    ensures { result ≡ case_number kind s.now }
+fn outcome_of(kind: u8, s: &[u8]) -> Result<(), Refusal>
+    ensures { outcome_number result ≡ case_number kind s.now }
 {
     match kind {
         b'q' => query_door(s),
@@ -22,28 +28,21 @@ fn number_of(kind: u8, s: &[u8]) -> u8
 }
 
 fn print_case(ordinal: u64, kind: u8, s: &[u8]) {
+    let outcome = outcome_of(kind, s);
     print_start(ordinal, kind);
-    print_number(number_of(kind, s) as u64);
+    print_number(u64::from(outcome_number(&outcome)));
     print_end();
 }
 
-// Reads a case and prints its line. False, with nothing printed, where the input ends or the case is longer than the buffer.
-fn next_case(ordinal: u64) -> bool {
-    let mut buf = [0u8; 40000];
-    let kind = read_kind();
-    let field = read_field(&mut buf);
-    if !kind.there || !field.there {
-        return false;
-    }
-    let n = field.size;
-    print_case(ordinal, kind.byte, &buf[..n]);
-    true
+// Reads a case and prints its line. None, with nothing printed, where the input ends or the case is longer than the buffer.
+fn next_case(ordinal: u64) -> Option<()> {
+    let mut buf = [0u8; LONGEST];
+    let kind = read_kind()?;
+    let n = read_field(&mut buf)?;
+    print_case(ordinal, kind, &buf[..n]);
+    Some(())
 }
 
-// A proved loop has to end, so the number of cases has a limit.
 fn main() {
-    let mut ordinal = 1;
-    while ordinal < 10000 && next_case(ordinal) {
-        ordinal += 1;
-    }
+    each_case(next_case);
 }

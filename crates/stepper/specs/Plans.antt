@@ -1,6 +1,6 @@
 -- Plans: what code sees of an event, which rule it finds there, and the plan of the event that the rule leads to or comes from.
 pub mod View
-pub mod Numbers
+pub mod WhichRule
 pub mod Layouts
 pub mod RulePlans
 pub mod Halves

@@ -13,4 +13,5 @@ pub mod StepRecordLaws
 pub mod FirstLaws
 pub mod LookupLaws
 pub mod CountsLaws
+pub mod PassedLaws
 pub mod PortCountsLaws

@@ -5,7 +5,8 @@ ghost use Rattle.records.specs.Format.Encode.{word};
 ghost use Rattle.records.specs.Writing.Patched.{Put};
 ghost use Rattle.stepper.specs.Step.Completed.{Gap, InOrder, event_head, unifier_front, unifier_back, unifier_ends, body_front, body_back, body_ends, Completed};
 
-use crate::emit::{StepAnswer, accepted};
+use crate::emit::Reached;
+use crate::layouts::NO_BYTES;
 use crate::view::View;
 use records::kinds::{RECORD_LIMIT, UNIFIER};
 use records::places::PartEnds;
@@ -17,7 +18,7 @@ pub fn gap(at: usize, others: usize) -> Range
     ensures { Gap at others result }
 {
     if RECORD_LIMIT < others {
-        return Range { from: 0, to: 0 };
+        return NO_BYTES;
     }
     Range {
         from: at,
@@ -44,7 +45,7 @@ fn put_unifier_top(out: &mut [u8], at: usize, count: usize) -> usize
 }
 
 // The event with a unifier put on the bets, whose count and pairs, n bytes, stand in their place.
-pub fn with_unifier(event: &[u8], v: View, port: u8, n: usize, out: &mut [u8]) -> StepAnswer
+pub fn with_unifier(event: &[u8], v: View, port: u8, n: usize, out: &mut [u8]) -> Reached
     requires in_order { InOrder event.now v }
     requires n_len_bound { length event.now + 1 + n ≤ 32768 }
     requires in_bounds { 32768 ≤ length out.old }
@@ -54,43 +55,39 @@ pub fn with_unifier(event: &[u8], v: View, port: u8, n: usize, out: &mut [u8]) -
         from: v.goal.from,
         to: v.ancestors.to,
     };
-    let behind = Range {
-        from: v.bets.from,
-        to: v.bets.to,
-    };
     let goal_at = put_event_head(out, event.len() + 1 + n, port);
     let count_at = put_range(out, goal_at, event, ahead);
     let unifier_at = put_unifier_top(out, count_at, v.bets.more);
-    let length = put_range(out, unifier_at + n, event, behind);
-    let ends = PartEnds {
-        goal: v.goal.to,
-        ancestors: v.ancestors.to,
-    };
-    accepted(length, ends)
+    let length = put_range(out, unifier_at + n, event, v.bets.items());
+    Reached {
+        length,
+        ends: PartEnds {
+            goal: v.goal.to,
+            ancestors: v.ancestors.to,
+        },
+    }
 }
 
 // The event's goal, an atom, put on the ancestors, with its body, n bytes that stand in their place, as the goal.
-pub fn with_body(event: &[u8], v: View, port: u8, n: usize, out: &mut [u8]) -> StepAnswer
+pub fn with_body(event: &[u8], v: View, port: u8, n: usize, out: &mut [u8]) -> Reached
     requires in_order { InOrder event.now v }
     requires n_len_bound { length event.now + n ≤ 32768 }
     requires in_bounds { 32768 ≤ length out.old }
     ensures { Completed out.old (body_front event.now port n) n (body_back event.now v) (body_ends v n) result out.new }
 {
-    let atom = Range {
-        from: v.goal.from,
-        to: v.goal.to,
-    };
     let behind = Range {
         from: v.ancestors.from,
         to: v.bets.to,
     };
     let body_at = put_event_head(out, event.len() + n, port);
     let atom_at = put_word(out, body_at + n, v.ancestors.more);
-    let behind_at = put_range(out, atom_at, event, atom);
+    let behind_at = put_range(out, atom_at, event, v.goal.whole());
     let length = put_range(out, behind_at, event, behind);
-    let ends = PartEnds {
-        goal: v.goal.from + n,
-        ancestors: v.ancestors.to + n,
-    };
-    accepted(length, ends)
+    Reached {
+        length,
+        ends: PartEnds {
+            goal: v.goal.from + n,
+            ancestors: v.ancestors.to + n,
+        },
+    }
 }

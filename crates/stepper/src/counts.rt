@@ -1,4 +1,6 @@
 // The port counts of a walk: an accepted event's port is added, and a refused event changes none.
+#![tactic(auto, unfolding(crate::specs::Services::Counts::one_more, crate::specs::Services::PortCounts::with_port))]
+
 ghost use Rattle.std.specs.Prelude.{◌≡◌};
 ghost use Rattle.stepper.specs.Services.Counts.{one_more, count_record};
 ghost use Rattle.stepper.specs.Services.PortCounts.{counts_of, reply_of, with_port};
@@ -6,7 +8,7 @@ ghost use Rattle.stepper.specs.Services.PortCounts.{counts_of, reply_of, with_po
 use records::door::event_door;
 use records::kinds::{CALL, EXIT, FAIL};
 use records::places::event_places;
-use records::questions::DONE;
+use records::questions::Refusal;
 
 // How many events of each port a walk passed, laid out as in C, whose programs lend such counts.
 #[repr(C)]
@@ -18,21 +20,11 @@ pub struct PortCounts {
     pub redos: u32,
 }
 
-// 0, or the number that refuses the event, and the counts afterwards.
-#[derive(Clone, Copy)]
-pub struct CountAnswer {
-    pub number: u8,
-    pub counts: PortCounts,
-}
-
-// A count does not go beyond this.
-const GREATEST_COUNT: u32 = 4294967295;
-
 // One more, up to the greatest count.
 fn one_more(n: u32) -> u32
     ensures { result ≡ one_more n }
 {
-    if n < GREATEST_COUNT { n + 1 } else { n }
+    n.saturating_add(1)
 }
 
 // The counts with one more at a port, 1 to 4.
@@ -42,43 +34,27 @@ fn with_port(counts: PortCounts, port: u8) -> PortCounts
     match port {
         CALL => PortCounts {
             calls: one_more(counts.calls),
-            exits: counts.exits,
-            fails: counts.fails,
-            redos: counts.redos,
+            ..counts
         },
         EXIT => PortCounts {
-            calls: counts.calls,
             exits: one_more(counts.exits),
-            fails: counts.fails,
-            redos: counts.redos,
+            ..counts
         },
         FAIL => PortCounts {
-            calls: counts.calls,
-            exits: counts.exits,
             fails: one_more(counts.fails),
-            redos: counts.redos,
+            ..counts
         },
         _ => PortCounts {
-            calls: counts.calls,
-            exits: counts.exits,
-            fails: counts.fails,
             redos: one_more(counts.redos),
+            ..counts
         },
     }
 }
 
-// The counter by value: 11 to 14 of the event, or its port is added.
-pub fn count(counts: PortCounts, event: &[u8]) -> CountAnswer
-    ensures { reply_of result ≡ count_record event.now (counts_of counts) }
+// The counter by value: 11 to 14 of the event, or the counts with its port added.
+pub fn count(counts: PortCounts, event: &[u8]) -> Result<PortCounts, Refusal>
+    ensures { reply_of counts result ≡ count_record event.now (counts_of counts) }
 {
-    let number = event_door(event);
-    if number != DONE {
-        return CountAnswer { number, counts };
-    }
-    let places = event_places(event);
-    let next = with_port(counts, places.port);
-    CountAnswer {
-        number: DONE,
-        counts: next,
-    }
+    event_door(event)?;
+    Ok(with_port(counts, event_places(event).port))
 }

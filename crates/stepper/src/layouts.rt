@@ -1,8 +1,10 @@
 // The plans of the rules whose result is made of parts of the event itself. A layout serves each rule, in either direction, that moves the
 // event's parts in the same way; the port, and the kind where two kinds share a layout, are told to it.
+#![tactic(auto, unfolding(crate::specs::Plans::Layouts::half_piece, crate::specs::Plans::Layouts::pushed, crate::specs::Plans::Layouts::replaced, crate::specs::Plans::Layouts::plan_of))]
+
 ghost use Rattle.std.specs.Prelude.{◌≡◌};
 ghost use Rattle.stepper.specs.Plans.Layouts.{whole, half_piece, content_of, led, retagged, by_goal, or_tag};
-ghost use Rattle.stepper.specs.Plans.Layouts.{unchanged, dropped, pushed, replaced, plan_of};
+ghost use Rattle.stepper.specs.Plans.Layouts.{unchanged, dropped, pushed, replaced};
 ghost use Rattle.stepper.specs.Plans.Layouts.{kept, bet_dropped, entered, chosen, reached};
 ghost use Rattle.stepper.specs.Plans.Layouts.{left, left_with_or, atom_left, atom_left_by, body_entered};
 
@@ -11,16 +13,22 @@ use records::kinds::*;
 use records::plan::{Lead, Piece, Plan, Stack};
 use records::put::Range;
 
+// No bytes, at the start.
+pub(crate) const NO_BYTES: Range = Range { from: 0, to: 0 };
+
+// In place of a piece where there is none.
+pub(crate) const NOTHING: Piece = Piece {
+    lead: Lead::Bare,
+    range: NO_BYTES,
+};
+
 // A part as it stands.
 fn whole(part: Part) -> Piece
     ensures { result ≡ whole part }
 {
     Piece {
         lead: Lead::Bare,
-        range: Range {
-            from: part.from,
-            to: part.to,
-        },
+        range: part.whole(),
     }
 }
 
@@ -28,20 +36,12 @@ fn whole(part: Part) -> Piece
 pub fn half_piece(part: Part, tag: u8) -> Piece
     ensures { result ≡ half_piece part tag }
 {
-    if tag == FIRST {
-        return Piece {
-            lead: Lead::Bare,
-            range: Range {
-                from: part.content,
-                to: part.middle,
-            },
-        };
-    }
     Piece {
         lead: Lead::Bare,
-        range: Range {
-            from: part.middle,
-            to: part.to,
+        range: if tag == FIRST {
+            part.first()
+        } else {
+            part.second()
         },
     }
 }
@@ -52,10 +52,7 @@ fn content_of(part: Part) -> Piece
 {
     Piece {
         lead: Lead::Bare,
-        range: Range {
-            from: part.content,
-            to: part.to,
-        },
+        range: part.content(),
     }
 }
 
@@ -65,10 +62,7 @@ fn led(kind: u8, part: Part) -> Piece
 {
     Piece {
         lead: Lead::One(kind),
-        range: Range {
-            from: part.content,
-            to: part.to,
-        },
+        range: part.content(),
     }
 }
 
@@ -78,10 +72,7 @@ fn retagged(kind: u8, tag: u8, part: Part) -> Piece
 {
     Piece {
         lead: Lead::Two(kind, tag),
-        range: Range {
-            from: part.content,
-            to: part.to,
-        },
+        range: part.content(),
     }
 }
 
@@ -91,10 +82,7 @@ fn by_goal(part: Part) -> Piece
 {
     Piece {
         lead: Lead::One(BY),
-        range: Range {
-            from: part.from,
-            to: part.to,
-        },
+        range: part.whole(),
     }
 }
 
@@ -104,7 +92,7 @@ fn or_tag(tag: u8) -> Piece
 {
     Piece {
         lead: Lead::Two(OR, tag),
-        range: Range { from: 0, to: 0 },
+        range: NO_BYTES,
     }
 }
 
@@ -114,14 +102,8 @@ fn unchanged(stack: StackPlaces) -> Stack
 {
     Stack {
         count: stack.count,
-        top: Piece {
-            lead: Lead::Bare,
-            range: Range { from: 0, to: 0 },
-        },
-        rest: Range {
-            from: stack.from,
-            to: stack.to,
-        },
+        top: NOTHING,
+        rest: stack.items(),
     }
 }
 
@@ -131,14 +113,8 @@ fn dropped(stack: StackPlaces) -> Stack
 {
     Stack {
         count: stack.fewer,
-        top: Piece {
-            lead: Lead::Bare,
-            range: Range { from: 0, to: 0 },
-        },
-        rest: Range {
-            from: stack.rest,
-            to: stack.to,
-        },
+        top: NOTHING,
+        rest: stack.below_top(),
     }
 }
 
@@ -149,10 +125,7 @@ fn pushed(stack: StackPlaces, top: Piece) -> Stack
     Stack {
         count: stack.more,
         top,
-        rest: Range {
-            from: stack.from,
-            to: stack.to,
-        },
+        rest: stack.items(),
     }
 }
 
@@ -163,22 +136,7 @@ fn replaced(stack: StackPlaces, top: Piece) -> Stack
     Stack {
         count: stack.count,
         top,
-        rest: Range {
-            from: stack.rest,
-            to: stack.to,
-        },
-    }
-}
-
-// Port, goal and stacks.
-fn plan_of(port: u8, goal: Piece, ancestors: Stack, bets: Stack) -> Plan
-    ensures { result ≡ plan_of port goal ancestors bets }
-{
-    Plan {
-        port,
-        goal,
-        ancestors,
-        bets,
+        rest: stack.below_top(),
     }
 }
 
@@ -186,113 +144,118 @@ fn plan_of(port: u8, goal: Piece, ancestors: Stack, bets: Stack) -> Plan
 pub fn kept(v: View, port: u8) -> Plan
     ensures { result ≡ kept v port }
 {
-    plan_of(
+    Plan {
         port,
-        whole(v.goal),
-        unchanged(v.ancestors),
-        unchanged(v.bets),
-    )
+        goal: whole(v.goal),
+        ancestors: unchanged(v.ancestors),
+        bets: unchanged(v.bets),
+    }
 }
 
 // The same without the bet on top.
 pub fn bet_dropped(v: View, port: u8) -> Plan
     ensures { result ≡ bet_dropped v port }
 {
-    plan_of(port, whole(v.goal), unchanged(v.ancestors), dropped(v.bets))
+    Plan {
+        port,
+        goal: whole(v.goal),
+        ancestors: unchanged(v.ancestors),
+        bets: dropped(v.bets),
+    }
 }
 
 // From a conjunction or a disjunction to a half under it.
 pub fn entered(v: View, port: u8, kind: u8, tag: u8) -> Plan
     ensures { result ≡ entered v port kind tag }
 {
-    plan_of(
+    Plan {
         port,
-        half_piece(v.goal, tag),
-        pushed(v.ancestors, retagged(kind, tag, v.goal)),
-        unchanged(v.bets),
-    )
+        goal: half_piece(v.goal, tag),
+        ancestors: pushed(v.ancestors, retagged(kind, tag, v.goal)),
+        bets: unchanged(v.bets),
+    }
 }
 
 // From a disjunction to the half that the bet on top names, without that bet.
 pub fn chosen(v: View, port: u8) -> Plan
     ensures { result ≡ chosen v port }
 {
-    plan_of(
+    Plan {
         port,
-        half_piece(v.goal, v.bet.tag),
-        pushed(v.ancestors, retagged(IN_DISJ, v.bet.tag, v.goal)),
-        dropped(v.bets),
-    )
+        goal: half_piece(v.goal, v.bet.tag),
+        ancestors: pushed(v.ancestors, retagged(IN_DISJ, v.bet.tag, v.goal)),
+        bets: dropped(v.bets),
+    }
 }
 
 // From one half to the other.
 pub fn reached(v: View, port: u8, kind: u8, tag: u8) -> Plan
     ensures { result ≡ reached v port kind tag }
 {
-    plan_of(
+    Plan {
         port,
-        half_piece(v.ancestor, tag),
-        replaced(v.ancestors, retagged(kind, tag, v.ancestor)),
-        unchanged(v.bets),
-    )
+        goal: half_piece(v.ancestor, tag),
+        ancestors: replaced(v.ancestors, retagged(kind, tag, v.ancestor)),
+        bets: unchanged(v.bets),
+    }
 }
 
 // From a half to the conjunction or the disjunction.
 pub fn left(v: View, port: u8, kind: u8) -> Plan
     ensures { result ≡ left v port kind }
 {
-    plan_of(
+    Plan {
         port,
-        led(kind, v.ancestor),
-        dropped(v.ancestors),
-        unchanged(v.bets),
-    )
+        goal: led(kind, v.ancestor),
+        ancestors: dropped(v.ancestors),
+        bets: unchanged(v.bets),
+    }
 }
 
 // From a half to the disjunction, with OR of the half put on the bets.
 pub fn left_with_or(v: View, port: u8) -> Plan
     ensures { result ≡ left_with_or v port }
 {
-    plan_of(
+    Plan {
         port,
-        led(DISJ, v.ancestor),
-        dropped(v.ancestors),
-        pushed(v.bets, or_tag(v.ancestor.tag)),
-    )
+        goal: led(DISJ, v.ancestor),
+        ancestors: dropped(v.ancestors),
+        bets: pushed(v.bets, or_tag(v.ancestor.tag)),
+    }
 }
 
 // From a body to its atom.
 pub fn atom_left(v: View, port: u8) -> Plan
     ensures { result ≡ atom_left v port }
 {
-    plan_of(
+    Plan {
         port,
-        whole(v.ancestor),
-        dropped(v.ancestors),
-        unchanged(v.bets),
-    )
+        goal: whole(v.ancestor),
+        ancestors: dropped(v.ancestors),
+        bets: unchanged(v.bets),
+    }
 }
 
 // From a body to its atom, with BY of the body put on the bets.
 pub fn atom_left_by(v: View, port: u8) -> Plan
     ensures { result ≡ atom_left_by v port }
 {
-    plan_of(
+    Plan {
         port,
-        whole(v.ancestor),
-        dropped(v.ancestors),
-        pushed(v.bets, by_goal(v.goal)),
-    )
+        goal: whole(v.ancestor),
+        ancestors: dropped(v.ancestors),
+        bets: pushed(v.bets, by_goal(v.goal)),
+    }
 }
 
 // From an atom to the body that the bet on top names, without that bet.
 pub fn body_entered(v: View, port: u8) -> Plan
     ensures { result ≡ body_entered v port }
 {
-    plan_of(
+    Plan {
         port,
-        content_of(v.bet),
-        pushed(v.ancestors, whole(v.goal)),
-        dropped(v.bets),
-    )
+        goal: content_of(v.bet),
+        ancestors: pushed(v.ancestors, whole(v.goal)),
+        bets: dropped(v.bets),
+    }
 }

@@ -3,8 +3,7 @@
 
 pub mod view; // view.rt: what a rule looks at in an event
 pub mod layouts; // layouts.rt: the plans of the rules
-pub mod rules; // rules.rt: the numbers of the rules
-pub mod numbers; // numbers.rt: a choice between two numbers
+pub mod rules; // rules.rt: the names of the rules
 pub mod forward; // forward.rt: rules and plans of steps forward
 pub mod back; // back.rt: rules and plans of steps back
 pub mod first; // first.rt: query to first event

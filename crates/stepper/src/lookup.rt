@@ -8,8 +8,7 @@ use records::door::door;
 use records::heads::{GoalHead, goal_head};
 use records::places::event_places;
 use records::put::Range;
-use records::questions::DONE;
-use terms::definitions::{Lookup, find_definition};
+use terms::definitions::find_definition;
 
 // No bytes, at the start.
 fn nowhere() -> Range
@@ -24,8 +23,8 @@ fn definition_range(program: &[u8], p: usize, k: usize) -> Range
     ensures { (ds : List Definition) → read_program program.now ≡ tree ds → result ≡ range_of (definition_part 5 ds p k) }
 {
     match find_definition(program, p, k) {
-        Lookup::Absent => nowhere(),
-        Lookup::Present(place) => Range {
+        None => nowhere(),
+        Some(place) => Range {
             from: place.start,
             to: place.end,
         },
@@ -39,7 +38,10 @@ fn named_range(program: &[u8], event: &[u8]) -> Range
     ensures { (ds : List Definition) (e : Event) → read_program program.now ≡ tree ds → read_event event.now ≡ tree e → result ≡ range_of (named_part ds e) }
 {
     let places = event_places(event);
-    let GoalHead::Atom(p, k) = goal_head(event, places.goal.from) else {
+    let Some(head) = goal_head(event, places.goal.from) else {
+        return nowhere();
+    };
+    let GoalHead::Atom(p, k) = head else {
         return nowhere();
     };
     definition_range(program, p, k)
@@ -49,10 +51,10 @@ fn named_range(program: &[u8], event: &[u8]) -> Range
 pub fn lookup_range(program: &[u8], event: &[u8]) -> Range
     ensures { result ≡ range_of (lookup program.now event.now) }
 {
-    if door(program, event) != DONE {
-        return nowhere();
+    match door(program, event) {
+        Ok(()) => named_range(program, event),
+        Err(_) => nowhere(),
     }
-    named_range(program, event)
 }
 
 // The definition's part of the program: empty where there is none, because a question said no, the goal is another kind of goal, or the program has

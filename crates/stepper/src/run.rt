@@ -3,26 +3,26 @@
 ghost use Rattle.std.specs.Prelude.{◌≡◌, false, ◌+◌, ◌≤◌, ◌<◌, [], length, take};
 ghost use Rattle.records.specs.Format.Syntax.{Event};
 ghost use Rattle.records.specs.Gate.Gate.{Accepted, tree, read_event};
+ghost use Rattle.records.specs.Gate.Reply.{outcome_number};
 ghost use Rattle.records.specs.Writing.Patched.{Put};
-ghost use Rattle.stepper.specs.Rules.Rules.{step};
 ghost use Rattle.stepper.specs.Services.Services.{machine};
 ghost use Rattle.stepper.specs.Services.Desk.{layers};
 ghost use Rattle.records.specs.Ends.Places.{EndsOf};
 ghost use Rattle.stepper.specs.Step.Stepped.{Stepped, BothPassed};
 ghost use Rattle.stepper.specs.Run.Run.{mark, is_full, less_room, run};
 ghost use Rattle.stepper.specs.Run.RunService.{run_record, RunReplied};
-ghost use Rattle.stepper.specs.Run.RunLoop.{RunStands, RunHolds, direction, told_mark, mark_numbers, with_mark, port_flag, aimed_at, stop_at, room_of, started_run, stopped_run, met_case, stopped_case, asked, plain_order, refused_run, RanTo, RanHere};
+ghost use Rattle.stepper.specs.Run.RunLoop.{RunStands, RunHolds, direction, told_mark, mark_numbers, with_mark, port_flag, aimed_at, stop_at, room_of, started_run, stopped_run, run_outcome, met_case, stopped_case, asked, plain_order, refused_run, RanTo, RanHere};
 
-use crate::emit::StepAnswer;
-use crate::step::{next_event, source_event};
+use crate::emit::Reached;
+use crate::step::step_on;
 use records::door::gate;
 use records::kinds::{CALL, EXIT, FAIL, RECORD_LIMIT};
 use records::places::{PartEnds, part_ends, places_by};
 use records::put::put_part;
-use records::questions::DONE;
+use records::questions::Refusal;
 
 // Events of these ports that have so many ancestors.
-#[derive(Clone, Copy)]
+#[derive(Clone, Copy, Default)]
 pub struct RunAim {
     pub call: bool,
     pub exit: bool,
@@ -31,32 +31,43 @@ pub struct RunAim {
     pub ancestors: usize,
 }
 
-// What is asked of a run: its direction, whether it has an aim, and whether the slice that it is lent is a log, of three numbers a mark.
-#[derive(Clone, Copy)]
+// What is asked of a run: its direction, its aim, and whether the slice that it is lent is a log, of three numbers a mark. (No Option of a log: what is lent
+// and no log stays as it was.)
+#[derive(Clone, Copy, Default)]
 pub struct RunOrder {
     pub back: bool,
-    pub aimed: bool,
-    pub aim: RunAim,
+    pub aim: Option<RunAim>,
     pub logged: bool,
 }
 
 // Why a run stopped: all steps are taken, the aim is met, the log is full, or a question refuses the next step.
-#[derive(Clone, Copy)]
+#[derive(Clone, Copy, PartialEq, Eq)]
 pub enum RunStop {
     Spent,
     Met,
     Full,
-    Refused,
+    Refused(Refusal),
 }
 
-// 0 or the number of the question that stopped the run, the steps that it took, and of the record that it reached the length and where its parts end.
+// Why a run stopped, the steps that it took, and of the record that it reached the length and where its parts end.
 #[derive(Clone, Copy)]
 pub struct RunAnswer {
-    pub number: u8,
     pub stop: RunStop,
     pub taken: u32,
     pub length: usize,
     pub ends: PartEnds,
+}
+
+impl RunAnswer {
+    // Done, or the question that stopped the run.
+    pub fn outcome(self) -> Result<(), Refusal>
+        ensures { result ≡ run_outcome self.stop }
+    {
+        match self.stop {
+            RunStop::Refused(refusal) => Err(refusal),
+            _ => Ok(()),
+        }
+    }
 }
 
 // An event's port and the sizes of its stacks.
@@ -104,13 +115,11 @@ fn meets(aim: RunAim, mark: RunMark) -> bool
 fn stop_at(order: RunOrder, mark: RunMark) -> RunStop
     ensures { result ≡ stop_at order mark }
 {
-    if order.aimed {
-        let aim = order.aim;
-        if meets(aim, mark) {
-            return RunStop::Met;
-        }
+    if order.aim.is_some_and(|aim| meets(aim, mark)) {
+        RunStop::Met
+    } else {
+        RunStop::Spent
     }
-    RunStop::Spent
 }
 
 // A log has so many numbers for a mark.
@@ -127,7 +136,7 @@ fn put_mark(log: &mut [usize], at: usize, mark: RunMark) -> usize
     requires { at + 3 ≤ length log.old }
     ensures { Put log.old at (mark_numbers mark) log.new result }
 {
-    log[at] = mark.port as usize;
+    log[at] = usize::from(mark.port);
     log[at + 1] = mark.ancestors;
     log[at + 2] = mark.bets;
     at + 3
@@ -143,32 +152,11 @@ fn log_mark(log: &mut [usize], logged: bool, taken: usize, mark: RunMark)
     }
 }
 
-// One step in a direction.
-fn step_on(program: &[u8], event: &[u8], ends: PartEnds, back: bool, out: &mut [u8]) -> StepAnswer
-    requires both_passed { BothPassed program.now event.now }
-    requires ends_of { EndsOf event.now ends }
-    requires in_bounds { 32768 ≤ length out.old }
-    ensures { (w : BothPassed program.now event.now) → Stepped (step (machine layers w.definitions) (direction back) w.event) out.old result out.new }
-{
-    if back {
-        source_event(program, event, ends, out)
-    } else {
-        next_event(program, event, ends, out)
-    }
-}
-
 // The run stops where it stands.
-fn stopped(last: RunAnswer, stop: RunStop, number: u8) -> RunAnswer
-    ensures { result ≡ stopped_run last stop number }
+fn stopped(last: RunAnswer, stop: RunStop) -> RunAnswer
+    ensures { result ≡ stopped_run last stop }
 {
-    let ends = last.ends;
-    RunAnswer {
-        number,
-        stop,
-        taken: last.taken,
-        length: last.length,
-        ends,
-    }
+    RunAnswer { stop, ..last }
 }
 
 // One turn of a run that stands where `last` tells, at the event whose record is at the front of `here`: the log is asked for room, the step is made
@@ -187,26 +175,25 @@ fn run_turn(
     requires in_bounds_2 { 32768 ≤ length there.old }
     ensures { (g : RunStands program.now order last here.old log.old) → RunHolds g (last.taken + 1) result here.new log.new }
 {
+    // A usize has 64 bits here, and no `From` for a u32.
     let taken = last.taken as usize;
     if is_full(order.logged, log.len(), taken) {
-        return stopped(last, RunStop::Full, DONE);
+        return stopped(last, RunStop::Full);
     }
     let len = last.length;
-    let moved = step_on(program, &here[..len], last.ends, order.back, there);
-    if moved.number != DONE {
-        return stopped(last, RunStop::Refused, moved.number);
-    }
-    let next = moved.length;
-    let ends = moved.ends;
-    let mark = event_mark(&there[..next], ends);
-    put_part(here, 0, &there[..next]);
-    log_mark(log, order.logged, taken, mark);
-    RunAnswer {
-        number: DONE,
-        stop: stop_at(order, mark),
-        taken: last.taken + 1,
-        length: next,
-        ends,
+    match step_on(program, &here[..len], last.ends, order.back, there) {
+        Err(refusal) => stopped(last, RunStop::Refused(refusal)),
+        Ok(Reached { length, ends }) => {
+            let mark = event_mark(&there[..length], ends);
+            put_part(here, 0, &there[..length]);
+            log_mark(log, order.logged, taken, mark);
+            RunAnswer {
+                stop: stop_at(order, mark),
+                taken: last.taken + 1,
+                length,
+                ends,
+            }
+        }
     }
 }
 
@@ -214,31 +201,20 @@ fn run_turn(
 pub fn is_met(stop: RunStop) -> bool
     ensures { result ≡ met_case stop }
 {
-    match stop {
-        RunStop::Spent => false,
-        RunStop::Met => true,
-        RunStop::Full => false,
-        RunStop::Refused => false,
-    }
+    matches!(stop, RunStop::Met)
 }
 
 // Whether a run has stopped before all its steps were taken.
 fn has_stopped(stop: RunStop) -> bool
     ensures { result ≡ stopped_case stop }
 {
-    match stop {
-        RunStop::Spent => false,
-        RunStop::Met => true,
-        RunStop::Full => true,
-        RunStop::Refused => true,
-    }
+    !matches!(stop, RunStop::Spent)
 }
 
 // A run that stands where `first` tells, up to so many steps in all.
 fn run_on(
     program: &[u8],
     here: &mut [u8],
-    there: &mut [u8],
     order: RunOrder,
     first: RunAnswer,
     steps: u32,
@@ -247,14 +223,13 @@ fn run_on(
     requires run_stands { RunStands program.now order first here.old log.old }
     requires taken_le_steps { first.taken ≤ steps }
     requires in_bounds { 32768 ≤ length here.old }
-    requires in_bounds_2 { 32768 ≤ length there.old }
     ensures { (g : RunStands program.now order first here.old log.old) → RunHolds g steps result here.new log.new }
 {
+    let mut there = [0; RECORD_LIMIT];
     let mut last = first;
-    while last.taken < steps {
-        last = run_turn(program, here, there, order, last, log);
-        let stop = last.stop;
-        if has_stopped(stop) {
+    for _ in first.taken..steps {
+        last = run_turn(program, here, &mut there, order, last, log);
+        if has_stopped(last.stop) {
             return last;
         }
     }
@@ -266,7 +241,6 @@ fn started(length: usize, ends: PartEnds) -> RunAnswer
     ensures { result ≡ started_run length ends }
 {
     RunAnswer {
-        number: DONE,
         stop: RunStop::Spent,
         taken: 0,
         length,
@@ -287,12 +261,11 @@ pub fn run_from(
     requires in_bounds { 32768 ≤ length out.old }
     ensures { (w : BothPassed program.now event.now) → RanTo (run (machine layers w.definitions) (asked order log.old) steps w.event) order.logged log.old out.old result log.new out.new }
 {
-    let mut here: [u8; RECORD_LIMIT] = [0; RECORD_LIMIT];
-    let mut there: [u8; RECORD_LIMIT] = [0; RECORD_LIMIT];
+    let mut here = [0; RECORD_LIMIT];
     let length = put_part(&mut here, 0, event);
     let ends = part_ends(event);
     let first = started(length, ends);
-    let r = run_on(program, &mut here, &mut there, order, first, steps, log);
+    let r = run_on(program, &mut here, order, first, steps, log);
     let reached = r.length;
     put_part(out, 0, &here[..reached]);
     r
@@ -313,10 +286,7 @@ pub fn run_here(
     requires ends_of { EndsOf (take len here.old) ends }
     ensures { (w : BothPassed program.now (take len here.old)) → RanHere (run (machine layers w.definitions) (asked order []) steps w.event) result here.old here.new }
 {
-    let mut there: [u8; RECORD_LIMIT] = [0; RECORD_LIMIT];
-    let mut no_log: [usize; 1] = [0; 1];
-    let first = started(len, ends);
-    run_on(program, here, &mut there, order, first, steps, &mut no_log)
+    run_on(program, here, order, started(len, ends), steps, &mut [])
 }
 
 // Steps alone.
@@ -325,25 +295,16 @@ fn plain_order(back: bool) -> RunOrder
 {
     RunOrder {
         back,
-        aimed: false,
-        aim: RunAim {
-            call: false,
-            exit: false,
-            fail: false,
-            redo: false,
-            ancestors: 0,
-        },
-        logged: false,
+        ..RunOrder::default()
     }
 }
 
-// A run that the gate refuses by this number.
-fn refused_run(number: u8) -> RunAnswer
-    ensures { result ≡ refused_run number }
+// A run that the gate refuses.
+fn refused_run(refusal: Refusal) -> RunAnswer
+    ensures { result ≡ refused_run refusal }
 {
     RunAnswer {
-        number,
-        stop: RunStop::Refused,
+        stop: RunStop::Refused(refusal),
         taken: 0,
         length: 0,
         ends: PartEnds {
@@ -355,12 +316,10 @@ fn refused_run(number: u8) -> RunAnswer
 
 // The run service: the gate, and then the run with no aim and no log. The event reached is written, also where the run was stopped.
 pub fn run(program: &[u8], event: &[u8], steps: u32, back: bool, out: &mut [u8]) -> RunAnswer
-    ensures { RunReplied (run_record layers (direction back) steps program.now event.now out.old) result.number result.taken out.new }
+    ensures { RunReplied (run_record layers (direction back) steps program.now event.now out.old) (outcome_number (run_outcome result.stop)) result.taken out.new }
 {
-    let number = gate(program, event, out.len());
-    if number != DONE {
-        return refused_run(number);
+    match gate(program, event, out.len()) {
+        Err(refusal) => refused_run(refusal),
+        Ok(()) => run_from(program, event, plain_order(back), steps, &mut [], out),
     }
-    let mut no_log: [usize; 1] = [0; 1];
-    run_from(program, event, plain_order(back), steps, &mut no_log, out)
 }

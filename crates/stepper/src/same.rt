@@ -5,6 +5,7 @@ ghost use Rattle.terms.specs.Body.Body.{body};
 ghost use Rattle.records.specs.Ends.Range.{Inside, cut};
 ghost use Rattle.records.specs.Ends.Same.{same_bytes};
 ghost use Rattle.records.specs.Format.Heads.{pick};
+ghost use Rattle.records.specs.Gate.Reply.{outcome_number};
 ghost use Rattle.stepper.specs.Step.AtomStep.{ProgramRead};
 ghost use Rattle.stepper.specs.Step.LastSeven.{unifier_number, body_number, UnifierViewed, BodyViewed, ancestor_frame};
 
@@ -12,49 +13,44 @@ use crate::view::View;
 use records::compare::same_range;
 use records::kinds::RECORD_LIMIT;
 use records::put::Range;
-use records::questions::{DONE, MATCHES};
-use terms::body::{BodyAnswer, atom_body, body_refusal};
-use terms::equality::{UnifierAnswer, unifier_refusal, unifier_under};
+use records::questions::Refusal;
+use terms::body::{BodyRefusal, atom_body};
+use terms::equality::{UnifierRefusal, unifier_under};
 use terms::variables::Frame;
 
-// 0 where a range of the event has the first n bytes of the other source, else 7.
-fn same_front(other: &[u8], n: usize, event: &[u8], range: Range) -> u8
+// Question 7: has a range of the event the first n bytes of the other source?
+fn same_front(other: &[u8], n: usize, event: &[u8], range: Range) -> Result<(), Refusal>
     requires inside { Inside (record { from = 0; to = n }) other.now }
     requires inside_2 { Inside range event.now }
-    ensures { result ≡ pick (same_bytes (cut other.now (record { from = 0; to = n })) (cut event.now range)) 0 7 }
+    ensures { outcome_number result ≡ pick (same_bytes (cut other.now (record { from = 0; to = n })) (cut event.now range)) 0 7 }
 {
     let front = Range { from: 0, to: n };
     if same_range(other, front, event, range) {
-        DONE
+        Ok(())
     } else {
-        MATCHES
+        Err(Refusal::Matches)
     }
 }
 
-// Exit of an equality: 8 where a value is too long, 7 where the bet on top is not the unifier, else 0.
-pub fn same_unifier(event: &[u8], v: View) -> u8
+// Exit of an equality: question 8 refuses a value that is too long, question 7 a bet on top that is not the unifier.
+pub fn same_unifier(event: &[u8], v: View) -> Result<(), Refusal>
     requires { UnifierViewed event.now v }
-    ensures { (w : UnifierViewed event.now v) → result ≡ unifier_number (unified_under w.bets w.left w.right) w.bindings }
+    ensures { (w : UnifierViewed event.now v) → outcome_number result ≡ unifier_number (unified_under w.bets w.left w.right) w.bindings }
 {
     let mut unifier: [u8; RECORD_LIMIT] = [0; RECORD_LIMIT];
-    let left = Range {
-        from: v.goal.content,
-        to: v.goal.middle,
-    };
-    let right = Range {
-        from: v.goal.middle,
-        to: v.goal.to,
-    };
-    let bet = Range {
-        from: v.bet.content,
-        to: v.bet.to,
-    };
-    let answer = unifier_under(event, v.bets.rest, v.bets.fewer, left, right, &mut unifier);
+    let answer = unifier_under(
+        event,
+        v.bets.rest,
+        v.bets.fewer,
+        v.goal.first(),
+        v.goal.second(),
+        &mut unifier,
+    );
     match answer {
-        UnifierAnswer::TooLarge => unifier_refusal(answer),
-        UnifierAnswer::Clash => MATCHES,
-        UnifierAnswer::Unifier(n) => same_front(&unifier, n, event, bet),
-        UnifierAnswer::TooLong => MATCHES,
+        Ok(Some(n)) => same_front(&unifier, n, event, v.bet.content()),
+        Ok(None) => Err(Refusal::Matches),
+        Err(UnifierRefusal::TooLong) => Err(Refusal::Matches),
+        Err(UnifierRefusal::TooLarge) => Err(Refusal::Values),
     }
 }
 
@@ -71,22 +67,17 @@ fn ancestor_frame(v: View) -> Frame
     }
 }
 
-// Call of a goal under an atom: 9 where a local is too high, 7 where the goal is not the atom's body, else 0.
-pub fn same_body(program: &[u8], event: &[u8], v: View) -> u8
+// Call of a goal under an atom: question 9 refuses a local that is too high, question 7 a goal that is not the atom's body.
+pub fn same_body(program: &[u8], event: &[u8], v: View) -> Result<(), Refusal>
     requires program_read { ProgramRead program.now }
     requires body_viewed { BodyViewed event.now v }
-    ensures { (d : ProgramRead program.now) (w : BodyViewed event.now v) → result ≡ body_number (body d.definitions w.predicate w.terms w.ancestors w.bets) w.goal }
+    ensures { (d : ProgramRead program.now) (w : BodyViewed event.now v) → outcome_number result ≡ body_number (body d.definitions w.predicate w.terms w.ancestors w.bets) w.goal }
 {
     let mut buffer: [u8; RECORD_LIMIT] = [0; RECORD_LIMIT];
-    let goal = Range {
-        from: v.goal.from,
-        to: v.goal.to,
-    };
-    let answer = atom_body(program, event, ancestor_frame(v), &mut buffer);
-    match answer {
-        BodyAnswer::TooMany => body_refusal(answer),
-        BodyAnswer::Undefined => MATCHES,
-        BodyAnswer::Defined(n) => same_front(&buffer, n, event, goal),
-        BodyAnswer::TooLong => MATCHES,
+    match atom_body(program, event, ancestor_frame(v), &mut buffer) {
+        Ok(Some(n)) => same_front(&buffer, n, event, v.goal.whole()),
+        Ok(None) => Err(Refusal::Matches),
+        Err(BodyRefusal::TooLong) => Err(Refusal::Matches),
+        Err(BodyRefusal::TooMany) => Err(Refusal::Locals),
     }
 }

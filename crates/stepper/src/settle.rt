@@ -8,12 +8,12 @@ ghost use Rattle.stepper.specs.Step.AtomStep.{settled_atom, ProgramRead, AtomVie
 ghost use Rattle.stepper.specs.Step.EqualityStep.{settled_equality, EqualityViewed};
 
 use crate::around::{gap, with_body, with_unifier};
-use crate::emit::{StepAnswer, emit_event, refusal};
+use crate::emit::{StepAnswer, emit_event};
 use crate::layouts::kept;
 use crate::view::View;
 use records::put::Range;
-use terms::body::{BodyAnswer, atom_body, body_refusal};
-use terms::equality::{UnifierAnswer, unifier_refusal, unifier_under};
+use terms::body::atom_body;
+use terms::equality::unifier_under;
 use terms::variables::Frame;
 
 // An equality goes to one port if its terms have no unifier, else to the other with the unifier put on the bets.
@@ -22,30 +22,18 @@ pub fn settle_equality(event: &[u8], v: View, clash: u8, found: u8, out: &mut [u
     requires in_bounds { 32768 ≤ length out.old }
     ensures { (w : EqualityViewed event.now v) (p q : Port) → port_byte p ≡ clash → port_byte q ≡ found → Stepped (settled_equality p q w.left w.right w.ancestors w.bets) out.old result out.new }
 {
-    let left = Range {
-        from: v.goal.content,
-        to: v.goal.middle,
-    };
-    let right = Range {
-        from: v.goal.middle,
-        to: v.goal.to,
-    };
-    let part = gap(v.bets.from + 1, event.len() + 1);
-    let from = part.from;
-    let to = part.to;
-    let answer = unifier_under(
+    let Range { from, to } = gap(v.bets.from + 1, event.len() + 1);
+    let unifier = unifier_under(
         event,
         v.bets.from,
         v.bets.count,
-        left,
-        right,
+        v.goal.first(),
+        v.goal.second(),
         &mut out[from..to],
-    );
-    match answer {
-        UnifierAnswer::TooLarge => refusal(unifier_refusal(answer)),
-        UnifierAnswer::Clash => emit_event(out, kept(v, clash), event),
-        UnifierAnswer::Unifier(n) => with_unifier(event, v, found, n, out),
-        UnifierAnswer::TooLong => refusal(unifier_refusal(answer)),
+    )?;
+    match unifier {
+        None => emit_event(out, kept(v, clash), event),
+        Some(n) => Ok(with_unifier(event, v, found, n, out)),
     }
 }
 
@@ -63,6 +51,7 @@ fn goal_frame(v: View) -> Frame
 }
 
 // An atom goes to one port if it has no definition, else its body, under it, to the other.
+// Not one function with `settle_equality`: ranges, frame, answer and the record around it differ, and the gap alone is shared.
 pub fn settle_atom(
     program: &[u8],
     event: &[u8],
@@ -76,14 +65,10 @@ pub fn settle_atom(
     requires in_bounds { 32768 ≤ length out.old }
     ensures { (d : ProgramRead program.now) (w : AtomViewed event.now v) (p q : Port) → port_byte p ≡ undefined → port_byte q ≡ defined → Stepped (settled_atom d.definitions p q w.predicate w.terms w.ancestors w.bets) out.old result out.new }
 {
-    let part = gap(v.goal.from, event.len());
-    let from = part.from;
-    let to = part.to;
-    let answer = atom_body(program, event, goal_frame(v), &mut out[from..to]);
-    match answer {
-        BodyAnswer::TooMany => refusal(body_refusal(answer)),
-        BodyAnswer::Undefined => emit_event(out, kept(v, undefined), event),
-        BodyAnswer::Defined(n) => with_body(event, v, defined, n, out),
-        BodyAnswer::TooLong => refusal(body_refusal(answer)),
+    let Range { from, to } = gap(v.goal.from, event.len());
+    let body = atom_body(program, event, goal_frame(v), &mut out[from..to])?;
+    match body {
+        None => emit_event(out, kept(v, undefined), event),
+        Some(n) => Ok(with_body(event, v, defined, n, out)),
     }
 }

@@ -1,9 +1,11 @@
 // What a rule looks at in an accepted event: its port, the parts of its goal and of the tops of its stacks, and where the stacks go on.
+#![tactic(auto, unfolding(crate::specs::Plans::View::middle_at, crate::specs::Plans::View::ancestor_part_at, crate::specs::Plans::View::bet_part_at, crate::specs::Plans::View::ancestor_top_at, crate::specs::Plans::View::bet_top_at))]
+
 ghost use Rattle.std.specs.Prelude.{◌≡◌, ◌+◌, ◌-◌, ◌<◌, length};
 ghost use Rattle.records.specs.Format.Syntax.{Event};
 ghost use Rattle.records.specs.Gate.Gate.{Accepted, read_event, tree};
 ghost use Rattle.records.specs.Ends.Places.{EndsOf};
-ghost use Rattle.stepper.specs.Plans.View.{middle_at, goal_part_at, ancestor_part_at, bet_part_at, no_part, TopInside, ancestor_top_at, bet_top_at, stack_at, event_view};
+ghost use Rattle.stepper.specs.Plans.View.{middle_at, untagged_part, tagged_part, goal_part_at, ancestor_part_at, bet_part_at, no_part, TopInside, ancestor_top_at, bet_top_at, stack_at, event_view};
 
 use records::ends::{ancestor_end, bet_end, goals_end, position, term_end};
 use records::kinds::*;
@@ -22,6 +24,48 @@ pub struct Part {
     pub to: usize,
 }
 
+impl Part {
+    // All of it.
+    pub(crate) fn whole(self) -> Range
+        ensures { result ≡ record { from = self.from; to = self.to } }
+    {
+        Range {
+            from: self.from,
+            to: self.to,
+        }
+    }
+
+    // What follows its kind and tag.
+    pub(crate) fn content(self) -> Range
+        ensures { result ≡ record { from = self.content; to = self.to } }
+    {
+        Range {
+            from: self.content,
+            to: self.to,
+        }
+    }
+
+    // The first half or term of its content.
+    pub(crate) fn first(self) -> Range
+        ensures { result ≡ record { from = self.content; to = self.middle } }
+    {
+        Range {
+            from: self.content,
+            to: self.middle,
+        }
+    }
+
+    // The second.
+    pub(crate) fn second(self) -> Range
+        ensures { result ≡ record { from = self.middle; to = self.to } }
+    {
+        Range {
+            from: self.middle,
+            to: self.to,
+        }
+    }
+}
+
 // A stack: its count, the counts with one more and with one less on it, where its items start, where they go on after the top, where they end.
 #[derive(Clone, Copy)]
 pub struct StackPlaces {
@@ -33,7 +77,29 @@ pub struct StackPlaces {
     pub to: usize,
 }
 
-// An event: its port, its goal, its stacks with their tops.
+impl StackPlaces {
+    // All its items.
+    pub(crate) fn items(self) -> Range
+        ensures { result ≡ record { from = self.from; to = self.to } }
+    {
+        Range {
+            from: self.from,
+            to: self.to,
+        }
+    }
+
+    // Those under its top.
+    pub(crate) fn below_top(self) -> Range
+        ensures { result ≡ record { from = self.rest; to = self.to } }
+    {
+        Range {
+            from: self.rest,
+            to: self.to,
+        }
+    }
+}
+
+// An event: its port, its goal, its stacks with their tops. The port is its byte, as are kinds and tags, since they are written again as they were read.
 #[derive(Clone, Copy)]
 pub struct View {
     pub port: u8,
@@ -50,83 +116,42 @@ fn middle(s: &[u8], at: usize, kind: u8, to: usize) -> usize
 {
     match kind {
         EQUAL => position(term_end(s, at)),
-        CONJ => position(goals_end(s, at, 1)),
-        DISJ => position(goals_end(s, at, 1)),
+        CONJ | DISJ => position(goals_end(s, at, 1)),
         _ => to,
     }
 }
 
-fn goal_part(s: &[u8], goal: Range) -> Part
-    requires { goal.from < length s.now }
-    ensures { result ≡ goal_part_at s.now goal }
+// A part whose kind byte stands alone, and one with a tag behind it.
+fn untagged_part(kind: u8, from: usize, middle: usize, to: usize) -> Part
+    requires { from < 18446744073709551615 }
+    ensures { result ≡ untagged_part kind from middle to }
 {
-    let at = goal.from;
-    let to = goal.to;
-    let kind = s[at];
     Part {
         kind,
         tag: 0,
-        from: at,
-        content: at + 1,
-        middle: middle(s, at + 1, kind, to),
+        from,
+        content: from + 1,
+        middle,
         to,
     }
 }
 
-fn ancestor_part(s: &[u8], at: usize) -> Part
-    requires { at + 1 < length s.now }
-    ensures { result ≡ ancestor_part_at s.now at }
+fn tagged_part(kind: u8, tag: u8, from: usize, middle: usize, to: usize) -> Part
+    requires { from + 1 < 18446744073709551615 }
+    ensures { result ≡ tagged_part kind tag from middle to }
 {
-    let kind = s[at];
-    let to = position(ancestor_end(s, at));
-    if kind == ATOM {
-        return Part {
-            kind,
-            tag: 0,
-            from: at,
-            content: at + 1,
-            middle: to,
-            to,
-        };
-    }
     Part {
         kind,
-        tag: s[at + 1],
-        from: at,
-        content: at + 2,
-        middle: position(goals_end(s, at + 2, 1)),
-        to,
-    }
-}
-
-fn bet_part(s: &[u8], at: usize) -> Part
-    requires { at + 1 < length s.now }
-    ensures { result ≡ bet_part_at s.now at }
-{
-    let kind = s[at];
-    let to = position(bet_end(s, at));
-    if kind == OR {
-        return Part {
-            kind,
-            tag: s[at + 1],
-            from: at,
-            content: at + 2,
-            middle: to,
-            to,
-        };
-    }
-    Part {
-        kind,
-        tag: 0,
-        from: at,
-        content: at + 1,
-        middle: to,
+        tag,
+        from,
+        content: from + 2,
+        middle,
         to,
     }
 }
 
 // No part, at the place where it would start.
-fn none(at: usize) -> Part
+fn no_part(at: usize) -> Part
     ensures { result ≡ no_part at }
 {
     Part {
@@ -139,12 +164,49 @@ fn none(at: usize) -> Part
     }
 }
 
+fn goal_part(s: &[u8], goal: Range) -> Part
+    requires { goal.from < length s.now }
+    ensures { result ≡ goal_part_at s.now goal }
+{
+    let kind = s[goal.from];
+    let second = middle(s, goal.from + 1, kind, goal.to);
+    untagged_part(kind, goal.from, second, goal.to)
+}
+
+fn ancestor_part(s: &[u8], at: usize) -> Part
+    requires { at + 1 < length s.now }
+    ensures { result ≡ ancestor_part_at s.now at }
+{
+    let kind = s[at];
+    let to = position(ancestor_end(s, at));
+    if kind == ATOM {
+        untagged_part(kind, at, to, to)
+    } else {
+        let second = position(goals_end(s, at + 2, 1));
+        tagged_part(kind, s[at + 1], at, second, to)
+    }
+}
+
+fn bet_part(s: &[u8], at: usize) -> Part
+    requires { at + 1 < length s.now }
+    ensures { result ≡ bet_part_at s.now at }
+{
+    let kind = s[at];
+    let to = position(bet_end(s, at));
+    if kind == OR {
+        tagged_part(kind, s[at + 1], at, to, to)
+    } else {
+        untagged_part(kind, at, to, to)
+    }
+}
+
+// Not one function with `bet_top`: the closure that finds the part would carry the contract of `ancestor_part` again at its call.
 fn ancestor_top(s: &[u8], row: Row) -> Part
     requires { TopInside row s.now }
     ensures { result ≡ ancestor_top_at s.now row }
 {
     if row.count == 0 {
-        none(row.from)
+        no_part(row.from)
     } else {
         ancestor_part(s, row.from)
     }
@@ -155,17 +217,10 @@ fn bet_top(s: &[u8], row: Row) -> Part
     ensures { result ≡ bet_top_at s.now row }
 {
     if row.count == 0 {
-        none(row.from)
+        no_part(row.from)
     } else {
         bet_part(s, row.from)
     }
-}
-
-// One less, and 0 where there is none.
-fn one_less(n: usize) -> usize
-    ensures { result ≡ n - 1 }
-{
-    if n == 0 { 0 } else { n - 1 }
 }
 
 // A stack whose top ends at `rest`.
@@ -176,7 +231,7 @@ fn stack_places(row: Row, rest: usize) -> StackPlaces
     StackPlaces {
         count: row.count,
         more: row.count + 1,
-        fewer: one_less(row.count),
+        fewer: row.count.saturating_sub(1),
         from: row.from,
         rest,
         to: row.to,

@@ -1,38 +1,42 @@
 // Cases of kind c: the port counts of a walk.
-use case_io::input::{read_number, wide};
+use crate::answer::print_outcome;
+use case_io::input::read_number;
 use case_io::line::{print_end, print_number, print_start};
-use stepper::counts::{CountAnswer, PortCounts, count};
+use stepper::counts::{PortCounts, count};
 
 fn print_counts(counts: PortCounts) {
-    print_number(counts.calls as u64);
-    print_number(counts.exits as u64);
-    print_number(counts.fails as u64);
-    print_number(counts.redos as u64);
+    print_number(u64::from(counts.calls));
+    print_number(u64::from(counts.exits));
+    print_number(u64::from(counts.fails));
+    print_number(u64::from(counts.redos));
 }
 
-fn print_count(ordinal: u64, counted: CountAnswer) {
+fn print_count(ordinal: u64, counts: PortCounts, event: &[u8]) {
+    let counted = count(counts, event);
     print_start(ordinal, b'c');
-    print_number(wide(counted.number) as u64);
-    print_counts(counted.counts);
+    print_outcome(&counted);
+    print_counts(counted.unwrap_or(counts));
     print_end();
 }
 
 // The counts are one field of 16 bytes.
-pub fn count_case(ordinal: u64, event: &[u8]) -> bool {
-    let size = read_number();
-    let calls = read_number();
-    let exits = read_number();
-    let fails = read_number();
-    let redos = read_number();
-    if size.value != 16 || !redos.there {
-        return false;
+fn read_counts() -> Option<PortCounts> {
+    if read_number()? != 16 {
+        return None;
     }
-    let counts = PortCounts {
-        calls: calls.value,
-        exits: exits.value,
-        fails: fails.value,
-        redos: redos.value,
-    };
-    print_count(ordinal, count(counts, event));
-    true
+    let calls = read_number()?;
+    let exits = read_number()?;
+    let fails = read_number()?;
+    let redos = read_number()?;
+    Some(PortCounts {
+        calls,
+        exits,
+        fails,
+        redos,
+    })
+}
+
+pub fn count_case(ordinal: u64, event: &[u8]) -> Option<()> {
+    print_count(ordinal, read_counts()?, event);
+    Some(())
 }

@@ -5,9 +5,9 @@ use case_io::line::{print_end, print_start};
 use stepper::first::first_event;
 
 fn print_first(ordinal: u64, query: &[u8], out: &mut [u8]) {
-    let number = first_event(query, out);
+    let first = first_event(query, out);
     print_start(ordinal, b'q');
-    print_answer(number, out);
+    print_answer(&first, out);
     print_end();
 }
 
@@ -18,10 +18,7 @@ fn first_with(ordinal: u64, query: &[u8], room: u32) {
     print_first(ordinal, query, &mut out[..n]);
 }
 
-pub fn first_case(ordinal: u64, query: &[u8]) -> bool {
-    let room = read_number_field();
-    if room.there {
-        first_with(ordinal, query, room.value);
-    }
-    room.there
+pub fn first_case(ordinal: u64, query: &[u8]) -> Option<()> {
+    first_with(ordinal, query, read_number_field()?);
+    Some(())
 }

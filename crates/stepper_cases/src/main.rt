@@ -18,10 +18,11 @@ use crate::lookup::lookup_case;
 use crate::run::run_case;
 use crate::step::step_case;
 use crate::walk::walk_case;
+use case_io::cases::each_case;
 use case_io::input::{read_field, read_kind};
 
-// A case of a program and an event or a query. Each function of a case gives false, with nothing printed, where the input does not hold the rest.
-fn program_case(ordinal: u64, kind: u8, program: &[u8], second: &[u8]) -> bool {
+// A case of a program and an event or a query. Each function of a case gives None, with nothing printed, where the input does not hold the rest.
+fn program_case(ordinal: u64, kind: u8, program: &[u8], second: &[u8]) -> Option<()> {
     match kind {
         b'f' => step_case(ordinal, false, program, second),
         b'b' => step_case(ordinal, true, program, second),
@@ -29,27 +30,19 @@ fn program_case(ordinal: u64, kind: u8, program: &[u8], second: &[u8]) -> bool {
         b's' => run_case(ordinal, true, program, second),
         b'w' => walk_case(ordinal, program, second),
         b'l' => lookup_case(ordinal, program, second),
-        _ => false,
+        _ => None,
     }
 }
 
-fn second_field(ordinal: u64, kind: u8, first: &[u8]) -> bool {
+fn second_field(ordinal: u64, kind: u8, first: &[u8]) -> Option<()> {
     let mut buf = [0u8; 40000];
-    let field = read_field(&mut buf);
-    if !field.there {
-        return false;
-    }
-    let n = field.size;
+    let n = read_field(&mut buf)?;
     program_case(ordinal, kind, first, &buf[..n])
 }
 
-fn first_field(ordinal: u64, kind: u8) -> bool {
+fn first_field(ordinal: u64, kind: u8) -> Option<()> {
     let mut buf = [0u8; 40000];
-    let field = read_field(&mut buf);
-    if !field.there {
-        return false;
-    }
-    let n = field.size;
+    let n = read_field(&mut buf)?;
     match kind {
         b'q' => first_case(ordinal, &buf[..n]),
         b'c' => count_case(ordinal, &buf[..n]),
@@ -57,16 +50,11 @@ fn first_field(ordinal: u64, kind: u8) -> bool {
     }
 }
 
-// Reads a case and prints its lines.
-fn next_case(ordinal: u64) -> bool {
-    let kind = read_kind();
-    kind.there && first_field(ordinal, kind.byte)
+// Reads a case and prints its lines. None where the input ends.
+fn next_case(ordinal: u64) -> Option<()> {
+    first_field(ordinal, read_kind()?)
 }
 
-// A proved loop has to end, so the number of cases has a limit.
 fn main() {
-    let mut ordinal = 1;
-    while ordinal < 10000 && next_case(ordinal) {
-        ordinal += 1;
-    }
+    each_case(next_case);
 }

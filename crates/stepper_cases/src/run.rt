@@ -1,17 +1,24 @@
 // Cases of kind r and s: a run forward, a run back.
-use crate::answer::print_front;
-use case_io::input::{at_most, read_number_field, wide};
+use crate::answer::{print_front, print_outcome};
+use case_io::input::{at_most, read_number_field};
 use case_io::line::{print_end, print_number, print_start};
-use stepper::run::{RunAnswer, run};
+use records::questions::Refusal;
+use stepper::run::{RunAnswer, RunStop, run};
 
-// The number, the steps taken and, unless the number is 1 to 5 or 11 to 14, the record that is written.
+// Whether the gate has refused a run, so that it was not begun.
+fn is_unbegun(stop: RunStop) -> bool {
+    matches!(
+        stop,
+        RunStop::Refused(Refusal::Program(_) | Refusal::Event(_) | Refusal::Output)
+    )
+}
+
+// The number, the steps taken and, where the run was begun, the record that is written.
 fn print_reached(answer: RunAnswer, out: &[u8]) {
-    let number = answer.number;
-    print_number(wide(number) as u64);
-    print_number(answer.taken as u64);
-    match number {
-        1..=5 | 11..=14 => {}
-        _ => print_front(out),
+    print_outcome(&answer.outcome());
+    print_number(u64::from(answer.taken));
+    if !is_unbegun(answer.stop) {
+        print_front(out);
     }
 }
 
@@ -29,12 +36,9 @@ fn run_with(ordinal: u64, back: bool, program: &[u8], event: &[u8], steps: u32, 
     print_run(ordinal, back, program, event, steps, &mut out[..n]);
 }
 
-pub fn run_case(ordinal: u64, back: bool, program: &[u8], event: &[u8]) -> bool {
-    let steps = read_number_field();
-    let room = read_number_field();
-    if !steps.there || !room.there {
-        return false;
-    }
-    run_with(ordinal, back, program, event, steps.value, room.value);
-    true
+pub fn run_case(ordinal: u64, back: bool, program: &[u8], event: &[u8]) -> Option<()> {
+    let steps = read_number_field()?;
+    let room = read_number_field()?;
+    run_with(ordinal, back, program, event, steps, room);
+    Some(())
 }

@@ -1,27 +1,28 @@
 // Cases of kind f and b: one step forward, one step back.
+ghost use Rattle.records.specs.Gate.Reply.{outcome_number};
 ghost use Rattle.stepper_cases.specs.Stepped.{SteppedBy};
 
 use crate::answer::print_answer;
 use case_io::input::{at_most, read_number_field};
 use case_io::line::{print_end, print_start};
+use stepper::emit::StepAnswer;
 use stepper::service::{step_back, step_forward};
 
-// The number of one step in a direction.
-pub fn step(back: bool, program: &[u8], event: &[u8], out: &mut [u8]) -> u8
-    ensures { SteppedBy back program.now event.now out.old result out.new }
+// One step in a direction.
+pub fn step(back: bool, program: &[u8], event: &[u8], out: &mut [u8]) -> StepAnswer
+    ensures { SteppedBy back program.now event.now out.old (outcome_number result) out.new }
 {
-    let answer = if back {
+    if back {
         step_back(program, event, out)
     } else {
         step_forward(program, event, out)
-    };
-    answer.number
+    }
 }
 
 fn print_step(ordinal: u64, back: bool, program: &[u8], event: &[u8], out: &mut [u8]) {
-    let number = step(back, program, event, out);
+    let answer = step(back, program, event, out);
     print_start(ordinal, if back { b'b' } else { b'f' });
-    print_answer(number, out);
+    print_answer(&answer, out);
     print_end();
 }
 
@@ -32,10 +33,7 @@ fn step_with(ordinal: u64, back: bool, program: &[u8], event: &[u8], room: u32) 
     print_step(ordinal, back, program, event, &mut out[..n]);
 }
 
-pub fn step_case(ordinal: u64, back: bool, program: &[u8], event: &[u8]) -> bool {
-    let room = read_number_field();
-    if room.there {
-        step_with(ordinal, back, program, event, room.value);
-    }
-    room.there
+pub fn step_case(ordinal: u64, back: bool, program: &[u8], event: &[u8]) -> Option<()> {
+    step_with(ordinal, back, program, event, read_number_field()?);
+    Some(())
 }

@@ -1,5 +1,6 @@
 -- Classes: two terms in one table of nodes, and the classes of nodes that a unifier makes equal.
 pub mod Nodes
+pub mod NodesLaws
 pub mod Forest
 pub mod Laid
 pub mod Classes

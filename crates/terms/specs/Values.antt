@@ -1,8 +1,10 @@
 -- Values: S(T) and S(v) in bytes, under question 8.
 pub mod NodeBytes
+pub mod Sized
 pub mod Fitted
 pub mod Entries
 pub mod Links
+pub mod Pairs
 pub mod Replacing
 pub mod Applied
 pub mod Answered

@@ -21,11 +21,9 @@ pub fn list_arguments(event: &[u8], args: Arguments, table: &mut [usize])
 {
     let k = args.arity;
     let mut pos = args.at;
-    let mut i = 0;
-    while i < k {
+    for i in 0..k {
         table[i] = pos;
         pos = position(term_end(event, pos));
-        i += 1;
     }
     table[k] = pos;
 }

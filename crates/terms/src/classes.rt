@@ -1,7 +1,7 @@
-// Classes of nodes: rep[i] is the representative of node i's class. Node i has a kind (1 variable, 2 + arity symbol), a number, and
-// next[i], the first node behind its subtree; its children are i + 1, next[i + 1], .. below next[i].
+// Classes of nodes: rep[i] is the representative of node i's class. Representatives and sizes are tables of their own beside the nodes, since they are
+// changed while the nodes are only read.
 ghost use Rattle.std.specs.Prelude.{◌≡◌, ◌<◌, length};
-ghost use Rattle.terms.specs.Classes.Nodes.{nodes, Table};
+ghost use Rattle.terms.specs.Classes.Nodes.{Table};
 ghost use Rattle.terms.specs.Classes.ClassState.{
   State,
   Relabelled,
@@ -16,7 +16,7 @@ ghost use Rattle.terms.specs.Classes.ClassState.{
   Firsts,
 };
 
-use crate::nodes::{SYMBOL_NODE, VARIABLE_NODE};
+use crate::nodes::{Node, NodeKind};
 
 #[derive(Clone, Copy)]
 pub enum Comparison {
@@ -36,53 +36,49 @@ pub enum Turn {
 fn relabel(rep: &mut [usize], a: usize, b: usize)
     ensures { Relabelled a b rep.old rep.new }
 {
-    let mut i = 0;
-    while i < rep.len() {
-        if rep[i] == b {
-            rep[i] = a;
+    for r in rep.iter_mut() {
+        if *r == b {
+            *r = a;
         }
-        i += 1;
     }
 }
 
 // Whether a is to represent the class of both: a symbol before a variable, and of variables the lower.
-fn preferred(kind: &[usize], number: &[usize], next: &[usize], a: usize, b: usize) -> bool
-    requires { (a < length kind.now) × (b < length kind.now) × (length number.now ≡ length kind.now) }
-    ensures { Preferred (nodes kind.now number.now next.now) a b result }
+fn preferred(table: &[Node], a: usize, b: usize) -> bool
+    requires { (a < length table.now) × (b < length table.now) }
+    ensures { Preferred table.now a b result }
 {
-    if kind[a] >= SYMBOL_NODE {
-        return true;
+    match (table[a].kind, table[b].kind) {
+        (NodeKind::Symbol(_), _) => true,
+        (NodeKind::Variable, NodeKind::Symbol(_)) => false,
+        (NodeKind::Variable, NodeKind::Variable) => table[a].number <= table[b].number,
     }
-    if kind[b] >= SYMBOL_NODE {
-        return false;
-    }
-    number[a] <= number[b]
 }
 
 // Make one class of the classes of p and q.
-fn unite(kind: &[usize], number: &[usize], next: &[usize], rep: &mut [usize], p: usize, q: usize)
-    requires { Unitable kind.now number.now rep.old p q }
-    ensures { United (nodes kind.now number.now next.now) p q rep.old rep.new }
+fn unite(table: &[Node], rep: &mut [usize], p: usize, q: usize)
+    requires { Unitable table.now rep.old p q }
+    ensures { United table.now p q rep.old rep.new }
 {
     let a = rep[p];
     let b = rep[q];
-    if preferred(kind, number, next, a, b) {
+    if preferred(table, a, b) {
         relabel(rep, a, b);
     } else {
         relabel(rep, b, a);
     }
 }
 
-// The symbols i and r: their first children that are not in one class.
-fn compare(number: &[usize], next: &[usize], rep: &[usize], i: usize, r: usize) -> Comparison
-    requires { Comparable number.now next.now rep.now i r }
-    ensures { NodesCompared number.now next.now rep.now i r result }
+// The symbols i and r: their first children that are not in one class. No `for`: the table tells where the next child is.
+fn compare(table: &[Node], rep: &[usize], i: usize, r: usize) -> Comparison
+    requires { Comparable table.now rep.now i r }
+    ensures { NodesCompared table.now rep.now i r result }
 {
-    if number[i] != number[r] {
+    if table[i].number != table[r].number {
         return Comparison::Clash;
     }
-    let end = next[i];
-    let stop = next[r];
+    let end = table[i].next;
+    let stop = table[r].next;
     let mut p = i + 1;
     let mut q = r + 1;
     while p < end {
@@ -92,8 +88,8 @@ fn compare(number: &[usize], next: &[usize], rep: &[usize], i: usize, r: usize) 
         if rep[p] != rep[q] {
             return Comparison::Differ(p, q);
         }
-        p = next[p];
-        q = next[q];
+        p = table[p].next;
+        q = table[q].next;
     }
     if q < stop {
         return Comparison::Clash;
@@ -102,50 +98,35 @@ fn compare(number: &[usize], next: &[usize], rep: &[usize], i: usize, r: usize) 
 }
 
 // One turn at node i. The terms at s and t are to be made equal.
-fn visit(
-    kind: &[usize],
-    number: &[usize],
-    next: &[usize],
-    rep: &mut [usize],
-    i: usize,
-    s: usize,
-    t: usize,
-) -> Turn
-    requires table { Table (nodes kind.now number.now next.now) }
-    requires state { State (nodes kind.now number.now next.now) s t rep.old }
-    requires i_in_bounds { i < length next.now }
-    ensures { Visited (nodes kind.now number.now next.now) s t i rep.old rep.new result }
+fn visit(table: &[Node], rep: &mut [usize], i: usize, s: usize, t: usize) -> Turn
+    requires table { Table table.now }
+    requires state { State table.now s t rep.old }
+    requires i_in_bounds { i < length table.now }
+    ensures { Visited table.now s t i rep.old rep.new result }
 {
-    if kind[i] < SYMBOL_NODE {
+    let NodeKind::Symbol(_) = table[i].kind else {
         return Turn::Fine;
-    }
+    };
     let r = rep[i];
-    match compare(number, next, rep, i, r) {
+    match compare(table, rep, i, r) {
         Comparison::Clash => Turn::Stuck,
         Comparison::Same => Turn::Fine,
         Comparison::Differ(p, q) => {
-            unite(kind, number, next, rep, p, q);
+            unite(table, rep, p, q);
             Turn::Joined
         }
     }
 }
 
-// Close the classes: false where no substitution makes the terms at s and t equal.
-pub fn close(
-    kind: &[usize],
-    number: &[usize],
-    next: &[usize],
-    rep: &mut [usize],
-    s: usize,
-    t: usize,
-) -> bool
-    requires table { Table (nodes kind.now number.now next.now) }
-    requires state { State (nodes kind.now number.now next.now) s t rep.old }
-    ensures { Ended (nodes kind.now number.now next.now) s t rep.new result }
+// Close the classes: false where no substitution makes the terms at s and t equal. No `for`: a join begins again at the first node.
+pub fn close(table: &[Node], rep: &mut [usize], s: usize, t: usize) -> bool
+    requires table { Table table.now }
+    requires state { State table.now s t rep.old }
+    ensures { Ended table.now s t rep.new result }
 {
     let mut i = 0;
-    while i < next.len() {
-        match visit(kind, number, next, rep, i, s, t) {
+    while i < table.len() {
+        match visit(table, rep, i, s, t) {
             Turn::Stuck => return false,
             Turn::Fine => i += 1,
             Turn::Joined => i = 0,
@@ -155,54 +136,38 @@ pub fn close(
 }
 
 // The first node of node i's variable; i itself where it is no variable.
-fn first(kind: &[usize], number: &[usize], next: &[usize], i: usize) -> usize
-    requires { (i < length kind.now) × (length number.now ≡ length kind.now) }
-    ensures { FirstOfVariable (nodes kind.now number.now next.now) i result }
+fn first(table: &[Node], i: usize) -> usize
+    requires { i < length table.now }
+    ensures { FirstOfVariable table.now i result }
 {
-    if kind[i] != VARIABLE_NODE {
+    let NodeKind::Variable = table[i].kind else {
         return i;
-    }
-    let mut j = 0;
-    while j < i {
-        if kind[j] == VARIABLE_NODE {
-            if number[j] == number[i] {
-                return j;
-            }
+    };
+    for (j, node) in table[..i].iter().enumerate() {
+        if node.kind == NodeKind::Variable && node.number == table[i].number {
+            return j;
         }
-        j += 1;
     }
     i
 }
 
 // The nodes of one variable are one class, represented by the first of them.
-fn separate(kind: &[usize], number: &[usize], next: &[usize], rep: &mut [usize])
-    requires table { Table (nodes kind.now number.now next.now) }
-    requires rep_len { length rep.old ≡ length next.now }
-    ensures { Firsts (nodes kind.now number.now next.now) rep.new (length next.now) }
+fn separate(table: &[Node], rep: &mut [usize])
+    requires { length rep.old ≡ length table.now }
+    ensures { Firsts table.now rep.new (length table.now) }
 {
-    let mut i = 0;
-    while i < next.len() {
-        let r = first(kind, number, next, i);
-        rep[i] = r;
-        i += 1;
+    for (i, r) in rep.iter_mut().enumerate() {
+        *r = first(table, i);
     }
 }
 
 // The first classes, with s and t in one.
-pub fn begin(
-    kind: &[usize],
-    number: &[usize],
-    next: &[usize],
-    rep: &mut [usize],
-    s: usize,
-    t: usize,
-)
-    requires table { Table (nodes kind.now number.now next.now) }
-    requires rep_len { (length rep.old ≡ length next.now) × (s < length next.now) × (t < length next.now) }
-    ensures { State (nodes kind.now number.now next.now) s t rep.new }
+pub fn begin(table: &[Node], rep: &mut [usize], s: usize, t: usize)
+    requires { (length rep.old ≡ length table.now) × (s < length table.now) × (t < length table.now) }
+    ensures { State table.now s t rep.new }
 {
-    separate(kind, number, next, rep);
+    separate(table, rep);
     if rep[s] != rep[t] {
-        unite(kind, number, next, rep, s, t);
+        unite(table, rep, s, t);
     }
 }

@@ -6,38 +6,38 @@ ghost use Rattle.terms.specs.Values.Entries.{PairsListed};
 ghost use Rattle.std.proofs.Math.Option.{some};
 ghost use Rattle.terms.specs.Theory.Outcome.{value_under, outcome_of};
 ghost use Rattle.terms.specs.Unifier.UnifierAnswer.{Unifiable};
-ghost use Rattle.terms.specs.Unifier.Equality.{unifier_refusal, OneValue, UnifierAnswered, ValuesAnswered, EqualityUnder, UnifierUnder};
+ghost use Rattle.terms.specs.Unifier.Equality.{as_refusal, OneValue, UnifierAnswered, ValuesAnswered, EqualityUnder, UnifierUnder};
 
 use crate::apply::listed_value;
-use crate::pairs::list_bets;
-use crate::substitute::Sized;
+use crate::nodes::{Classes, Node};
+use crate::pairs::{ListedPair, UNLISTED, list_bets};
 use crate::tables::{
     MOST_NODES, MOST_PAIRS, SHORT_EVENT, SHORT_NODES, SHORT_PAIRS, SHORT_VALUES, SMALL_EVENT,
     SMALL_PAIRS,
 };
-use crate::unifier::{put_unifier, unify_values};
+use crate::unifier::{UnifierFound, put_unifier, unify_values};
 use records::kinds::{RECORD_LIMIT, VALUE_LIMIT};
 use records::put::Range;
-use records::questions::{DONE, FITS, VALUES};
+use records::questions::Refusal;
 
-// Question 8 says no, there is no unifier, its count and pairs have so many bytes, or they are too long for a record or the output: question 10.
-#[derive(Clone, Copy)]
-pub enum UnifierAnswer {
+// A value is too long: question 8. The unifier is too long for a record or the output: question 10.
+#[derive(Clone, Copy, PartialEq, Eq)]
+pub enum UnifierRefusal {
     TooLarge,
-    Clash,
-    Unifier(usize),
     TooLong,
 }
 
-// The number (SPECIFICATION 7.6) for an answer, 0 where no question says no.
-pub fn unifier_refusal(answer: UnifierAnswer) -> u8
-    ensures { result ≡ unifier_refusal answer }
-{
-    match answer {
-        UnifierAnswer::TooLarge => VALUES,
-        UnifierAnswer::Clash => DONE,
-        UnifierAnswer::Unifier(_) => DONE,
-        UnifierAnswer::TooLong => FITS,
+// How many bytes the count and pairs of the unifier have, or none where there is no unifier.
+pub type UnifierAnswer = Result<Option<usize>, UnifierRefusal>;
+
+impl From<UnifierRefusal> for Refusal {
+    ghost from_gives = { λ u r. r ≡ as_refusal u };
+
+    fn from(refusal: UnifierRefusal) -> Refusal {
+        match refusal {
+            UnifierRefusal::TooLarge => Refusal::Values,
+            UnifierRefusal::TooLong => Refusal::Fits,
+        }
     }
 }
 
@@ -45,104 +45,67 @@ pub fn unifier_refusal(answer: UnifierAnswer) -> u8
 fn unifier_in(
     a: &[u8],
     b: &[u8],
-    kind: &mut [usize],
-    number: &mut [usize],
-    next: &mut [usize],
+    table: &mut [Node],
     rep: &mut [usize],
     size: &mut [usize],
     out: &mut [u8],
 ) -> UnifierAnswer
-    requires { Unifiable a.now b.now kind.old number.old next.old rep.old size.old }
+    requires { Unifiable a.now b.now table.old rep.old size.old }
     ensures { ValuesAnswered a.now b.now out.old out.new result }
 {
-    let o = unify_values(a, b, kind, number, next, rep, size);
-    if !o.found {
-        return UnifierAnswer::Clash;
+    let Some(UnifierFound { nodes, length }) = unify_values(a, b, table, rep, size) else {
+        return Ok(None);
+    };
+    if RECORD_LIMIT < length {
+        return Err(UnifierRefusal::TooLong);
     }
-    if RECORD_LIMIT < o.length {
-        return UnifierAnswer::TooLong;
+    if out.len() < length {
+        return Err(UnifierRefusal::TooLong);
     }
-    if out.len() < o.length {
-        return UnifierAnswer::TooLong;
-    }
-    put_unifier(kind, number, next, rep, size, o.nodes, out, 0);
-    UnifierAnswer::Unifier(o.length)
+    put_unifier(Classes { table, rep, size }, nodes, out, 0);
+    Ok(Some(length))
 }
 
-// For values of at most 384 bytes together, which have at most 128 nodes: small tables are cheaper to clear.
-fn unify_short(a: &[u8], b: &[u8], out: &mut [u8]) -> UnifierAnswer
+// By tables of N nodes.
+fn unify<const N: usize>(a: &[u8], b: &[u8], out: &mut [u8]) -> UnifierAnswer
     requires one_value { OneValue a.now × OneValue b.now }
-    requires b_len_bound { length a.now + length b.now ≤ 384 }
+    requires room { (length a.now + length b.now ≤ 3 * N) × (N ≤ 5462) }
     ensures { ValuesAnswered a.now b.now out.old out.new result }
 {
-    let mut kind: [usize; SHORT_NODES] = [0; SHORT_NODES];
-    let mut number: [usize; SHORT_NODES] = [0; SHORT_NODES];
-    let mut next: [usize; SHORT_NODES] = [0; SHORT_NODES];
-    let mut rep: [usize; SHORT_NODES] = [0; SHORT_NODES];
-    let mut size: [usize; SHORT_NODES] = [0; SHORT_NODES];
-    unifier_in(
-        a,
-        b,
-        &mut kind,
-        &mut number,
-        &mut next,
-        &mut rep,
-        &mut size,
-        out,
-    )
+    let mut table = [Node::BLANK; N];
+    let mut rep = [0; N];
+    let mut size = [0; N];
+    unifier_in(a, b, &mut table, &mut rep, &mut size, out)
 }
 
-// For any two values, which have at most 5,462 nodes.
-fn unify_long(a: &[u8], b: &[u8], out: &mut [u8]) -> UnifierAnswer
-    requires { OneValue a.now × OneValue b.now }
-    ensures { ValuesAnswered a.now b.now out.old out.new result }
-{
-    let mut kind: [usize; MOST_NODES] = [0; MOST_NODES];
-    let mut number: [usize; MOST_NODES] = [0; MOST_NODES];
-    let mut next: [usize; MOST_NODES] = [0; MOST_NODES];
-    let mut rep: [usize; MOST_NODES] = [0; MOST_NODES];
-    let mut size: [usize; MOST_NODES] = [0; MOST_NODES];
-    unifier_in(
-        a,
-        b,
-        &mut kind,
-        &mut number,
-        &mut next,
-        &mut rep,
-        &mut size,
-        out,
-    )
-}
-
+// Tables for short values are cheaper to clear.
 fn write_unifier(a: &[u8], b: &[u8], out: &mut [u8]) -> UnifierAnswer
     requires { OneValue a.now × OneValue b.now }
     ensures { ValuesAnswered a.now b.now out.old out.new result }
 {
     if a.len() + b.len() <= SHORT_VALUES {
-        unify_short(a, b, out)
+        unify::<SHORT_NODES>(a, b, out)
     } else {
-        unify_long(a, b, out)
+        unify::<MOST_NODES>(a, b, out)
     }
 }
 
-// The unifier of the value a and the value that a bet stack, whose k pairs are listed, gives the term at a range of the event.
+// The unifier of the value a and the value that a bet stack, whose pairs are listed, gives the term at a range of the event.
 fn unifier_with(
     event: &[u8],
-    places: &[usize],
-    firsts: &[usize],
-    k: usize,
+    entries: &[ListedPair],
     a: &[u8],
     right: Range,
     out: &mut [u8],
 ) -> UnifierAnswer
-    requires pairs_listed { (bets : List Bet) × PairsListed bets event.now places.now firsts.now k }
+    requires pairs_listed { (bets : List Bet) × PairsListed bets event.now entries.now (length entries.now) }
     requires term_at { TermAt event.now right.from right.to }
     requires one_value { OneValue a.now }
-    ensures { (bets : List Bet) → PairsListed bets event.now places.now firsts.now k → (v : OneValue a.now) (t : TermAt event.now right.from right.to) → UnifierAnswered out.old out.new (outcome_of (some v.value.term) (value_under bets t.term)) result }
+    ensures { (bets : List Bet) → PairsListed bets event.now entries.now (length entries.now) → (v : OneValue a.now) (t : TermAt event.now right.from right.to) → UnifierAnswered out.old out.new (outcome_of (some v.value.term) (value_under bets t.term)) result }
 {
     let mut b: [u8; VALUE_LIMIT] = [0; VALUE_LIMIT];
-    let Sized::Fits(m) = listed_value(event, places, firsts, k, event, right.from, &mut b) else {
-        return UnifierAnswer::TooLarge;
+    let Some(m) = listed_value(event, entries, event, right.from, &mut b) else {
+        return Err(UnifierRefusal::TooLarge);
     };
     write_unifier(a, &b[..m], out)
 }
@@ -154,25 +117,24 @@ fn unifier_by(
     n: usize,
     left: Range,
     right: Range,
-    places: &mut [usize],
-    firsts: &mut [usize],
+    table: &mut [ListedPair],
     out: &mut [u8],
 ) -> UnifierAnswer
     requires equality_under { EqualityUnder event.now bets n left right }
-    requires event_len_bound { length event.now ≤ 5 * length places.old }
-    requires firsts_len { length firsts.old ≡ length places.old }
+    requires event_len_bound { length event.now ≤ 5 * length table.old }
     ensures { UnifierUnder event.now bets n left right out.old out.new result }
 {
-    let k = list_bets(event, bets, n, places, firsts);
+    let k = list_bets(event, bets, n, table);
+    let entries = &table[..k];
     let mut a: [u8; VALUE_LIMIT] = [0; VALUE_LIMIT];
-    let Sized::Fits(m) = listed_value(event, places, firsts, k, event, left.from, &mut a) else {
-        return UnifierAnswer::TooLarge;
+    let Some(m) = listed_value(event, entries, event, left.from, &mut a) else {
+        return Err(UnifierRefusal::TooLarge);
     };
-    unifier_with(event, places, firsts, k, &a[..m], right, out)
+    unifier_with(event, entries, &a[..m], right, out)
 }
 
-// For an event of at most 512 bytes: small tables suffice.
-fn unifier_of_small(
+// By tables of N pairs.
+fn unifier_of<const N: usize>(
     event: &[u8],
     bets: usize,
     n: usize,
@@ -181,51 +143,15 @@ fn unifier_of_small(
     out: &mut [u8],
 ) -> UnifierAnswer
     requires equality_under { EqualityUnder event.now bets n left right }
-    requires event_len_bound { length event.now ≤ 512 }
+    requires room { (length event.now ≤ 5 * N) × (N ≤ 6554) }
     ensures { UnifierUnder event.now bets n left right out.old out.new result }
 {
-    let mut places: [usize; SMALL_PAIRS] = [0; SMALL_PAIRS];
-    let mut firsts: [usize; SMALL_PAIRS] = [0; SMALL_PAIRS];
-    unifier_by(event, bets, n, left, right, &mut places, &mut firsts, out)
+    let mut table = [UNLISTED; N];
+    unifier_by(event, bets, n, left, right, &mut table, out)
 }
 
-// For an event of at most 2,048 bytes.
-fn unifier_of_short(
-    event: &[u8],
-    bets: usize,
-    n: usize,
-    left: Range,
-    right: Range,
-    out: &mut [u8],
-) -> UnifierAnswer
-    requires equality_under { EqualityUnder event.now bets n left right }
-    requires event_len_bound { length event.now ≤ 2048 }
-    ensures { UnifierUnder event.now bets n left right out.old out.new result }
-{
-    let mut places: [usize; SHORT_PAIRS] = [0; SHORT_PAIRS];
-    let mut firsts: [usize; SHORT_PAIRS] = [0; SHORT_PAIRS];
-    unifier_by(event, bets, n, left, right, &mut places, &mut firsts, out)
-}
-
-// For any event.
-fn unifier_of_long(
-    event: &[u8],
-    bets: usize,
-    n: usize,
-    left: Range,
-    right: Range,
-    out: &mut [u8],
-) -> UnifierAnswer
-    requires equality_under { EqualityUnder event.now bets n left right }
-    requires event_len_bound { length event.now ≤ 32768 }
-    ensures { UnifierUnder event.now bets n left right out.old out.new result }
-{
-    let mut places: [usize; MOST_PAIRS] = [0; MOST_PAIRS];
-    let mut firsts: [usize; MOST_PAIRS] = [0; MOST_PAIRS];
-    unifier_by(event, bets, n, left, right, &mut places, &mut firsts, out)
-}
-
-// The unifier of the values that the n bets at `bets` of the event give the terms at two of its ranges.
+// The unifier of the values that the n bets at `bets` of the event give the terms at two of its ranges. Tables for small events are cheaper to
+// clear.
 pub fn unifier_under(
     event: &[u8],
     bets: usize,
@@ -239,10 +165,10 @@ pub fn unifier_under(
     ensures { UnifierUnder event.now bets n left right out.old out.new result }
 {
     if event.len() <= SMALL_EVENT {
-        unifier_of_small(event, bets, n, left, right, out)
+        unifier_of::<SMALL_PAIRS>(event, bets, n, left, right, out)
     } else if event.len() <= SHORT_EVENT {
-        unifier_of_short(event, bets, n, left, right, out)
+        unifier_of::<SHORT_PAIRS>(event, bets, n, left, right, out)
     } else {
-        unifier_of_long(event, bets, n, left, right, out)
+        unifier_of::<MOST_PAIRS>(event, bets, n, left, right, out)
     }
 }

@@ -5,36 +5,52 @@ ghost use Rattle.terms.specs.Body.Body.{next_variable};
 ghost use Rattle.terms.specs.Body.Greatest.{greatest_of, greatest_variable, next_after};
 ghost use Rattle.terms.specs.Standing.Frames.{FrameAt};
 
-use crate::variables::{Frame, StackKind, greater, stack_top};
+use crate::variables::{Frame, StackKind, stack_top};
 use records::traverse::{Cursor, variables_top};
 
-// The greatest variable with the first part that holds it, or there is none.
+// A part of an event that has variables.
 #[derive(Clone, Copy)]
-pub enum Greatest {
-    Nowhere,
-    InBets(usize),
-    InGoal(usize),
-    InAncestors(usize),
+pub enum Part {
+    Bets,
+    Goal,
+    Ancestors,
+}
+
+// The greatest variable, and the first part that holds it.
+#[derive(Clone, Copy)]
+pub struct Greatest {
+    pub part: Part,
+    pub variable: usize,
 }
 
 // The first of three parts that holds the greatest variable; each is given by one more than its own greatest, or by 0.
-fn first_greatest(bets: usize, goal: usize, ancestors: usize) -> Greatest
+fn first_greatest(bets: usize, goal: usize, ancestors: usize) -> Option<Greatest>
     ensures { (b g u : List ℕ) → bets ≡ above b → goal ≡ above g → ancestors ≡ above u → result ≡ greatest_of b g u }
 {
-    let top = greater(greater(bets, goal), ancestors);
+    let top = bets.max(goal).max(ancestors);
     if top == 0 {
-        return Greatest::Nowhere;
+        return None;
     }
+    let variable = top - 1;
     if bets == top {
-        return Greatest::InBets(top - 1);
+        return Some(Greatest {
+            part: Part::Bets,
+            variable,
+        });
     }
     if goal == top {
-        return Greatest::InGoal(top - 1);
+        return Some(Greatest {
+            part: Part::Goal,
+            variable,
+        });
     }
-    Greatest::InAncestors(top - 1)
+    Some(Greatest {
+        part: Part::Ancestors,
+        variable,
+    })
 }
 
-pub fn greatest_variable(event: &[u8], frame: Frame) -> Greatest
+pub fn greatest_variable(event: &[u8], frame: Frame) -> Option<Greatest>
     requires { FrameAt event.now frame }
     ensures { (f : FrameAt event.now frame) → result ≡ greatest_variable f.goal.item f.ancestors.items f.bets.items }
 {
@@ -52,15 +68,13 @@ pub fn greatest_variable(event: &[u8], frame: Frame) -> Greatest
 }
 
 // One more than the greatest variable, 0 where there is none.
-fn next_after(greatest: Greatest) -> usize
+fn next_after(greatest: Option<Greatest>) -> usize
     requires { next_after greatest ≤ 65536 }
     ensures { result ≡ next_after greatest }
 {
     match greatest {
-        Greatest::Nowhere => 0,
-        Greatest::InBets(v) => v + 1,
-        Greatest::InGoal(v) => v + 1,
-        Greatest::InAncestors(v) => v + 1,
+        Some(g) => g.variable + 1,
+        None => 0,
     }
 }
 

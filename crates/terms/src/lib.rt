@@ -11,7 +11,7 @@ pub mod greatest; // greatest.rt: the greatest variable of an event, and the fir
 pub mod lengths; // lengths.rt: the lengths of the classes' terms
 pub mod links; // links.rt: where a look for the pair of a variable begins
 pub mod load; // load.rt: two terms in one table of nodes
-pub mod nodes; // nodes.rt: the kinds of nodes
+pub mod nodes; // nodes.rt: the nodes of terms, and their classes
 pub mod pairs; // pairs.rt: the pairs of a bet stack, listed
 pub mod part; // part.rt: in which part of an event its greatest variable stands
 pub mod renaming; // renaming.rt: what a traversal goes over, its variables renamed

@@ -3,13 +3,13 @@ ghost use Rattle.std.specs.Prelude.{◌≡◌, ◌+◌, ◌*◌, ◌≤◌, ◌<
 ghost use Rattle.records.specs.Format.Heads.{term_head_at};
 ghost use Rattle.terms.specs.Classes.Laid.{head_of, IsValue, Loads, Behind, Linkable, Links, Layable, Lays};
 
-use crate::nodes::{SYMBOL_NODE, VARIABLE_NODE};
+use crate::nodes::{Node, NodeKind};
 use records::heads::{TermHead, term_head};
 
 // A node's kind and number, and how many bytes its head has.
 #[derive(Clone, Copy)]
 pub struct NodeHead {
-    pub kind: usize,
+    pub kind: NodeKind,
     pub number: usize,
     pub size: usize,
 }
@@ -19,37 +19,39 @@ fn head_at(b: &[u8], p: usize) -> NodeHead
     ensures { result ≡ head_of (term_head_at b.now p) }
 {
     match term_head(b, p) {
-        TermHead::Variable(v) => NodeHead {
-            kind: VARIABLE_NODE,
+        Some(TermHead::Variable(v)) => NodeHead {
+            kind: NodeKind::Variable,
             number: v,
             size: 3,
         },
-        TermHead::Symbol(f, k) => NodeHead {
-            kind: SYMBOL_NODE + k,
+        Some(TermHead::Symbol(f, k)) => NodeHead {
+            kind: NodeKind::Symbol(k),
             number: f,
             size: 4,
         },
-        TermHead::NoTerm => NodeHead {
-            kind: 0,
+        None => NodeHead {
+            kind: NodeKind::Variable,
             number: 0,
             size: 1,
         },
     }
 }
 
-// The kinds and numbers of a term's nodes, from node `start` on.
-fn load(b: &[u8], kind: &mut [usize], number: &mut [usize], start: usize) -> usize
+// The kinds and numbers of a term's nodes, from node `start` on. No `for`: a head tells where the next is.
+fn load(b: &[u8], table: &mut [Node], start: usize) -> usize
     requires value { IsValue b.now }
-    requires b_bound { 3 * start + length b.now ≤ 3 * length kind.old }
-    requires number_len { length number.old ≡ length kind.old }
-    ensures { Loads b.now start kind.old number.old kind.new number.new result }
+    requires b_bound { 3 * start + length b.now ≤ 3 * length table.old }
+    ensures { Loads b.now start table.old table.new result }
 {
     let mut i = start;
     let mut p = 0;
     while p < b.len() {
         let h = head_at(b, p);
-        kind[i] = h.kind;
-        number[i] = h.number;
+        table[i] = Node {
+            kind: h.kind,
+            number: h.number,
+            next: 0,
+        };
         p += h.size;
         i += 1;
     }
@@ -57,29 +59,27 @@ fn load(b: &[u8], kind: &mut [usize], number: &mut [usize], start: usize) -> usi
 }
 
 // The first node behind the subtree of node i, where that is known of all nodes behind i.
-fn behind(kind: &[usize], next: &[usize], i: usize) -> usize
-    requires { Linkable kind.now next.now (i + 1) }
-    ensures { Behind kind.now next.now i result }
+fn behind(table: &[Node], i: usize) -> usize
+    requires { Linkable table.now (i + 1) }
+    ensures { Behind table.now i result }
 {
+    let NodeKind::Symbol(arity) = table[i].kind else {
+        return i + 1;
+    };
     let mut p = i + 1;
-    let mut k = kind[i];
-    while k > SYMBOL_NODE {
-        p = next[p];
-        k -= 1;
+    for _ in 0..arity {
+        p = table[p].next;
     }
     p
 }
 
 // Where each subtree ends, from the last node to the first.
-fn link(kind: &[usize], next: &mut [usize])
-    requires { Linkable kind.now next.old (length kind.now) }
-    ensures { Links kind.now next.new 0 }
+fn link(table: &mut [Node])
+    requires { Linkable table.old (length table.old) }
+    ensures { Links table.old table.new 0 }
 {
-    let mut i = kind.len();
-    while i > 0 {
-        i -= 1;
-        let e = behind(kind, next, i);
-        next[i] = e;
+    for i in (0..table.len()).rev() {
+        table[i].next = behind(table, i);
     }
 }
 
@@ -91,18 +91,12 @@ pub struct NodeCounts {
 }
 
 // The nodes of two values, one after the other.
-pub fn lay(
-    a: &[u8],
-    b: &[u8],
-    kind: &mut [usize],
-    number: &mut [usize],
-    next: &mut [usize],
-) -> NodeCounts
-    requires { Layable a.now b.now kind.old number.old next.old }
-    ensures { Lays a.now b.now kind.new number.new next.new result }
+pub fn lay(a: &[u8], b: &[u8], table: &mut [Node]) -> NodeCounts
+    requires { Layable a.now b.now table.old }
+    ensures { Lays a.now b.now table.new result }
 {
-    let middle = load(a, kind, number, 0);
-    let count = load(b, kind, number, middle);
-    link(&kind[..count], &mut next[..count]);
+    let middle = load(a, table, 0);
+    let count = load(b, table, middle);
+    link(&mut table[..count]);
     NodeCounts { middle, count }
 }

@@ -1,70 +1,31 @@
 // The service of the greatest variable: in which part of an event it stands, and which it is.
 ghost use Rattle.std.specs.Prelude.{◌≡◌};
-ghost use Rattle.terms.specs.Body.GreatestService.{part_reply, greatest_told, greatest_record};
+ghost use Rattle.terms.specs.Body.GreatestService.{part_number, part_reply, greatest_record};
 
-use crate::greatest::{Greatest, greatest_variable};
+use crate::greatest::{Greatest, Part, greatest_variable};
 use crate::variables::event_frame;
 use records::door::event_door;
 use records::places::event_places;
-use records::questions::DONE;
+use records::questions::Refusal;
 
-// 0, or the number that refuses the event; the number of the part, and the variable.
-#[derive(Clone, Copy)]
-pub struct PartAnswer {
-    pub number: u8,
-    pub part: u8,
-    pub variable: usize,
-}
-
-// The numbers of the parts.
-const NO_PART: u8 = 0;
-
-const BETS_PART: u8 = 1;
-
-const GOAL_PART: u8 = 2;
-
-const ANCESTORS_PART: u8 = 3;
-
-// What is told of an answer.
-fn greatest_told(greatest: Greatest) -> PartAnswer
-    ensures { part_reply result ≡ greatest_told greatest }
-{
-    match greatest {
-        Greatest::Nowhere => PartAnswer {
-            number: DONE,
-            part: NO_PART,
-            variable: 0,
-        },
-        Greatest::InBets(v) => PartAnswer {
-            number: DONE,
-            part: BETS_PART,
-            variable: v,
-        },
-        Greatest::InGoal(v) => PartAnswer {
-            number: DONE,
-            part: GOAL_PART,
-            variable: v,
-        },
-        Greatest::InAncestors(v) => PartAnswer {
-            number: DONE,
-            part: ANCESTORS_PART,
-            variable: v,
-        },
+impl Part {
+    // The number by which C programs and pages know the part; 0 stands for none.
+    pub fn number(self) -> u8
+        ensures { result ≡ part_number self }
+    {
+        match self {
+            Part::Bets => 1,
+            Part::Goal => 2,
+            Part::Ancestors => 3,
+        }
     }
 }
 
-// For every event record: 11 to 14, or the part and the variable.
-pub fn greatest_part(event: &[u8]) -> PartAnswer
+// For every event record: 11 to 14, or its greatest variable with the part that holds it, if it has one.
+pub fn greatest_part(event: &[u8]) -> Result<Option<Greatest>, Refusal>
     ensures { part_reply result ≡ greatest_record event.now }
 {
-    let number = event_door(event);
-    if number != DONE {
-        return PartAnswer {
-            number,
-            part: NO_PART,
-            variable: 0,
-        };
-    }
+    event_door(event)?;
     let places = event_places(event);
-    greatest_told(greatest_variable(event, event_frame(places)))
+    Ok(greatest_variable(event, event_frame(places)))
 }

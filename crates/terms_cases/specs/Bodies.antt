@@ -1,17 +1,15 @@
 -- What a case of kind b comes to: the body of an event's atom under a program, and the program's answer.
-use Rattle.std.specs.Prelude.{◌≡◌, List, ℕ}
+use Rattle.std.specs.Prelude.{◌≡◌, List, ℕ, Option, Some, None, Result, Ok, Err}
 use Rattle.records.specs.Format.Syntax.{Terms, Goal, Ancestor, Bet, Port, Event, Definition}
 use Rattle.records.specs.Format.Syntax.Goal.{truth, failure, equal, conj, disj, atom}
 use Rattle.records.specs.Format.Syntax.Event.{event}
 use Rattle.records.specs.Gate.Gate.{Reading, read_event}
 use Rattle.records.specs.Gate.Gate.Reading.{refused, tree}
-use Rattle.records.specs.Gate.Question.{Question, question_number}
+use Rattle.records.specs.Gate.Question.{Question, refusal}
 use Rattle.records.specs.Gate.Question.Question.{of_program, of_event}
 use Rattle.terms.specs.Body.Body.{Body, body}
-use Rattle.terms.specs.Body.BodyBytes.{BodyAnswered}
-use Rattle.terms.specs.declared.body.BodyAnswer.{BodyAnswer}
-use Rattle.terms_cases.specs.declared.body.BodyCase.{BodyCase}
-use Rattle.terms_cases.specs.declared.body.BodyCase.TheVariants.{Refused, NoAtom, Body as TheAnswer}
+use Rattle.records.specs.declared.questions.Refusal.{Refusal}
+use Rattle.terms.specs.Body.BodyBytes.{BodyAnswer, BodyAnswered, as_refusal}
 
 -- a question refuses a record, the event's goal is no atom, or this is the atom's body
 pub data AtomBody : Type 0 where
@@ -47,11 +45,16 @@ pub record AtomGoal (s : List ℕ) : Type 0 where
 abbrev pub atom_event : {s : List ℕ} → AtomGoal s → Event
 atom_event q = event q.port (atom q.predicate q.terms) q.ancestors q.bets
 
--- the program's answer; without a body the output is as it was
-abbrev pub BodyReply : AtomBody → List ℕ → List ℕ → BodyCase → Type 0
-BodyReply (no q) before after r = (r ≡ Refused (question_number q)) × (after ≡ before)
-BodyReply other before after r = (r ≡ NoAtom) × (after ≡ before)
-BodyReply (is b) before after r = (a : BodyAnswer) × (r ≡ TheAnswer a) × BodyAnswered before after b a
+-- what is told of an atom's body
+abbrev pub body_told : BodyAnswer → Result (Option (Option ℕ)) Refusal
+body_told (Ok o) = Ok (Some o)
+body_told (Err e) = Err (as_refusal e)
 
-pub record BodyReplied (b : AtomBody) (before after : List ℕ) (r : BodyCase) : Type 0 where
+-- the program's answer; without a body the output is as it was
+abbrev pub BodyReply : AtomBody → List ℕ → List ℕ → Result (Option (Option ℕ)) Refusal → Type 0
+BodyReply (no q) before after r = (r ≡ Err (refusal q)) × (after ≡ before)
+BodyReply other before after r = (r ≡ Ok None) × (after ≡ before)
+BodyReply (is b) before after r = (a : BodyAnswer) × (r ≡ body_told a) × BodyAnswered before after b a
+
+pub record BodyReplied (b : AtomBody) (before after : List ℕ) (r : Result (Option (Option ℕ)) Refusal) : Type 0 where
   pub reply : BodyReply b before after r

@@ -1,17 +1,15 @@
 -- What a case of kind u comes to: the unifier of an event's equality under its bets, and the program's answer.
-use Rattle.std.specs.Prelude.{◌≡◌, List, ℕ}
+use Rattle.std.specs.Prelude.{◌≡◌, List, ℕ, Option, Some, None, Result, Ok, Err}
 use Rattle.records.specs.Format.Syntax.{Term, Goal, Ancestor, Bet, Port, Event}
 use Rattle.records.specs.Format.Syntax.Goal.{truth, failure, equal, conj, disj, atom}
 use Rattle.records.specs.Format.Syntax.Event.{event}
 use Rattle.records.specs.Gate.Gate.{Reading, read_event}
 use Rattle.records.specs.Gate.Gate.Reading.{refused, tree}
-use Rattle.records.specs.Gate.Question.{Question, question_number}
+use Rattle.records.specs.Gate.Question.{Question, refusal}
 use Rattle.records.specs.Gate.Question.Question.{of_event}
 use Rattle.terms.specs.Theory.Outcome.{Unified, unified_under}
-use Rattle.terms.specs.Unifier.Equality.{UnifierAnswered}
-use Rattle.terms.specs.declared.equality.UnifierAnswer.{UnifierAnswer}
-use Rattle.terms_cases.specs.declared.unify.Unifying.{Unifying}
-use Rattle.terms_cases.specs.declared.unify.Unifying.TheVariants.{Refused, NoEquality, Unifier as TheAnswer}
+use Rattle.records.specs.declared.questions.Refusal.{Refusal}
+use Rattle.terms.specs.Unifier.Equality.{UnifierAnswer, UnifierAnswered, as_refusal}
 
 -- a question refuses the event, its goal is no equality, or this is the equality's outcome
 pub data Equality : Type 0 where
@@ -46,11 +44,16 @@ pub record EqualityAt (s : List ℕ) : Type 0 where
 abbrev pub equality_event : {s : List ℕ} → EqualityAt s → Event
 equality_event q = event q.port (equal q.left q.right) q.ancestors q.bets
 
--- the program's answer; without a unifier that fits, the output is as it was
-abbrev pub EqualityReply : Equality → List ℕ → List ℕ → Unifying → Type 0
-EqualityReply (no q) before after r = (r ≡ Refused (question_number q)) × (after ≡ before)
-EqualityReply other before after r = (r ≡ NoEquality) × (after ≡ before)
-EqualityReply (is u) before after r = (a : UnifierAnswer) × (r ≡ TheAnswer a) × UnifierAnswered before after u a
+-- what is told of a unifier
+abbrev pub unifier_told : UnifierAnswer → Result (Option (Option ℕ)) Refusal
+unifier_told (Ok o) = Ok (Some o)
+unifier_told (Err e) = Err (as_refusal e)
 
-pub record EqualityReplied (e : Equality) (before after : List ℕ) (r : Unifying) : Type 0 where
+-- the program's answer; without a unifier that fits, the output is as it was
+abbrev pub EqualityReply : Equality → List ℕ → List ℕ → Result (Option (Option ℕ)) Refusal → Type 0
+EqualityReply (no q) before after r = (r ≡ Err (refusal q)) × (after ≡ before)
+EqualityReply other before after r = (r ≡ Ok None) × (after ≡ before)
+EqualityReply (is u) before after r = (a : UnifierAnswer) × (r ≡ unifier_told a) × UnifierAnswered before after u a
+
+pub record EqualityReplied (e : Equality) (before after : List ℕ) (r : Result (Option (Option ℕ)) Refusal) : Type 0 where
   pub reply : EqualityReply e before after r

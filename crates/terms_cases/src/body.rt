@@ -5,21 +5,12 @@ ghost use Rattle.terms.specs.Body.Body.{body};
 ghost use Rattle.terms.specs.Body.BodyBytes.{BodyAnswered};
 ghost use Rattle.terms_cases.specs.Bodies.{AtomGoal, BodyReplied, body_case};
 
-use crate::kind::goal_kind;
 use records::door::{event_door, program_door};
-use records::heads::goal_head;
-use records::kinds::ATOM;
+use records::heads::{GoalHead, goal_head};
 use records::places::event_places;
+use records::questions::Refusal;
 use terms::body::{BodyAnswer, atom_body};
 use terms::variables::event_frame;
-
-// The number that refuses a record; the event's goal is no atom; or the answer.
-#[derive(Clone, Copy)]
-pub enum BodyCase {
-    Refused(u8),
-    NoAtom,
-    Body(BodyAnswer),
-}
 
 // The body of the atom that the event's goal is.
 fn atom_goal(program: &[u8], event: &[u8], out: &mut [u8]) -> BodyAnswer
@@ -31,20 +22,21 @@ fn atom_goal(program: &[u8], event: &[u8], out: &mut [u8]) -> BodyAnswer
     atom_body(program, event, frame, out)
 }
 
-// What the event's atom comes to, for every two slices: the program is questioned first.
-pub fn body_case(program: &[u8], event: &[u8], out: &mut [u8]) -> BodyCase
+// What the event's atom comes to, for every two slices; none where the event's goal is no atom. The program is questioned first.
+pub fn body_case(
+    program: &[u8],
+    event: &[u8],
+    out: &mut [u8],
+) -> Result<Option<Option<usize>>, Refusal>
     ensures { BodyReplied (body_case (read_program program.now) (read_event event.now)) out.old out.new result }
 {
-    let first = program_door(program);
-    if first != 0 {
-        return BodyCase::Refused(first);
-    }
-    let second = event_door(event);
-    if second != 0 {
-        return BodyCase::Refused(second);
-    }
-    if goal_kind(goal_head(event, 4)) != ATOM {
-        return BodyCase::NoAtom;
-    }
-    BodyCase::Body(atom_goal(program, event, out))
+    program_door(program)?;
+    event_door(event)?;
+    let Some(head) = goal_head(event, 4) else {
+        return Ok(None);
+    };
+    let GoalHead::Atom(_, _) = head else {
+        return Ok(None);
+    };
+    Ok(Some(atom_goal(program, event, out)?))
 }

@@ -7,13 +7,13 @@
 #![tactic(auto)]
 
 mod body;
-mod kind;
 mod print;
 mod unify;
 
 use crate::body::body_case;
-use crate::print::{print_body, print_part, print_unifier, print_value};
+use crate::print::{print_case, print_part, print_value};
 use crate::unify::unify_case;
+use case_io::cases::each_case;
 use case_io::input::{at_most, read_field, read_kind, read_number_field};
 use case_io::line::{print_end, print_start};
 use terms::part::greatest_part;
@@ -33,80 +33,65 @@ fn value_with(ordinal: u64, event: &[u8], v: u16, room: u32) {
     value_line(ordinal, event, v, &mut out[..n]);
 }
 
-// A case of an event and two numbers. Each function of a case gives false, with nothing printed, where the input does not hold the rest.
-fn next_value(ordinal: u64, event: &[u8]) -> bool {
-    let numbers = read_number_field();
-    if numbers.there {
-        let both = numbers.value;
-        value_with(ordinal, event, (both / 65536) as u16, both % 65536);
-    }
-    numbers.there
+// A case of an event and two numbers. Each function of a case gives None, with nothing printed, where the input does not hold the rest.
+fn next_value(ordinal: u64, event: &[u8]) -> Option<()> {
+    let both = read_number_field()?;
+    value_with(ordinal, event, (both / 65536) as u16, both % 65536);
+    Some(())
 }
 
 // A case of an event.
-fn next_unifier(ordinal: u64, event: &[u8]) -> bool {
+fn next_unifier(ordinal: u64, event: &[u8]) -> Option<()> {
     let mut out = io::large_buffer();
     let answer = unify_case(event, &mut out);
     print_start(ordinal, b'u');
-    print_unifier(answer, &out);
+    print_case(answer, &out);
     print_end();
-    true
+    Some(())
 }
 
 // A case of an event.
-fn next_greatest(ordinal: u64, event: &[u8]) -> bool {
+fn next_greatest(ordinal: u64, event: &[u8]) -> Option<()> {
     let answer = greatest_part(event);
     print_start(ordinal, b'g');
     print_part(answer);
     print_end();
-    true
+    Some(())
 }
 
 fn body_line(ordinal: u64, program: &[u8], event: &[u8]) {
     let mut out = [0u8; 32768];
     let answer = body_case(program, event, &mut out);
     print_start(ordinal, b'b');
-    print_body(answer, &out);
+    print_case(answer, &out);
     print_end();
 }
 
 // A case of a program and an event.
-fn next_body(ordinal: u64, program: &[u8]) -> bool {
+fn next_body(ordinal: u64, program: &[u8]) -> Option<()> {
     let mut buf = io::large_buffer();
-    let field = read_field(&mut buf);
-    if field.there {
-        let n = field.size;
-        body_line(ordinal, program, &buf[..n]);
-    }
-    field.there
+    let n = read_field(&mut buf)?;
+    body_line(ordinal, program, &buf[..n]);
+    Some(())
 }
 
-fn first_field(ordinal: u64, kind: u8) -> bool {
+fn first_field(ordinal: u64, kind: u8) -> Option<()> {
     let mut buf = io::large_buffer();
-    let field = read_field(&mut buf);
-    if !field.there {
-        return false;
-    }
-    let n = field.size;
+    let n = read_field(&mut buf)?;
     match kind {
         b'v' => next_value(ordinal, &buf[..n]),
         b'u' => next_unifier(ordinal, &buf[..n]),
         b'b' => next_body(ordinal, &buf[..n]),
         b'g' => next_greatest(ordinal, &buf[..n]),
-        _ => false,
+        _ => None,
     }
 }
 
-// Reads a case and prints its line.
-fn next_case(ordinal: u64) -> bool {
-    let kind = read_kind();
-    kind.there && first_field(ordinal, kind.byte)
+// Reads a case and prints its line. None where the input ends.
+fn next_case(ordinal: u64) -> Option<()> {
+    first_field(ordinal, read_kind()?)
 }
 
-// A proved loop has to end, so the number of cases has a limit.
 fn main() {
-    let mut ordinal = 1;
-    while ordinal < 10000 && next_case(ordinal) {
-        ordinal += 1;
-    }
+    each_case(next_case);
 }

@@ -1,12 +1,8 @@
 // What is printed of an answer.
-use crate::body::BodyCase;
-use crate::unify::Unifying;
-use case_io::input::{at_most, wide};
+use case_io::input::at_most;
 use case_io::line::{print_number, print_record, print_word};
-use records::put::Receipt;
-use terms::body::BodyAnswer;
-use terms::equality::UnifierAnswer;
-use terms::part::PartAnswer;
+use records::questions::Refusal;
+use terms::greatest::Greatest;
 
 // At most so many bytes are printed whole.
 const WHOLE: usize = 256;
@@ -18,53 +14,40 @@ fn print_written(out: &[u8], n: usize) {
     print_record(&out[..used], WHOLE);
 }
 
-pub fn print_value(emit: Receipt, out: &[u8]) {
-    let number = emit.number;
-    if number == 0 {
-        print_written(out, emit.length);
-    } else {
-        print_number(wide(number) as u64);
+// The number of the question that refuses.
+fn print_refusal(refusal: Refusal) {
+    print_number(u64::from(refusal.number()));
+}
+
+pub fn print_value(emit: Result<usize, Refusal>, out: &[u8]) {
+    match emit {
+        Ok(n) => print_written(out, n),
+        Err(refusal) => print_refusal(refusal),
     }
 }
 
-fn print_unifier_answer(answer: UnifierAnswer, out: &[u8]) {
+// That the event's goal is of another kind, that there is no answer, how long the answer is, or the question that refuses.
+pub fn print_case(case: Result<Option<Option<usize>>, Refusal>, out: &[u8]) {
+    match case {
+        Ok(None) => print_word(b"other"),
+        Ok(Some(None)) => print_word(b"none"),
+        Ok(Some(Some(n))) => print_written(out, n),
+        Err(Refusal::Fits) => print_word(b"long"),
+        Err(refusal) => print_refusal(refusal),
+    }
+}
+
+fn print_found(part: u8, variable: usize) {
+    print_number(0);
+    print_number(u64::from(part));
+    print_number(variable as u64);
+}
+
+// Part and variable are 0 where the event has no variable.
+pub fn print_part(answer: Result<Option<Greatest>, Refusal>) {
     match answer {
-        UnifierAnswer::TooLarge => print_number(8),
-        UnifierAnswer::Clash => print_word(b"none"),
-        UnifierAnswer::TooLong => print_word(b"long"),
-        UnifierAnswer::Unifier(n) => print_written(out, n),
-    }
-}
-
-pub fn print_unifier(answer: Unifying, out: &[u8]) {
-    match answer {
-        Unifying::Refused(number) => print_number(wide(number) as u64),
-        Unifying::NoEquality => print_word(b"other"),
-        Unifying::Unifier(unifier) => print_unifier_answer(unifier, out),
-    }
-}
-
-fn print_body_answer(answer: BodyAnswer, out: &[u8]) {
-    match answer {
-        BodyAnswer::TooMany => print_number(9),
-        BodyAnswer::Undefined => print_word(b"none"),
-        BodyAnswer::TooLong => print_word(b"long"),
-        BodyAnswer::Defined(n) => print_written(out, n),
-    }
-}
-
-pub fn print_body(answer: BodyCase, out: &[u8]) {
-    match answer {
-        BodyCase::Refused(number) => print_number(wide(number) as u64),
-        BodyCase::NoAtom => print_word(b"other"),
-        BodyCase::Body(body) => print_body_answer(body, out),
-    }
-}
-
-pub fn print_part(answer: PartAnswer) {
-    print_number(wide(answer.number) as u64);
-    if answer.number == 0 {
-        print_number(wide(answer.part) as u64);
-        print_number(answer.variable as u64);
+        Ok(Some(greatest)) => print_found(greatest.part.number(), greatest.variable),
+        Ok(None) => print_found(0, 0),
+        Err(refusal) => print_refusal(refusal),
     }
 }

@@ -2,31 +2,22 @@
 ghost use Rattle.records.specs.Gate.Gate.{read_event};
 ghost use Rattle.terms_cases.specs.Equalities.{EqualityAt, EqualityReplied, equality_of};
 
-use crate::kind::goal_kind;
 use records::door::event_door;
-use records::ends::{Found, term_end};
-use records::heads::goal_head;
-use records::kinds::EQUAL;
+use records::ends::term_end;
+use records::heads::{GoalHead, goal_head};
 use records::places::event_places;
 use records::put::Range;
-use terms::equality::{UnifierAnswer, unifier_under};
-
-// The number that refuses the event; its goal is no equality; or the answer.
-#[derive(Clone, Copy)]
-pub enum Unifying {
-    Refused(u8),
-    NoEquality,
-    Unifier(UnifierAnswer),
-}
+use records::questions::Refusal;
+use terms::equality::unifier_under;
 
 // The unifier of the sides of the equality that the event's goal is.
-fn unify_goal(event: &[u8], out: &mut [u8]) -> Unifying
+fn unify_goal(event: &[u8], out: &mut [u8]) -> Result<Option<Option<usize>>, Refusal>
     requires { EqualityAt event.now }
     ensures { EqualityReplied (equality_of (read_event event.now)) out.old out.new result }
 {
     let places = event_places(event);
-    let Found::At(middle) = term_end(event, 5) else {
-        return Unifying::NoEquality;
+    let Some(middle) = term_end(event, 5) else {
+        return Ok(None);
     };
     let goal = places.goal;
     let bets = places.bets;
@@ -38,19 +29,19 @@ fn unify_goal(event: &[u8], out: &mut [u8]) -> Unifying
         from: middle,
         to: goal.to,
     };
-    Unifying::Unifier(unifier_under(event, bets.from, bets.count, left, right, out))
+    Ok(Some(unifier_under(event, bets.from, bets.count, left, right, out)?))
 }
 
-// What the event's equality comes to, for every slice.
-pub fn unify_case(event: &[u8], out: &mut [u8]) -> Unifying
+// What the event's equality comes to, for every slice; none where the event's goal is no equality.
+pub fn unify_case(event: &[u8], out: &mut [u8]) -> Result<Option<Option<usize>>, Refusal>
     ensures { EqualityReplied (equality_of (read_event event.now)) out.old out.new result }
 {
-    let number = event_door(event);
-    if number != 0 {
-        return Unifying::Refused(number);
-    }
-    if goal_kind(goal_head(event, 4)) != EQUAL {
-        return Unifying::NoEquality;
-    }
+    event_door(event)?;
+    let Some(head) = goal_head(event, 4) else {
+        return Ok(None);
+    };
+    let GoalHead::Equal = head else {
+        return Ok(None);
+    };
     unify_goal(event, out)
 }

@@ -8,16 +8,13 @@ ghost use Rattle.text.specs.Tokens.Places.{starts_with, NextToken};
 use crate::bytes::is_alphanumeric;
 use crate::tokens::{Kind, Lexeme};
 use crate::words::{blanks_end, functor_kind, word_end, word_kind};
+use records::put::Range;
 
 // Whether the byte b stands at a place.
 fn stands_at(s: &[u8], at: usize, b: u8) -> bool
-    requires { at ≤ length s.now }
     ensures { result ≡ starts_with (drop at s.now) b }
 {
-    if at < s.len() {
-        return s[at] == b;
-    }
-    false
+    s.get(at) == Some(&b)
 }
 
 // The token that starts with a letter, a digit or an underscore.
@@ -27,20 +24,19 @@ fn word_token(s: &[u8], from: usize) -> Lexeme
     ensures { NextToken s.now from result }
 {
     let to = word_end(s, from);
-    if stands_at(s, to, 40) {
+    let word = Range { from, to };
+    if stands_at(s, to, b'(') {
         let kind = functor_kind(s[from]);
         return Lexeme {
             kind,
-            from,
-            to,
+            word,
             next: to + 1,
         };
     }
-    let kind = word_kind(s, from, to);
+    let kind = word_kind(&s[from..to]);
     Lexeme {
         kind,
-        from,
-        to,
+        word,
         next: to,
     }
 }
@@ -50,12 +46,12 @@ fn mark_kind(b: u8) -> Kind
     ensures { result ≡ kind (token_of_mark (class b)) }
 {
     match b {
-        40 => Kind::Open,
-        41 => Kind::Close,
-        44 => Kind::Comma,
-        59 => Kind::Semicolon,
-        61 => Kind::Equals,
-        46 => Kind::Stop,
+        b'(' => Kind::Open,
+        b')' => Kind::Close,
+        b',' => Kind::Comma,
+        b';' => Kind::Semicolon,
+        b'=' => Kind::Equals,
+        b'.' => Kind::Stop,
         _ => Kind::Wrong,
     }
 }
@@ -68,19 +64,17 @@ fn mark_token(s: &[u8], from: usize) -> Lexeme
     ensures { NextToken s.now from result }
 {
     let b = s[from];
-    let dash = stands_at(s, from + 1, 45);
-    if (b == 58) & dash {
+    let word = Range { from, to: from };
+    if b == b':' && stands_at(s, from + 1, b'-') {
         return Lexeme {
             kind: Kind::Neck,
-            from,
-            to: from,
+            word,
             next: from + 2,
         };
     }
     Lexeme {
         kind: mark_kind(b),
-        from,
-        to: from,
+        word,
         next: from + 1,
     }
 }
@@ -91,16 +85,15 @@ pub fn next_token(s: &[u8], at: usize) -> Lexeme
     ensures { NextToken s.now at result }
 {
     let from = blanks_end(s, at);
-    if from < s.len() {
-        if is_alphanumeric(s[from]) {
-            return word_token(s, from);
-        }
-        return mark_token(s, from);
+    if from == s.len() {
+        return Lexeme {
+            kind: Kind::End,
+            word: Range { from, to: from },
+            next: from,
+        };
     }
-    Lexeme {
-        kind: Kind::End,
-        from,
-        to: from,
-        next: from,
+    if is_alphanumeric(s[from]) {
+        return word_token(s, from);
     }
+    mark_token(s, from)
 }

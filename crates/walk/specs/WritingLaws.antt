@@ -1,12 +1,12 @@
 -- A text on its way out: at its start, after one page more, after a page that was not taken, and where nothing is left of it.
-use Rattle.std.specs.Prelude.{◌≡◌, Bool, true, false, not, List, [], ◌++◌, ℕ, ◌<◌, take}
+use Rattle.std.specs.Prelude.{◌≡◌, Bool, true, false, not, List, [], ◌++◌, ℕ, take}
 use Rattle.std.proofs.Math.Path.{refl}
-use Rattle.std.proofs.Common.{sym, ap, ◌∙◌, append-nil, append_assoc}
+use Rattle.std.proofs.Common.{sym, ◌∙◌, append-nil, append_assoc}
 use Rattle.walk_text.specs.Text.{text}
-use Rattle.walk_text.specs.Rest.{done, left_text, pages_left, Paged}
-use Rattle.walk_text.specs.RestLaws.{page_bytes, pages_more, nothing_left}
-use Rattle.walk_text.specs.declared.text.Stage.TheVariants.{Start}
+use Rattle.walk_text.specs.Rest.{done, left_text, Paged}
+use Rattle.walk_text.specs.RestLaws.{page_bytes, nothing_left}
 use Rattle.walk_text.specs.declared.text.Rest.{Rest}
+use Rattle.walk_text.specs.declared.text.Rest.TheVariants.{Start}
 use Rattle.walk_text.specs.declared.text.Page.{Page}
 use Rattle.walk.specs.Writing.{Handed, Printed, nothing, and_then, Output, all_of, up_to}
 
@@ -26,9 +26,9 @@ not_true true h = sym h
 not_true false h = refl
 
 module _ {program query : List ℕ} where
-  pub printing_start : (rest : Rest) → rest.stage ≡ Start → Printing program query rest
+  pub printing_start : Printing program query Start
   unfolding left_text
-  printing_start rest e = record { bytes = []; printed = nothing; text_is = rw e refl }
+  printing_start = record { bytes = []; printed = nothing; text_is = refl }
 
   pub printing_page : {before after : List ℕ} {rest : Rest} {r : Page} → Printing program query rest → Paged program query rest before r after
       → (all : Bool) → Handed (take r.used after) all → not all ≡ false → Printing program query r.rest
@@ -43,8 +43,5 @@ module _ {program query : List ℕ} where
   printing_cut {after = after} {r = r} p g all h e =
       up_to (take r.used after) (left_text program query r.rest) p.printed (rw (not_true all e) at h) (p.text_is ∙ rw (page_bytes g, g.text_is) refl)
 
-  pub printing_done : {rest : Rest} → Printing program query rest → done rest.stage ≡ true → Output (text program query) true
+  pub printing_done : {rest : Rest} → Printing program query rest → done rest ≡ true → Output (text program query) true
   printing_done {rest} p d = rw (p.text_is, nothing_left program query rest d, append-nil) (all_of p.printed)
-
-pub pages_start : (rest : Rest) → rest.stage ≡ Start → 0 < pages_left rest
-pages_start rest e = pages_more rest (ap done e)

@@ -3,7 +3,6 @@ ghost use Rattle.std.specs.Prelude.{◌+◌, ◌≤◌, length};
 ghost use Rattle.walk.specs.Reading.{PartRead, RecordRead, QueryRead};
 
 use records::door::program_door;
-use records::questions::DONE;
 use walk_text::input::named;
 
 // The bytes of a length field.
@@ -14,8 +13,7 @@ fn read_part(buf: &mut [u8], from: usize, n: usize) -> usize
     requires { from + n ≤ length buf.old }
     ensures { PartRead from n buf.old result buf.new }
 {
-    let to = from + n;
-    io::read_full(0, &mut buf[from..to])
+    io::read_full(0, &mut buf[from..from + n])
 }
 
 // Reads a record to the start of the buffer and gives how many bytes were read of it.
@@ -34,8 +32,8 @@ pub fn read_query(program: &[u8], buf: &mut [u8]) -> usize
     requires { 32768 ≤ length buf.old }
     ensures { QueryRead program.now buf.old result buf.new }
 {
-    if program_door(program) != DONE {
-        return 0;
+    match program_door(program) {
+        Ok(()) => read_record(buf),
+        Err(_) => 0,
     }
-    read_record(buf)
 }

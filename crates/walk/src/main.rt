@@ -9,8 +9,8 @@ use output::print_text;
 use records::kinds::RECORD_LIMIT;
 
 fn main() {
-    let mut program: [u8; RECORD_LIMIT] = [0; RECORD_LIMIT];
-    let mut query: [u8; RECORD_LIMIT] = [0; RECORD_LIMIT];
+    let mut program = [0; RECORD_LIMIT];
+    let mut query = [0; RECORD_LIMIT];
     let p = read_record(&mut program);
     let q = read_query(&program[..p], &mut query);
     print_text(&program[..p], &query[..q]);

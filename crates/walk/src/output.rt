@@ -2,7 +2,7 @@
 ghost use Rattle.walk_text.specs.Text.{text};
 ghost use Rattle.walk.specs.Writing.{Handed, Output};
 
-use walk_text::text::{PAGE, is_done, next_page, whole};
+use walk_text::text::{PAGE, Rest, next_page};
 
 // Whether all bytes were written.
 fn write_bytes(bytes: &[u8]) -> bool
@@ -15,18 +15,14 @@ fn write_bytes(bytes: &[u8]) -> bool
 pub fn print_text(program: &[u8], query: &[u8]) -> bool
     ensures { Output (text program.now query.now) result }
 {
-    let mut page: [u8; PAGE] = [0; PAGE];
-    let mut rest = whole();
-    loop {
-        let p = next_page(program, query, rest, &mut page);
-        let used = p.used;
-        if !write_bytes(&page[..used]) {
+    let mut page = [0; PAGE];
+    let mut rest = Rest::Start;
+    while !rest.is_done() {
+        let next = next_page(program, query, rest, &mut page);
+        if !write_bytes(&page[..next.used]) {
             return false;
         }
-        rest = p.rest;
-        let stage = rest.stage;
-        if is_done(stage) {
-            return true;
-        }
+        rest = next.rest;
     }
+    true
 }

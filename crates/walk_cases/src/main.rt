@@ -6,38 +6,29 @@
 mod shown; // shown.rt: the line of a case
 mod text; // text.rt: the text of an input, page after page
 
+use case_io::cases::each_case;
 use case_io::input::read_field;
 use shown::print_line;
-use text::digest_input;
+use text::{Digested, digest_input};
 use walk_text::text::PAGE;
 
 // The longest input that is stored.
 const LONGEST: usize = 80000;
 
 fn print_case(ordinal: u64, input: &[u8]) {
-    let mut page: [u8; PAGE] = [0; PAGE];
-    let digested = digest_input(input, &mut page);
-    let used = digested.used;
-    let digest = digested.digest;
+    let mut page = [0u8; PAGE];
+    let Digested { digest, used } = digest_input(input, &mut page);
     print_line(ordinal, digest, &page[..used]);
 }
 
-// Reads a case and prints its line. False, with nothing printed, where the input ends or the case is longer than the buffer.
-fn next_case(ordinal: u64) -> bool {
-    let mut input: [u8; LONGEST] = [0; LONGEST];
-    let field = read_field(&mut input);
-    if !field.there {
-        return false;
-    }
-    let n = field.size;
+// Reads a case and prints its line. None, with nothing printed, where the input ends or the case is longer than the buffer.
+fn next_case(ordinal: u64) -> Option<()> {
+    let mut input = [0u8; LONGEST];
+    let n = read_field(&mut input)?;
     print_case(ordinal, &input[..n]);
-    true
+    Some(())
 }
 
-// A proved loop has to end, so the number of cases has a limit.
 fn main() {
-    let mut ordinal = 1;
-    while ordinal < 10000 && next_case(ordinal) {
-        ordinal += 1;
-    }
+    each_case(next_case);
 }

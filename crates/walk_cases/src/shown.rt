@@ -11,15 +11,13 @@ const WHOLE: u32 = 80;
 fn last_line(text: &[u8]) -> usize
     ensures { result ≤ length text.now }
 {
-    let mut start = 0;
-    let mut i = 1;
-    while i < text.len() {
-        if text[i - 1] == b'\n' {
-            start = i;
-        }
-        i += 1;
+    let Some((_, before)) = text.split_last() else {
+        return 0;
+    };
+    match before.iter().rposition(|b| *b == b'\n') {
+        Some(i) => i + 1,
+        None => 0,
     }
-    start
 }
 
 // A byte of a text; / for a line feed.
@@ -28,18 +26,16 @@ fn shown(b: u8) -> u8 {
 }
 
 fn print_text(text: &[u8]) {
-    let mut i = 0;
-    while i < text.len() {
-        io::write_all(1, &[shown(text[i])]);
-        i += 1;
+    for b in text {
+        io::write_all(1, &[shown(*b)]);
     }
 }
 
 fn print_digest(digest: Digest) {
-    print_number(digest.bytes as u64);
-    print_number(digest.lines as u64);
+    print_number(u64::from(digest.bytes));
+    print_number(u64::from(digest.lines));
     io::write_all(1, b" ");
-    io::print_hex(1, digest.checksum as u64, 8);
+    io::print_hex(1, u64::from(digest.checksum), 8);
     io::write_all(1, b" ");
 }
 

@@ -5,9 +5,9 @@ ghost use Rattle.walk_text.specs.Input.{taken};
 ghost use Rattle.walk_text.specs.Text.{text, printed};
 ghost use Rattle.case_io.specs.Digest.{digest_of};
 
-use case_io::digest::{Digest, add_front, no_bytes};
+use case_io::digest::{Digest, add_bytes, no_bytes};
 use walk_text::input::taken_length;
-use walk_text::text::{PAGE, is_done, next_page, whole};
+use walk_text::text::{PAGE, Rest, next_page};
 
 // The digest of a text, and how many bytes its last page has.
 #[derive(Clone, Copy)]
@@ -22,17 +22,15 @@ fn digest_text(program: &[u8], query: &[u8], page: &mut [u8; PAGE]) -> Digested
     ensures within { IsPrefixLen result.used page.new }
 {
     let mut digest = no_bytes();
-    let mut rest = whole();
-    loop {
-        let p = next_page(program, query, rest, page);
-        let used = p.used;
-        digest = add_front(digest, page, used);
-        rest = p.rest;
-        let stage = rest.stage;
-        if is_done(stage) {
-            return Digested { digest, used };
-        }
+    let mut used = 0;
+    let mut rest = Rest::Start;
+    while !rest.is_done() {
+        let next = next_page(program, query, rest, page);
+        used = next.used;
+        digest = add_bytes(digest, &page[..used]);
+        rest = next.rest;
     }
+    Digested { digest, used }
 }
 
 // The text of a program, and of the query at the front of the rest of the input.
@@ -49,6 +47,6 @@ pub fn digest_input(input: &[u8], page: &mut [u8; PAGE]) -> Digested
     ensures digest_value { result.digest ≡ digest_of (printed input.now) }
     ensures within { IsPrefixLen result.used page.new }
 {
-    let n = taken_length(input);
-    digest_query(&input[..n], &input[n..], page)
+    let (program, rest) = input.split_at(taken_length(input));
+    digest_query(program, rest, page)
 }

@@ -1,18 +1,16 @@
 -- What code knows of an input: how many bytes its length field names, and how many are taken of it.
-use Rattle.std.specs.Prelude.{◌≡◌, Bool, true, false, cond, ltb, length}
+use Rattle.std.specs.Prelude.{◌≡◌, Bool, true, false, cond, ltb, length, Option, Some, None}
 use Rattle.std.proofs.Math.Path.{refl, ap}
 use Rattle.std.proofs.Common.{sym, ◌∙◌, arith, lt-ltb, le-ltb, ltb-false}
 use mathlib.Core.List.{List, [], ◌∷◌}
 use Prim.Native.Nat.{ℕ, zero, suc, ◌+◌, ◌≤◌, ◌<◌, min}
 use Rattle.std.proofs.Math.ListN.{take, length-take}
 use Rattle.records.specs.Format.Heads.{joined, word_at}
-use Rattle.records.specs.declared.heads.Word.{Word}
-use Rattle.records.specs.declared.heads.Word.TheVariants.{Number, Short}
 use Rattle.walk_text.specs.Input.{bytes_named, taken}
 
-abbrev word_named : Word → ℕ
-word_named (Number n) = cond (ltb 32766 n) 0 n
-word_named Short = 0
+abbrev word_named : Option ℕ → ℕ
+word_named (Some n) = cond (ltb 32766 n) 0 n
+word_named None = 0
 
 named_word : (s : List ℕ) → word_named (word_at s 0) ≡ bytes_named s
 unfolding bytes_named word_at
@@ -20,17 +18,17 @@ named_word [] = refl
 named_word (x ∷ []) = refl
 named_word (x ∷ y ∷ l) = refl
 
-module _ (s : List ℕ) {w : Word} (is : w ≡ word_at s 0) where
-  named_told : {v : Word} → w ≡ v → word_named v ≡ bytes_named s
+module _ (s : List ℕ) {w : Option ℕ} (is : w ≡ word_at s 0) where
+  named_told : {v : Option ℕ} → w ≡ v → word_named v ≡ bytes_named s
   named_told e = ap word_named (sym e ∙ is) ∙ named_word s
 
-  pub named_over : {n : ℕ} → w ≡ Number n → 32766 < n → 0 ≡ bytes_named s
+  pub named_over : {n : ℕ} → w ≡ Some n → 32766 < n → 0 ≡ bytes_named s
   named_over {n} e h = rw (lt-ltb 32766 n h) at (named_told e)
 
-  pub named_within : {n : ℕ} → w ≡ Number n → n ≤ 32766 → n ≡ bytes_named s
+  pub named_within : {n : ℕ} → w ≡ Some n → n ≤ 32766 → n ≡ bytes_named s
   named_within {n} e h = rw (le-ltb 32766 n h) at (named_told e)
 
-  pub named_short : w ≡ Short → 0 ≡ bytes_named s
+  pub named_short : w ≡ None → 0 ≡ bytes_named s
   named_short e = named_told e
 
 -- a length field that is not over 32,766

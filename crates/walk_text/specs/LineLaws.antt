@@ -3,12 +3,14 @@
 use Rattle.std.specs.Prelude.{◌≡◌, refl, Bool, true, false, List, [], ◌∷◌, ◌++◌, ltb, length}
 use Rattle.std.proofs.Math.Path.{ap}
 use Rattle.std.proofs.Common.{◌∙◌, append-nil, append_assoc, pow-suc, ne_eqb, lt-ltb, ltb-true, ltb-false, length-drop}
-use Prim.Native.Nat.{ℕ, zero, suc, ◌+◌, ◌-◌, ◌/◌, ◌^◌, ◌≤◌, ◌<◌, ◌%◌}
-use Rattle.std.proofs.Math.Nat.{pow-le-pow_right}
+use Prim.Native.Nat.{ℕ, zero, suc, ◌+◌, ◌-◌, ◌/◌, ◌*◌, ◌^◌, ◌≤◌, ◌<◌, ◌%◌}
+use Rattle.std.proofs.Math.Nat.{pow-le-pow_right, add-zero}
 use Rattle.std.proofs.Math.Numerals.{add-one}
 use Rattle.std.proofs.Math.Decide.{dec_le}
 use native.Mathlib.Omega.{arith}
-use Rattle.std.proofs.Math.ListN.{drop, get_or}
+use Rattle.std.specs.Simd.{first_chunks}
+use Rattle.std.proofs.Math.ListN.{take, drop, get_or}
+use Rattle.std.proofs.lemmas.List.{get_or-take, get_or-drop, drop-drop}
 use Rattle.std.proofs.Math.Seq.{drop-cons}
 use Rattle.io.specs.Digits.{last_digits, hex_digit_ascii, IsDigitCount}
 use Rattle.records.specs.Format.Syntax.{Port, call, exit, fail, redo}
@@ -126,3 +128,24 @@ module _ {first : ℕ} {log before : List ℕ} {at : ℕ} {page : List ℕ} {use
 
   pub lines_all : length log < j + 3 → Put before at (log_lines first log) page used
   lines_all h = rw (w.left, few_numbers step (drop j log) (omega (arith, length-drop j log)), append-nil) w.put
+
+-- the numbers of a log's marks, of three each, are those of the log
+mark_at : (k i : ℕ) (l : List ℕ) → i < k → get_or (first_chunks 3 k l) i [] ≡ take 3 (drop (3 * i) l)
+mark_at zero i l h = absurd (omega arith)
+mark_at (suc k) zero l h = refl
+mark_at (suc k) (suc i) l h = let e : 3 * suc i ≡ 3 + 3 * i = omega arith in mark_at k i (drop 3 l) (omega arith) ∙ rw (e, drop-drop (3 * i) 3 l) refl
+
+mark_number : (k i j : ℕ) (l : List ℕ) → i < k → j < 3 → get_or (get_or (first_chunks 3 k l) i []) j 0 ≡ get_or l (3 * i + j) 0
+mark_number k i j l h g = rw (mark_at k i l h, get_or-take 3 (drop (3 * i) l) j 0 g, get_or-drop (3 * i) l j 0) refl
+
+-- one mark more
+pub lines_mark : {first i at used used' : ℕ} {log before page page' : List ℕ} {marks : List (List ℕ)} → LinesPut first log before at page used (3 * i) (first + i)
+    → marks ≡ first_chunks 3 (length log / 3) log → i < length log / 3
+    → Put page used (number_line (first + i) (get_or (get_or marks i []) 0 0) (get_or (get_or marks i []) 1 0) (get_or (get_or marks i []) 2 0)) page' used'
+    → LinesPut first log before at page' used' (3 * (i + 1)) (first + (i + 1))
+lines_mark {first} {i} {log = log} w is h p =
+    let number = λ (j : ℕ) (g : j < 3). mark_number (length log / 3) i j log h g in
+    let numbers = rw (is, number 0 (omega arith), number 1 (omega arith), number 2 (omega arith), add-zero (3 * i)) at p in
+    let next : 3 * (i + 1) ≡ 3 * i + 3 = omega arith in
+    let step : first + (i + 1) ≡ first + i + 1 = omega arith in
+    rw (next, step) (lines_more w (omega arith) numbers)

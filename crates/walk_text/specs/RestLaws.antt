@@ -1,5 +1,5 @@
 -- What a page gives of a text: the stop line alone, the first line, the lines of a run's log, and what is left where the records are refused or accepted.
-use Rattle.std.specs.Prelude.{◌≡◌, true, false, List, [], ◌++◌, ℕ, suc, ◌+◌, ◌-◌, ◌*◌, ◌/◌, ◌≤◌, ◌<◌, min, take}
+use Rattle.std.specs.Prelude.{◌≡◌, true, false, List, [], ◌++◌, ℕ, suc, ◌+◌, ◌-◌, ◌*◌, ◌/◌, ◌≤◌, ◌<◌, min, take, Result, Err}
 use Rattle.std.proofs.Math.Path.{refl}
 use Rattle.std.proofs.Common.{sym, ap, ◌∙◌, subst, append-nil, append_assoc, zero-add, add-one, length-take, take_all}
 use Rattle.std.proofs.Math.Option.{some, some-injective}
@@ -8,11 +8,12 @@ use native.Mathlib.Omega.{arith}
 use Rattle.std.proofs.Math.ListN.{length}
 use Rattle.records.specs.Format.Never.{never}
 use Rattle.records.specs.Format.Syntax.{Goal, Event, Definition}
-use Rattle.records.specs.Gate.Question.{question_number}
+use Rattle.records.specs.Gate.Question.{question_number, refusal_number}
 use Rattle.records.specs.Gate.Gate.{tree, read_program, read_event}
+use Rattle.records.specs.declared.questions.Refusal.{Refusal}
 use Rattle.records.specs.Writing.Patched.{Put}
 use Rattle.records.specs.Writing.PatchedLaws.{part_patched, length_patched, put_none, put_then, put_length}
-use Rattle.records.specs.Gate.Reply.{through, answer_number, reply_with, Replied}
+use Rattle.records.specs.Gate.Reply.{through, answer_number, outcome_number, reply_with, Replied}
 use Rattle.records.specs.Gate.ReplyLaws.{number_refuses}
 use Rattle.records.specs.Gate.Door.{program_door, door, BothPassed}
 use Rattle.records.specs.Gate.DoorLaws.{door_both}
@@ -21,19 +22,21 @@ use Rattle.stepper.specs.Rules.Rules.{first_event}
 use Rattle.stepper.specs.Services.Services.{machine, first_answer, first_record}
 use Rattle.stepper.specs.Services.Desk.{layers}
 use Rattle.stepper.specs.Run.Run.{spent, met, full, by, RunEnd, run, stop_number}
-use Rattle.stepper.specs.Run.RunLoop.{asked, stop_case, log_numbers, RanTo}
+use Rattle.stepper.specs.Run.RunLoop.{asked, stop_case, run_outcome, log_numbers, RanTo}
 use Rattle.stepper.specs.Run.Run.{Order, Stop}
 use Rattle.stepper.specs.Run.RunLaws.{StopTold, run_log_length, run_told, run_within, run_log_within}
 use Rattle.stepper.specs.Run.RunLoopLaws.{numbers_length}
 use Rattle.stepper.specs.declared.run.RunAnswer.{RunAnswer}
+use Rattle.stepper.specs.declared.run.RunStop.{RunStop}
+use Rattle.stepper.specs.declared.run.RunStop.TheVariants.{Spent, Met, Full, Refused}
 use Rattle.walk_text.specs.Line.{line_bytes, mark_lines, log_lines, stop_bytes}
 use Rattle.walk_text.specs.LineLaws.{lines_told}
 use Rattle.walk_text.specs.Text.{step_limit, after_line, rest_of_text, text_from, text}
 use Rattle.walk_text.specs.TextLaws.{after_stop, text_of_run, Begun}
-use Rattle.walk_text.specs.Rest.{by_stage, done, present, steps_made, lines_left, left_text, pages_left, PageOf, Paged, walk_order, full_case, first_line}
-use Rattle.walk_text.specs.declared.text.Stage.{Stage}
-use Rattle.walk_text.specs.declared.text.Stage.TheVariants.{Start, Walking, Done}
+use Rattle.walk_text.specs.Rest.{done, present, steps_made, lines_left, left_text, pages_left, PageOf, PageOrRefusal, Paged, walk_order, full_case, first_line}
+use Rattle.walk_text.specs.declared.text.Stand.{Stand}
 use Rattle.walk_text.specs.declared.text.Rest.{Rest}
+use Rattle.walk_text.specs.declared.text.Rest.TheVariants.{Start, Walking, Done}
 use Rattle.walk_text.specs.declared.text.Page.{Page}
 
 -- the bytes that a page gives are those it has
@@ -44,16 +47,15 @@ page_bytes {before = before} {after} {r = r} g =
     rw (n, g.put.output) (part_patched before 0 g.bytes (omega (arith, n, g.inside, put_length g.put)))
 
 -- a page with the rest of the text on it
-pub gives_last : {program query whole before after event : List ℕ} {at used step len : ℕ} (most : ℕ) → Put before at whole after used → used ≤ length after
-    → PageOf program query whole most before at (record { used = used; rest = record { stage = Done; step = step; length = len; event = event } }) after
+pub gives_last : {program query whole before after : List ℕ} {at used : ℕ} (most : ℕ) → Put before at whole after used → used ≤ length after
+    → PageOf program query whole most before at (record { used = used; rest = Done }) after
 unfolding left_text
 gives_last {whole = whole} most put h = record { bytes = whole; put = put; inside = h; text_is = sym (append-nil whole); fewer = λ p. p }
 
 -- what is left of a walk, under an accepted program, from an accepted event on
-walk_left : {program : List ℕ} (rest : Rest) {len : ℕ} → len ≡ min rest.length 32768 → (w : BothPassed program (take len rest.event))
-    → lines_left program rest ≡ rest_of_text (machine layers w.definitions) (steps_made rest) w.event
+walk_left : {program : List ℕ} (stand : Stand) (w : BothPassed program (present stand)) → lines_left program stand ≡ rest_of_text (machine layers w.definitions) (steps_made stand) w.event
 unfolding lines_left through
-walk_left {program} rest l w = rw (← l, door_both (read_program program) (read_event (take _ rest.event)) w.program_reads w.reads)
+walk_left {program} stand w = rw (door_both (read_program program) (read_event (present stand)) w.program_reads w.reads)
 
 -- more than all of a list is all of it
 take_least : (n : ℕ) (l : List ℕ) → length l ≡ 32768 → take (min n 32768) l ≡ take n l
@@ -68,6 +70,12 @@ is_filled spent h = never (sym h)
 is_filled met h = never (sym h)
 is_filled full h = refl
 is_filled (by q) h = never (sym h)
+
+pub not_full : (s : RunStop) → (s ≡ Full → ⊥) → full_case s ≡ false
+not_full Spent h = refl
+not_full Met h = refl
+not_full Full h = absurd (h refl)
+not_full (Refused r) h = refl
 
 not_filled : (M : Machine) (s : Stop) → full_case (stop_case s) ≡ false → (n at : ℕ) (e : Event) → after_stop M s n at e ≡ stop_bytes (stop_number s)
 unfolding after_stop
@@ -128,10 +136,10 @@ module _ {program s : List ℕ} (w : BothPassed program s) (first : ℕ) (limit 
 
   -- the log is full, and the walk goes on
   pub page_goes : {query before after : List ℕ} {at used : ℕ} → full_case r.stop ≡ true → Put before at (log_lines (first + 1) (take (3 * r.taken) log')) after used → used ≤ length after
-      → length out' ≡ 32768 → Next query (record { used = used; rest = record { stage = Walking; step = first + r.taken; length = r.length; event = out' } }) before at after
+      → length out' ≡ 32768 → Next query (record { used = used; rest = Walking (record { step = first + r.taken; length = r.length; event = out' }) }) before at after
   unfolding left_text after_stop
   page_goes {used = used} f put inside whole =
-      let rest : Rest = record { stage = Walking; step = first + r.taken; length = r.length; event = out' } in
+      let stand : Stand = record { step = first + r.taken; length = r.length; event = out' } in
       let t = ran.tells.taken_is in
       let filled : end.why ≡ full = is_filled end.why (rw ran.tells.stop_is at f) in
       let all : end.taken ≡ 960 = some-injective _ _ (sym (subst (StopTold M o (step_limit - first) end) filled (run_told M o (step_limit - first) w.event)) ∙ room) in
@@ -141,9 +149,9 @@ module _ {program s : List ℕ} (w : BothPassed program s) (first : ℕ) (limit 
         event = end.event;
         reads = rw (take_least r.length out' whole) ran.reads;
       } in
-      let made : steps_made rest ≡ first + end.taken = omega (arith, taken_few.1, t) in
+      let made : steps_made stand ≡ first + end.taken = omega (arith, taken_few.1, t) in
       let left : step_limit - first - end.taken ≡ step_limit - (first + end.taken) = omega arith in
-      let is : lines_left program rest ≡ after_line M (step_limit - first - end.taken) (first + end.taken) end.event = walk_left rest refl on ∙ rw (made, left) refl in
+      let is : lines_left program stand ≡ after_line M (step_limit - first - end.taken) (first + end.taken) end.event = walk_left stand on ∙ rw (made, left) refl in
       record {
         bytes = log_lines (first + 1) (take (3 * r.taken) log');
         put = put;
@@ -153,9 +161,9 @@ module _ {program s : List ℕ} (w : BothPassed program s) (first : ℕ) (limit 
       }
 
   -- the walk ends, and the stop line is put behind its lines
-  pub page_ends : {query before between after event : List ℕ} {at used used' : ℕ} → full_case r.stop ≡ false → Put before at (log_lines (first + 1) (take (3 * r.taken) log')) between used
-      → Put between used (stop_bytes r.number) after used' → used' ≤ length after
-      → Next query (record { used = used'; rest = record { stage = Done; step = 0; length = 0; event = event } }) before at after
+  pub page_ends : {query before between after : List ℕ} {at used used' : ℕ} → full_case r.stop ≡ false → Put before at (log_lines (first + 1) (take (3 * r.taken) log')) between used
+      → Put between used (stop_bytes (outcome_number (run_outcome r.stop))) after used' → used' ≤ length after
+      → Next query (record { used = used'; rest = Done }) before at after
   page_ends f put stop inside =
       let e = not_filled M end.why (rw ran.tells.stop_is at f) (step_limit - first - end.taken) (first + end.taken) end.event in
       rw (text_is, e, ← ran.tells.number_is) (gives_last _ (put_then put stop) inside)
@@ -166,19 +174,18 @@ unfolding text through
 program_text program query e z = let w = number_refuses (program_door (read_program program)) e z in rw w.refuses (ap stop_bytes (sym w.number_is))
 
 -- a walk that goes on from a record that is refused
-pub gate_text : (program : List ℕ) (rest : Rest) {len n : ℕ} → len ≡ min rest.length 32768 → n ≡ answer_number (door (read_program program) (read_event (take len rest.event)))
-    → (n ≡ 0 → ⊥) → lines_left program rest ≡ stop_bytes n
+pub gate_text : (program : List ℕ) (stand : Stand) {n : ℕ} → n ≡ answer_number (door (read_program program) (read_event (present stand))) → (n ≡ 0 → ⊥)
+    → lines_left program stand ≡ stop_bytes n
 unfolding lines_left through
-gate_text program rest {len} {n} l is z =
-    let w = number_refuses (door (read_program program) (read_event (present rest))) (is ∙ ap (λ k. answer_number (door (read_program program) (read_event (take k rest.event)))) l) z in
+gate_text program stand is z =
+    let w = number_refuses (door (read_program program) (read_event (present stand))) is z in
     rw w.refuses (ap stop_bytes (sym w.number_is))
 
 -- a walk that goes on from a record that is accepted
-pub gives_later : {program query before after : List ℕ} {page : Page} (rest : Rest) {len first : ℕ} → len ≡ min rest.length 32768 → first ≡ steps_made rest
-    → (w : BothPassed program (take len rest.event))
-    → PageOf program query (rest_of_text (machine layers w.definitions) first w.event) (suc (step_limit - first)) before 0 page after
-    → PageOf program query (lines_left program rest) (suc (step_limit - steps_made rest)) before 0 page after
-gives_later rest l f w g = rw (walk_left rest l w, ← f) g
+pub gives_later : {program query before after : List ℕ} {page : Page} (stand : Stand) (w : BothPassed program (present stand))
+    → PageOf program query (rest_of_text (machine layers w.definitions) (steps_made stand) w.event) (suc (step_limit - steps_made stand)) before 0 page after
+    → PageOf program query (lines_left program stand) (suc (step_limit - steps_made stand)) before 0 page after
+gives_later stand w g = rw (walk_left stand w) g
 
 module _ (program query : List ℕ) (P : List Definition) (reads : read_program program ≡ tree P) where
   -- a refused query or first event
@@ -213,34 +220,34 @@ page_starts {program} {query} P reads b put g = record {
   fewer = g.fewer;
 }
 
--- what is left, by the stage
-module _ {program query before after : List ℕ} {page : Page} (rest : Rest) where
-  pub paged_start : rest.stage ≡ Start → PageOf program query (text program query) (suc step_limit) before 0 page after → Paged program query rest before page after
+-- the page of the stop line, where the records are refused
+pub page_stops : {program query whole before between after : List ℕ} {most used : ℕ} {r : Result Page Refusal} {e : Refusal}
+    → PageOrRefusal program query whole most before r between → r ≡ Err e → Put between 0 (stop_bytes (refusal_number e)) after used → used ≤ length after
+    → PageOf program query whole most before 0 (record { used = used; rest = Done }) after
+page_stops {most = most} g is put inside = let told = rw is at g in rw (told.0, ← told.1) (gives_last most put inside)
+
+-- what is left, by the case
+module _ {program query before after : List ℕ} {page : Page} where
+  pub paged_start : PageOf program query (text program query) (suc step_limit) before 0 page after → Paged program query Start before page after
   unfolding left_text
-  paged_start e g = rw e g
+  paged_start g = g
 
-  pub paged_walking : rest.stage ≡ Walking → PageOf program query (lines_left program rest) (suc (step_limit - steps_made rest)) before 0 page after
-      → Paged program query rest before page after
+  pub paged_walking : (stand : Stand) → PageOf program query (lines_left program stand) (suc (step_limit - steps_made stand)) before 0 page after
+      → Paged program query (Walking stand) before page after
   unfolding left_text lines_left
-  paged_walking e g = rw e g
+  paged_walking stand g = g
 
-pub paged_done : {program query before : List ℕ} (rest : Rest) → rest.stage ≡ Done → Paged program query rest before (record { used = 0; rest = rest }) before
-paged_done rest e = record { bytes = []; put = put_none; inside = omega arith; text_is = refl; fewer = rw e (λ h. h) }
+pub paged_done : {program query before : List ℕ} → Paged program query Done before (record { used = 0; rest = Done }) before
+paged_done = record { bytes = []; put = put_none; inside = omega arith; text_is = refl; fewer = λ h. h }
 
 -- where something is left, so are pages; where nothing is, no text
-pub pages_more : (rest : Rest) → done rest.stage ≡ false → 0 < pages_left rest
-pages_more rest d = go rest.stage d
-  where
-    go : (s : Stage) → done s ≡ false → 0 < by_stage s (suc step_limit) (suc (step_limit - steps_made rest)) 0
-    go Start h = omega arith
-    go Walking h = omega arith
-    go Done h = never h
+pub pages_more : (rest : Rest) → done rest ≡ false → 0 < pages_left rest
+pages_more Start h = omega arith
+pages_more (Walking s) h = omega arith
+pages_more Done h = never h
 
-pub nothing_left : (program query : List ℕ) (rest : Rest) → done rest.stage ≡ true → left_text program query rest ≡ []
+pub nothing_left : (program query : List ℕ) (rest : Rest) → done rest ≡ true → left_text program query rest ≡ []
 unfolding left_text
-nothing_left program query rest d = go rest.stage (text program query) (lines_left program rest) d
-  where
-    go : (s : Stage) (a b : List ℕ) → done s ≡ true → by_stage s a b [] ≡ []
-    go Start a b h = never (sym h)
-    go Walking a b h = never (sym h)
-    go Done a b h = refl
+nothing_left program query Start h = never (sym h)
+nothing_left program query (Walking s) h = never (sym h)
+nothing_left program query Done h = refl

@@ -26,7 +26,7 @@ use Rattle.stepper.specs.Services.Services.{Start, record_limit, reply, first_an
 use Rattle.stepper.specs.Services.ServiceLaws.{Recordable, limit_fits, done_reads, start_record}
 use Rattle.stepper.specs.Services.Desk.{layers}
 use Rattle.stepper.specs.Services.DeskLaws.{lawful}
-use Rattle.records.specs.Gate.Reply.{through, reply_with, Replied}
+use Rattle.records.specs.Gate.Reply.{through, reply_with, Replied, answer_length}
 use Rattle.stepper.specs.Step.Stepped.{BothPassed}
 use Rattle.stepper.specs.Run.Run.{mark, meets, Order, Stop, spent, met, full, by, RunEnd, past, run, stop_number}
 use Rattle.stepper.specs.Run.RunLaws.{Course, no_count, no_room, no_step, last_step, one_step, course}
@@ -123,6 +123,12 @@ begun query out known r z =
       reads = rw (is, take_at (event_record e) (drop (length (event_record e)) out) (length query + 5) size) (lawful.event_back e fits.0 (limit_fits e fits.1));
       inside = rw (is, length-append) (omega arith);
     }
+
+-- the length that is told of the first event's record
+pub begun_length : {query after : List ℕ} {room n : ℕ} → Known query → (b : Begun query room after) → n ≡ answer_length event_record (first_answer layers query room)
+    → n ≡ length query + 5
+unfolding answer_length
+begun_length {query} known b is = is ∙ rw b.answers (first_length query b.goal (query_tree query (bytes_all query known) b.goal b.query_reads).laid)
 
 -- under an accepted program the walk can go on from there
 abbrev pub begun_passed : {program query here : List ℕ} {room : ℕ} (P : List Definition) → read_program program ≡ tree P → Begun query room here

@@ -1,9 +1,11 @@
 // The text of a walk: numbers in decimal, the line of an event, the stop line. Each writer puts its bytes at a place of an output.
 ghost use Rattle.std.specs.Prelude.{[], ◌∷◌, ◌++◌, ◌+◌, ◌*◌, ◌≤◌, ◌<◌, length};
+ghost use Rattle.records.specs.Gate.Reply.{outcome_number};
 ghost use Rattle.records.specs.Writing.Patched.{Put};
 ghost use Rattle.walk_text.specs.Line.{decimal, field, line_feed, byte_word, number_line, log_lines, stop_bytes};
 
 use records::put::{put_byte, put_part};
+use records::questions::{Refusal, outcome_number};
 
 // A number in decimal; one of 64 bits has 20 digits at most.
 fn put_number(out: &mut [u8], at: usize, n: usize) -> usize
@@ -12,6 +14,7 @@ fn put_number(out: &mut [u8], at: usize, n: usize) -> usize
     ensures within { result ≤ at + 20 }
 {
     let mut digits = [0u8; 20];
+    // `as`, since usize has no `From` into u64
     let k = io::decimal(n as u64, &mut digits);
     put_part(out, at, &digits[..k])
 }
@@ -26,7 +29,7 @@ fn put_count(out: &mut [u8], at: usize, n: usize) -> usize
     put_number(out, next, n)
 }
 
-// The word of a port, which is given by its byte.
+// The word of a port, which is given by its byte: the log that `run_from` writes has numbers.
 fn put_port(out: &mut [u8], at: usize, port: usize) -> usize
     requires { at + 4 ≤ length out.old }
     ensures put { Put out.old at (byte_word port) out.new result }
@@ -77,24 +80,21 @@ pub fn put_lines(out: &mut [u8], at: usize, first: usize, log: &[usize]) -> usiz
     ensures put { Put out.old at (log_lines first log.now) out.new result }
     ensures within { 3 * result ≤ 3 * at + 68 * length log.now }
 {
+    let (marks, _) = log.as_chunks::<3>();
     let mut used = at;
-    let mut step = first;
-    let mut j = 0;
-    while j + 3 <= log.len() {
-        used = put_line(out, used, step, log[j], log[j + 1], log[j + 2]);
-        step += 1;
-        j += 3;
+    for (i, [port, ancestors, bets]) in marks.iter().enumerate() {
+        used = put_line(out, used, first + i, *port, *ancestors, *bets);
     }
     used
 }
 
-// The stop line.
-pub fn put_stop(out: &mut [u8], at: usize, number: u8) -> usize
+// The stop line, with 0 or the number of the question that stopped the walk.
+pub fn put_stop(out: &mut [u8], at: usize, outcome: Result<(), Refusal>) -> usize
     requires { at + 26 ≤ length out.old }
-    ensures put { Put out.old at (stop_bytes number) out.new result }
+    ensures put { Put out.old at (stop_bytes (outcome_number outcome)) out.new result }
     ensures within { result ≤ at + 26 }
 {
     let number_at = put_part(out, at, b"stop");
-    let end_at = put_count(out, number_at, number as usize);
+    let end_at = put_count(out, number_at, usize::from(outcome_number(&outcome)));
     put_byte(out, end_at, b'\n')
 }

@@ -1,7 +1,7 @@
 -- Laws of the service of the answers: what passes its door, and what a reply keeps.
-use Rattle.std.specs.Prelude.{◌≡◌, Bool, List, [], ℕ, ◌≤◌, ◌<◌, leb, take, drop}
+use Rattle.std.specs.Prelude.{◌≡◌, Bool, List, [], ℕ, ◌≤◌, ◌<◌, leb, take, drop, Result, Err}
 use Rattle.std.proofs.Math.Path.{refl, ap}
-use Rattle.std.proofs.Common.{◌∙◌, arith}
+use Rattle.std.proofs.Common.{◌∙◌, sym, arith}
 use Rattle.std.proofs.Math.Bool.{true, false}
 use Rattle.std.proofs.Math.Dec.{ltb}
 use Rattle.std.proofs.Math.ListN.{length}
@@ -13,9 +13,11 @@ use Rattle.records.specs.Format.Encode.{event_record}
 use Rattle.records.specs.Gate.Gate.{Reading, tree, read_program, read_query}
 use Rattle.records.specs.Gate.Door.{Trees, program_door, event_door, door, with_room, gate}
 use Rattle.records.specs.Gate.DoorLaws.{gate_both, gate_gives}
-use Rattle.records.specs.Gate.Question.{Question, possible, question_number}
-use Rattle.records.specs.Gate.Reply.{refused, gives, on_yes, through, answer_number, reply_with}
-use Rattle.records.specs.Gate.ReplyLaws.{number_refuses, through_gives, refused_not_gives}
+use Rattle.records.specs.Gate.OutcomeLaws.{told_refuses}
+use Rattle.records.specs.Gate.Question.{Question, possible, fits, question_number}
+use Rattle.records.specs.Gate.Reply.{refused, gives, on_yes, through, reply_with, told}
+use Rattle.records.specs.Gate.ReplyLaws.{through_gives, refused_not_gives}
+use Rattle.records.specs.declared.questions.Refusal.{Refusal}
 use Rattle.stepper.specs.Rules.Rules.{first_event, limited_by, fitting}
 use Rattle.stepper.specs.Services.Desk.{layers}
 use Rattle.stepper.specs.Services.Services.{machine, record_limit, too_long}
@@ -24,14 +26,14 @@ use Rattle.answers.specs.Form.Service.{fitting_event, begin_answer, answers_answ
 
 module _ {A : Type 0} (p : Reading A) (r : Reading Goal) (room : ℕ) where
   -- the gate says no
-  pub begin_refused : {n : ℕ} → n ≡ answer_number (gate p r room) → (n ≡ 0 → ⊥) → n ≡ answer_number (begin_answer p r room)
-  unfolding begin_answer through answer_number
-  begin_refused i z = let w = number_refuses (gate p r room) i z in i ∙ rw w.refuses
+  pub begin_refused : {o : Result (Unit {0}) Refusal} {f : Refusal} → o ≡ told (gate p r room) → o ≡ Err f → Err f ≡ told (begin_answer p r room)
+  unfolding begin_answer through told
+  begin_refused i z = let w = told_refuses (gate p r room) i z in rw w.1 (ap Err (sym w.2))
 
   -- it says yes, and the first event of 'Q, fail' is too long or short enough
   module _ {t : Trees A Goal} (h : gate p r room ≡ gives t) where
-    pub begin_long : 32768 < length (event_record (first_event (all_of t.event))) → 10 ≡ answer_number (begin_answer p r room)
-    unfolding begin_answer through fitting_event limited_by fitting record_limit too_long answer_number question_number
+    pub begin_long : 32768 < length (event_record (first_event (all_of t.event))) → begin_answer p r room ≡ refused fits
+    unfolding begin_answer through fitting_event limited_by fitting record_limit too_long
     begin_long k = rw (h, lt-ltb 32768 (length (event_record (first_event (all_of t.event)))) k) refl
 
     pub begin_given : length (event_record (first_event (all_of t.event))) ≤ 32768 → begin_answer p r room ≡ gives t

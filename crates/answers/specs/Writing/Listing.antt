@@ -1,42 +1,42 @@
 -- The list of answers in code: the run to the next exit, and what holds between two answers. As many as are written stand at the front of the output, the
 -- walk of 'Q, fail' stands at an event whose record is at the front of a buffer, and what is still to be written is what is written from there on.
-use Rattle.std.specs.Prelude.{◌≡◌, true, false, List, ◌++◌, ℕ, ◌+◌, ◌-◌, ◌*◌, ◌≤◌, ◌<◌, eqb, length, take}
+use Rattle.std.specs.Prelude.{◌≡◌, List, ◌++◌, ℕ, ◌+◌, ◌-◌, ◌*◌, ◌≤◌, ◌<◌, length, take, Result, Ok, Err}
+use Rattle.std.specs.declared.ops.ControlFlow.{ControlFlow}
+use Rattle.std.specs.declared.ops.ControlFlow.TheVariants.{Continue, Break}
 use Rattle.records.specs.Format.Syntax.{Goal, Event, Definition}
 use Rattle.records.specs.Format.Formed.{All}
 use Rattle.records.specs.Gate.Gate.{tree, read_program, read_event}
 use Rattle.records.specs.Writing.Patched.{Put}
-use Rattle.records.specs.declared.put.Receipt.{Receipt}
+use Rattle.records.specs.Gate.Reply.{outcome_number}
+use Rattle.records.specs.declared.questions.Refusal.{Refusal}
+use Rattle.terms.specs.declared.pairs.ListedPair.{ListedPair}
 use Rattle.terms.specs.Theory.Outcome.{value_limit}
 use Rattle.stepper.specs.Services.Desk.{layers}
 use Rattle.stepper.specs.Services.Services.{machine}
+use Rattle.stepper.specs.Run.RunLoop.{run_outcome}
 use Rattle.stepper.specs.Walks.Reached.{Reached}
 use Rattle.stepper.specs.declared.run.RunAnswer.{RunAnswer}
 use Rattle.answers.specs.Form.Answer.{query_variables}
 use Rattle.answers.specs.Form.Answers.{all_of, Written, answers_from, answers}
 use Rattle.answers.specs.declared.service.Listing.{Listing}
+use Rattle.answers.specs.declared.service.ListAnswer.{ListAnswer}
 
 -- the list before the first answer
 abbrev pub first_listing : ℕ → Listing
-first_listing len = record { number = 0; written = 0; taken = 0; length = len; going = true }
+first_listing len = record { written = 0; taken = 0; length = len }
 
--- where the walk stops before another exit, and where it comes to one
-abbrev pub stopped_listing : Listing → RunAnswer → Listing
-stopped_listing last r = record { number = r.number; written = last.written; taken = last.taken + r.taken; length = r.length; going = false }
+-- where the walk stops before another exit, and where it comes to one: the list goes on if the answer there is given
+abbrev pub stopped_listing : Listing → RunAnswer → ListAnswer
+stopped_listing last r = record { outcome = run_outcome r.stop; written = last.written; taken = last.taken + r.taken }
 
-abbrev pub answered_listing : Listing → RunAnswer → Receipt → Listing
-answered_listing last r x = record {
-  number = x.number;
-  written = last.written + x.length;
-  taken = last.taken + r.taken;
-  length = r.length;
-  going = eqb x.number 0;
-}
+abbrev pub answered_listing : Listing → RunAnswer → Result ℕ Refusal → ControlFlow ListAnswer Listing
+answered_listing last r (Ok n) = Continue (record { written = last.written + n; taken = last.taken + r.taken; length = r.length })
+answered_listing last r (Err e) = Break (record { outcome = Err e; written = last.written; taken = last.taken + r.taken })
 
--- the tables and the buffer that an answer needs, for the event in `here`
-pub record AnswerTables (here places firsts value : List ℕ) : Type 0 where
+-- the table and the buffer that an answer needs, for the event in `here`
+pub record AnswerTables (here : List ℕ) (listed : List ListedPair) (value : List ℕ) : Type 0 where
   pub room : length here ≡ 32768
-  pub entries : 32768 ≤ 5 * length places
-  pub same : length firsts ≡ length places
+  pub entries : 32768 ≤ 5 * length listed
   pub limit : length value ≡ value_limit
 
 -- bytes and steps in front of what is written
@@ -62,19 +62,14 @@ module _ (program : List ℕ) (ds : List Definition) (q : Goal) (variables : Lis
         ≡ behind kept p.taken (answers_from (machine layers ds) q (steps - p.taken) (length before - length kept) event)
 
 -- the list is written: what is told of it, and the output afterwards
-pub record Listed (w : Written) (before : List ℕ) (p : Listing) (out : List ℕ) : Type 0 where
-  pub number_is : p.number ≡ w.number
+pub record Listed (w : Written) (before : List ℕ) (p : ListAnswer) (out : List ℕ) : Type 0 where
+  pub number_is : outcome_number p.outcome ≡ w.number
   pub taken_is : p.taken ≡ w.taken
   pub put : Put before 0 w.bytes out p.written
   pub room : length w.bytes ≤ length before
 
--- between two turns: the list goes on from where it stands, or it is written
-abbrev pub ListState : (program : List ℕ) → List Definition → Goal → (variables : List ℕ) → ℕ → (before : List ℕ) → Listing → (here out : List ℕ) → Type 0
-ListState program ds q variables steps before p here out =
-    (p.going ≡ true → ListStands program ds q variables steps before p here out)
-    × (p.going ≡ false → Listed (answers (machine layers ds) q steps (length before)) before p out)
-
 -- an answer later: the list goes on, at a later event, or it is written
-pub record Turned (program : List ℕ) (ds : List Definition) (q : Goal) (variables : List ℕ) (steps : ℕ) (before : List ℕ) (last p : Listing) (here out : List ℕ) : Type 0 where
-  pub state : ListState program ds q variables steps before p here out
-  pub later : p.going ≡ true → last.taken < p.taken
+abbrev pub Turned : (program : List ℕ) → List Definition → Goal → (variables : List ℕ) → ℕ → (before : List ℕ) → Listing → ControlFlow ListAnswer Listing → (here out : List ℕ) → Type 0
+Turned program ds q variables steps before last (Continue p) here out =
+    ListStands program ds q variables steps before p here out × (last.taken < p.taken)
+Turned program ds q variables steps before last (Break p) here out = Listed (answers (machine layers ds) q steps (length before)) before p out

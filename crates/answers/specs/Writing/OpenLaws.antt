@@ -1,7 +1,7 @@
--- Laws of the answers' door in code: which number it says, the list before the first answer, and the reply.
-use Rattle.std.specs.Prelude.{◌≡◌, List, [], ℕ, ◌+◌, ◌-◌, ◌*◌, ◌≤◌, ◌<◌, take}
+-- Laws of the answers' door in code: what it tells, the list before the first answer, and the reply.
+use Rattle.std.specs.Prelude.{◌≡◌, List, [], ℕ, ◌+◌, ◌-◌, ◌*◌, ◌≤◌, ◌<◌, take, Result, Ok, Err}
 use Rattle.std.proofs.Math.Path.{refl, ap}
-use Rattle.std.proofs.Common.{◌∙◌}
+use Rattle.std.proofs.Common.{◌∙◌, sym}
 use Rattle.std.proofs.Math.Nat.{zero-add}
 use native.Mathlib.Omega.{arith}
 use Rattle.std.proofs.Math.ListN.{length}
@@ -11,11 +11,15 @@ use Rattle.records.specs.Format.HeadLaws.{Known, bytes_all}
 use Rattle.records.specs.Gate.Gate.{Reading, tree, read_program, read_query, read_event}
 use Rattle.records.specs.Gate.GateLaws.{query_tree, event_read}
 use Rattle.records.specs.Gate.Door.{Trees, door, gate}
-use Rattle.records.specs.Gate.DoorLaws.{gate_gives, number_open}
-use Rattle.records.specs.Gate.Reply.{gives, through, answer_number, reply_with}
-use Rattle.records.specs.Gate.ReplyLaws.{number_refuses, number_gives}
+use Rattle.records.specs.Gate.DoorLaws.{gate_gives, told_open}
+use Rattle.records.specs.Gate.OutcomeLaws.{told_refuses, told_gives, told_number, refusal_same}
+use Rattle.records.specs.Gate.Question.{refusal_number}
+use Rattle.records.specs.Gate.Reply.{gives, through, answer_number, reply_with, told, outcome_number}
+use Rattle.records.specs.Gate.ReplyLaws.{number_gives}
 use Rattle.records.specs.Gate.RecordRules.{event_rules}
 use Rattle.records.specs.Writing.Patched.{Put}
+use Rattle.records.specs.declared.questions.Refusal.{Refusal}
+use Rattle.records.specs.declared.questions.Refusal.TheVariants.{Fits}
 use Rattle.records.specs.Writing.PatchedLaws.{put_none, put_length, put_front, front_put}
 use Rattle.stepper.specs.Rules.Rules.{first_event}
 use Rattle.stepper.specs.Services.Desk.{layers}
@@ -29,11 +33,11 @@ use Rattle.answers.specs.Writing.BegunLaws.{begin_length}
 use Rattle.answers.specs.Writing.MarkedLaws.{variables_formed, listed_few}
 use Rattle.answers.specs.Writing.Listing.{first_listing, ListStands, Listed}
 use Rattle.answers.specs.Writing.ListingLaws.{behind_nothing}
-use Rattle.answers.specs.declared.service.Listing.{Listing}
+use Rattle.answers.specs.declared.service.ListAnswer.{ListAnswer}
 
--- the door's number where the records pass and the output is long enough
-module _ (program query : List ℕ) (room : ℕ) (known : Known query) {n : ℕ} (i : n ≡ answer_number (door (read_program program) (read_query query))) (z : n ≡ 0)
-    (h : 32768 ≤ room) where
+-- what the door tells where the records pass and the output is long enough
+module _ (program query : List ℕ) (room : ℕ) (known : Known query) {o : Result (Unit {0}) Refusal} {u : Unit {0}}
+    (i : o ≡ told (door (read_program program) (read_query query))) (z : o ≡ Ok u) (h : 32768 ≤ room) where
   abbrev p : Reading (List Definition)
   p = read_program program
 
@@ -41,17 +45,31 @@ module _ (program query : List ℕ) (room : ℕ) (known : Known query) {n : ℕ}
   r = read_query query
 
   gate_opens : (t : Trees (List Definition) Goal) × (gate p r room ≡ gives t)
-  gate_opens = number_gives (gate p r room) (number_open p r i z h) refl
+  gate_opens = told_gives (gate p r room) (told_open p r room i z h) refl
 
   event_length : length (event_record (first_event (all_of gate_opens.0.event))) ≡ length query + 7
   event_length = begin_length query known gate_opens.0.event (gate_gives p r room gate_opens.1).1
 
-  pub number_long : 32768 < length query + 7 → 10 ≡ answer_number (begin_answer p r room)
-  number_long k = begin_long p r room gate_opens.1 (omega (arith, event_length))
+  pub told_long : 32768 < length query + 7 → Err Fits ≡ told (begin_answer p r room)
+  unfolding told
+  told_long k = rw (begin_long p r room gate_opens.1 (omega (arith, event_length))) refl
 
-  pub number_begins : length query + 7 ≤ 32768 → 0 ≡ answer_number (begin_answer p r room)
-  unfolding answer_number
-  number_begins k = rw (begin_given p r room gate_opens.1 (omega (arith, event_length))) refl
+  pub told_begins : length query + 7 ≤ 32768 → Ok tt ≡ told (begin_answer p r room)
+  unfolding told
+  told_begins k = rw (begin_given p r room gate_opens.1 (omega (arith, event_length))) refl
+
+-- its number there
+module _ (program query : List ℕ) (room : ℕ) (known : Known query) {n : ℕ} (i : n ≡ answer_number (door (read_program program) (read_query query))) (z : n ≡ 0)
+    (h : 32768 ≤ room) where
+  said : Ok tt ≡ told (door (read_program program) (read_query query))
+  unfolding told
+  said = rw (number_gives (door (read_program program) (read_query query)) i z).1 refl
+
+  pub number_long : 32768 < length query + 7 → 10 ≡ answer_number (begin_answer (read_program program) (read_query query) room)
+  number_long k = told_number (begin_answer (read_program program) (read_query query) room) (told_long program query room known said refl h k)
+
+  pub number_begins : length query + 7 ≤ 32768 → 0 ≡ answer_number (begin_answer (read_program program) (read_query query) room)
+  number_begins k = told_number (begin_answer (read_program program) (read_query query) room) (told_begins program query room known said refl h k)
 
 -- the list before the first answer, for a program and a query that pass
 module _ (program query : List ℕ) (room : ℕ) (known : Known query) (t : Trees (List Definition) Goal)
@@ -103,16 +121,16 @@ module _ (program query : List ℕ) (room : ℕ) (known : Known query) (t : Tree
 
 -- the reply where the door says no, and where the list is written
 module _ (program query out : List ℕ) (steps : ℕ) where
-  pub answers_unopened : {n : ℕ} → n ≡ answer_number (begin_answer (read_program program) (read_query query) (length out)) → (n ≡ 0 → ⊥)
-      → AnswersReplied (answers_record layers steps program query out) n 0 0 out
+  pub answers_unopened : {o : Result (Unit {0}) Refusal} {f : Refusal} → o ≡ told (begin_answer (read_program program) (read_query query) (length out)) → o ≡ Err f
+      → AnswersReplied (answers_record layers steps program query out) (refusal_number f) 0 0 out
   unfolding answers_record answers_reply answers_answer through reply_with
   answers_unopened i z =
-      let w = number_refuses (begin_answer (read_program program) (read_query query) (length out)) i z in
-      rw w.refuses (record { number_is = w.number_is; written_is = refl; taken_is = refl; output_is = refl })
+      let w = told_refuses (begin_answer (read_program program) (read_query query) (length out)) i z in
+      rw w.1 (record { number_is = sym (ap refusal_number w.2) ∙ refusal_same w.0; written_is = refl; taken_is = refl; output_is = refl })
 
-  pub answers_listed : {t : Trees (List Definition) Goal} {p : Listing} {after : List ℕ}
+  pub answers_listed : {t : Trees (List Definition) Goal} {p : ListAnswer} {after : List ℕ}
       → begin_answer (read_program program) (read_query query) (length out) ≡ gives t
       → Listed (answers (machine layers t.program) t.event steps (length out)) out p after
-      → AnswersReplied (answers_record layers steps program query out) p.number p.written p.taken after
+      → AnswersReplied (answers_record layers steps program query out) (outcome_number p.outcome) p.written p.taken after
   unfolding answers_record answers_reply answers_answer through reply_with
   answers_listed h l = rw h (record { number_is = l.number_is; written_is = l.put.place ∙ zero-add _; taken_is = l.taken_is; output_is = put_front l.put l.room })

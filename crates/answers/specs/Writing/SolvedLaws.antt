@@ -1,5 +1,5 @@
 -- Laws of an answer: how long it is, its parts written one after the other, and each of the ways it is delivered.
-use Rattle.std.specs.Prelude.{◌≡◌, List, [], ◌∷◌, ℕ, ◌+◌, ◌-◌, ◌*◌, ◌≤◌, ◌<◌}
+use Rattle.std.specs.Prelude.{◌≡◌, List, [], ◌∷◌, ℕ, ◌+◌, ◌-◌, ◌*◌, ◌≤◌, ◌<◌, Some, None}
 use Rattle.std.proofs.Math.Path.{refl, ap}
 use Rattle.std.proofs.Common.{sym, ◌∙◌, arith, length-append}
 use Rattle.std.proofs.Math.Option.{Option, none, some}
@@ -16,7 +16,6 @@ use Rattle.records.specs.Writing.PatchedLaws.{put_then, put_length}
 use Rattle.terms.specs.Theory.Outcome.{value}
 use Rattle.terms.specs.Theory.OutcomeLaws.{Valued, within, beyond, valued}
 use Rattle.terms.specs.Values.Entries.{under}
-use Rattle.terms.specs.declared.substitute.Sized.TheVariants.{Fits, TooLarge}
 use Rattle.answers.specs.Form.Answer.{values_of, used_of, solution_bytes, solution_for, solution_into}
 use Rattle.answers.specs.Writing.Values.{value_pairs, pairs_sized, ValuePairsFit}
 use Rattle.answers.specs.Writing.ValuesLaws.{all_within_limit, first_within}
@@ -43,26 +42,26 @@ module _ (vs : List ℕ) (s : List Bet) where
   solution_length = simp length-append (omega arith)
 
   -- a value is too large
-  pub measured_large : pairs_sized (values_of s vs) ≡ TooLarge → values_of s vs ≡ none
+  pub measured_large : pairs_sized (values_of s vs) ≡ None → values_of s vs ≡ none
   measured_large h = go (values_of s vs) h
     where
-      go : (o : Option (List Binding)) → pairs_sized o ≡ TooLarge → o ≡ none
+      go : (o : Option (List Binding)) → pairs_sized o ≡ None → o ≡ none
       go none k = refl
       go (some l) k = never cc
 
   -- all are within the limit
-  pub measured_fits : {m : ℕ} → pairs_sized (values_of s vs) ≡ Fits m → (values_of s vs ≡ some (value_pairs s vs)) × (m ≡ length (each binding_bytes (value_pairs s vs)))
+  pub measured_fits : {m : ℕ} → pairs_sized (values_of s vs) ≡ Some m → (values_of s vs ≡ some (value_pairs s vs)) × (m ≡ length (each binding_bytes (value_pairs s vs)))
   measured_fits {m} h = go (values_of s vs) refl
     where
       go : (o : Option (List Binding)) → values_of s vs ≡ o → (values_of s vs ≡ some (value_pairs s vs)) × (m ≡ length (each binding_bytes (value_pairs s vs)))
-      go none k = let z : TooLarge ≡ Fits m = sym (ap pairs_sized k) ∙ h in never cc
+      go none k = let z : None ≡ Some m = sym (ap pairs_sized k) ∙ h in never cc
       go (some l) k =
           let e = all_within_limit s vs l k in
-          let z : Fits (length (each binding_bytes (value_pairs s vs))) ≡ Fits m = sym (ap pairs_sized e) ∙ h in
+          let z : Some (length (each binding_bytes (value_pairs s vs))) ≡ Some m = sym (ap pairs_sized e) ∙ h in
           (e, cc)
 
   -- so many that no sum overflows, where there are few variables
-  pub measured_small : {m : ℕ} → pairs_sized (values_of s vs) ≡ Fits m → length vs ≤ 65535 → m ≤ 536993790
+  pub measured_small : {m : ℕ} → pairs_sized (values_of s vs) ≡ Some m → length vs ≤ 65535 → m ≤ 536993790
   measured_small h k = omega (arith, (measured_fits h).1, pairs_short s vs (measured_fits h).0)
 
   given : values_of s vs ≡ some (value_pairs s vs) → solution_for vs s ≡ gives (solution_of vs s)
@@ -70,12 +69,12 @@ module _ (vs : List ℕ) (s : List Bet) where
   given h = rw h
 
   module _ {before : List ℕ} where
-    pub solution_large : pairs_sized (values_of s vs) ≡ TooLarge
+    pub solution_large : pairs_sized (values_of s vs) ≡ None
         → Receipted (λ b. b) (solution_into (length before) (solution_for vs s)) before (record { number = 8; length = 0 }) before
     unfolding solution_into solution_for through question_number
     solution_large h = receipted_refused (λ b. b) before {q = values} (rw (measured_large h) refl) refl
 
-    pub solution_long : {m : ℕ} {u : UsedSize} → pairs_sized (values_of s vs) ≡ Fits m → u ≡ used_size (used_of s) → length before < 4 + m + u.length
+    pub solution_long : {m : ℕ} {u : UsedSize} → pairs_sized (values_of s vs) ≡ Some m → u ≡ used_size (used_of s) → length before < 4 + m + u.length
         → Receipted (λ b. b) (solution_into (length before) (solution_for vs s)) before (record { number = 10; length = 0 }) before
     unfolding solution_into through on_yes question_number
     solution_long h e k =
@@ -89,7 +88,7 @@ module _ (vs : List ℕ) (s : List Bet) where
         receipted_given (λ b. b) before (rw (given f.within, le-leb (length (solution_bytes (solution_of vs s))) (length before) f.room_left) refl) p f.room_left
 
 -- what is measured fits
-pub solution_fits : (vs : List ℕ) (s : List Bet) {m room : ℕ} {u : UsedSize} → pairs_sized (values_of s vs) ≡ Fits m → u ≡ used_size (used_of s) → 4 + m + u.length ≤ room
+pub solution_fits : (vs : List ℕ) (s : List Bet) {m room : ℕ} {u : UsedSize} → pairs_sized (values_of s vs) ≡ Some m → u ≡ used_size (used_of s) → 4 + m + u.length ≤ room
     → SolutionFits vs s u room
 solution_fits vs s h e k =
     record { within = (measured_fits vs s h).0; measured = e; room_left = omega (arith, k, (measured_fits vs s h).1, ap (λ u. u.length) e, solution_length vs s) }

@@ -1,17 +1,17 @@
 -- The bodies and branches among bets as code finds them.
-use Rattle.std.specs.Prelude.{Bool, true, false, List, [], ℕ, ◌+◌, length}
+use Rattle.std.specs.Prelude.{Bool, true, false, List, [], ℕ, ◌+◌, length, Option, Some, None}
 use Rattle.records.specs.Format.Syntax.{Bet}
 use Rattle.records.specs.Format.Encode.{each, bet_bytes}
 use Rattle.records.specs.declared.heads.BetHead.{BetHead}
-use Rattle.records.specs.declared.heads.BetHead.TheVariants.{Unifier, Or, By, NoBet}
+use Rattle.records.specs.declared.heads.BetHead.TheVariants.{Unifier, Or, By}
 use Rattle.answers.specs.declared.used.UsedSize.{UsedSize}
 
 -- is a bet with this head a body or a branch?
-abbrev pub head_used : BetHead → Bool
-head_used (Unifier n) = false
-head_used (Or k) = true
-head_used By = true
-head_used NoBet = false
+abbrev pub head_used : Option BetHead → Bool
+head_used (Some (Unifier n)) = false
+head_used (Some (Or k)) = true
+head_used (Some By) = true
+head_used None = false
 
 -- how many they are, and how many bytes they have
 abbrev pub used_size : List Bet → UsedSize

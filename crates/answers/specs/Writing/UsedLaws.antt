@@ -1,5 +1,5 @@
 -- Laws of the bodies and branches among bets: they are met from the top down, and each stands behind those below it.
-use Rattle.std.specs.Prelude.{◌≡◌, refl, Bool, true, false, List, [], ◌∷◌, ◌++◌, ℕ, ◌+◌, ◌-◌, ◌≤◌, ◌<◌, length, drop}
+use Rattle.std.specs.Prelude.{◌≡◌, refl, Bool, true, false, List, [], ◌∷◌, ◌++◌, ℕ, ◌+◌, ◌-◌, ◌≤◌, ◌<◌, length, drop, Option}
 use Rattle.std.proofs.Common.{sym, ◌∙◌, ap, ap₂, append_assoc, append-nil, arith, length-append, length-drop}
 use Rattle.records.specs.Format.Never.{never}
 use Rattle.records.specs.Format.Syntax.{Bet, unifier, or, by}
@@ -13,7 +13,6 @@ use Rattle.records.specs.Ends.StandsLaws.{stands_ends, stands_within, bet_stands
 use Rattle.records.specs.Ends.Traversal.{position, end_of}
 use Rattle.records.specs.Writing.Patched.{Put}
 use Rattle.records.specs.Writing.PatchedLaws.{put_none, put_ahead}
-use Rattle.records.specs.declared.ends.Found.{Found}
 use Rattle.terms.specs.Values.NodeBytesLaws.{each_append}
 use Rattle.terms.specs.Standing.Frames.{BetsAt}
 use Rattle.terms.specs.Standing.Rows.{FirstOf}
@@ -52,7 +51,7 @@ module _ {s : List ℕ} {bets passed : List Bet} {pos left : ℕ} (w : UsedPass 
     pass_first = standing_first w.row h
 
     -- where the top one ends
-    pub pass_place : {o : Found} {next : ℕ} → o ≡ end_of read_bet s pos → next ≡ position o → next ≡ pass_first.first.end
+    pub pass_place : {o : Option ℕ} {next : ℕ} → o ≡ end_of read_bet s pos → next ≡ position o → next ≡ pass_first.first.end
     pass_place is e = let b = pass_first.first in e ∙ ap position (is ∙ stands_ends bet_exact b.item b.formed b.stands)
 
     pass_head : bet_head_at s pos ≡ head_of_bet pass_first.first.item
@@ -91,7 +90,7 @@ abbrev met_with : Bool → Bet → List Bet → List Bet
 met_with true b l = b ∷ l
 met_with false b l = l
 
-module _ {s : List ℕ} {bets passed : List Bet} {pos left : ℕ} (w : UsedPass s bets pos left passed) (h : 0 < left) {o : Found} {next : ℕ} (is : o ≡ end_of read_bet s pos) (at_end : next ≡ position o) where
+module _ {s : List ℕ} {bets passed : List Bet} {pos left : ℕ} (w : UsedPass s bets pos left passed) (h : 0 < left) {o : Option ℕ} {next : ℕ} (is : o ≡ end_of read_bet s pos) (at_end : next ≡ position o) where
   abbrev top : Bet
   top = (pass_first w h).first.item
 
@@ -143,7 +142,7 @@ pub record UsedSoFar (s : List ℕ) (bets : List Bet) (pos left : ℕ) (size : U
 pub so_far_start : {s : List ℕ} {at n : ℕ} (b : BetsAt s at n) → UsedSoFar s b.items at n (record { count = 0; length = 0 })
 so_far_start b = record { passed = []; pass = record { row = b; whole = sym (append-nil _) }; size_is = refl }
 
-pub so_far_next : {s : List ℕ} {bets : List Bet} {pos left next : ℕ} {size r : UsedSize} {o : Found} (w : UsedSoFar s bets pos left size) (h : 0 < left)
+pub so_far_next : {s : List ℕ} {bets : List Bet} {pos left next : ℕ} {size r : UsedSize} {o : Option ℕ} (w : UsedSoFar s bets pos left size) (h : 0 < left)
     → o ≡ end_of read_bet s pos → next ≡ position o → r ≡ with_bet (head_used (bet_head_at s pos)) size (next - pos) → UsedSoFar s bets next (left - 1) r
 so_far_next {s} {pos = pos} {next = next} {size} {r} w h is e m = record {
   passed = met_with (head_used (bet_head_at s pos)) (pass_first w.pass h).first.item w.passed;
@@ -181,7 +180,7 @@ pub written_start : {s before : List ℕ} {at n to : ℕ} (b : BetsAt s at n) �
 written_start b = record { passed = []; pass = record { row = b; whole = sym (append-nil _) }; put = put_none }
 
 module _ {s : List ℕ} {bets : List Bet} {pos left : ℕ} {before : List ℕ} {to : ℕ} {out : List ℕ} {from : ℕ} (w : WrittenSoFar s bets pos left before to out from) where
-  module _ (h : 0 < left) {o : Found} {next : ℕ} (is : o ≡ end_of read_bet s pos) (e : next ≡ position o) where
+  module _ (h : 0 < left) {o : Option ℕ} {next : ℕ} (is : o ≡ end_of read_bet s pos) (e : next ≡ position o) where
     pub written_inside : Inside (record { from = pos; to = next }) s
     written_inside = next_inside w.pass h is e
 

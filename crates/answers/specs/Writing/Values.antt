@@ -1,18 +1,17 @@
 -- The values of variables as code works them out: how long they are as pairs, and the pairs that are written.
-use Rattle.std.specs.Prelude.{◌≡◌, List, [], ◌∷◌, ℕ, ◌+◌, ◌≤◌, length}
+use Rattle.std.specs.Prelude.{◌≡◌, List, [], ◌∷◌, ℕ, ◌+◌, ◌≤◌, length, Some, None}
 use Rattle.std.proofs.Math.Option.{Option, none, some}
 use Rattle.records.specs.Format.Syntax.{Binding, bind, Bet}
 use Rattle.records.specs.Format.Encode.{each, binding_bytes}
 use Rattle.terms.specs.Theory.Outcome.{value}
 use Rattle.terms.specs.Values.Entries.{under}
-use Rattle.terms.specs.declared.substitute.Sized.{Sized}
-use Rattle.terms.specs.declared.substitute.Sized.TheVariants.{Fits, TooLarge}
+use Rattle.terms.specs.Values.Sized.{Sized}
 use Rattle.answers.specs.Form.Answer.{values_of}
 
 -- how long the pairs are, if all values are within the limit
 abbrev pub pairs_sized : Option (List Binding) → Sized
-pairs_sized none = TooLarge
-pairs_sized (some l) = Fits (length (each binding_bytes l))
+pairs_sized none = None
+pairs_sized (some l) = Some (length (each binding_bytes l))
 
 -- a variable with what the bets make of it
 abbrev pub value_pair : List Bet → ℕ → Binding

@@ -1,5 +1,5 @@
 -- Laws of the values: how long they are as pairs, one after another, and the pairs that are written.
-use Rattle.std.specs.Prelude.{◌≡◌, ℕ, zero, suc, ◌+◌, ◌≤◌, ◌<◌, get_or, drop}
+use Rattle.std.specs.Prelude.{◌≡◌, ℕ, zero, suc, ◌+◌, ◌≤◌, ◌<◌, get_or, drop, Some, None}
 use Rattle.std.proofs.Math.Path.{refl, sym, ap}
 use Rattle.std.proofs.Common.{◌∙◌, add-zero, zero-add, add-one, drop_of_length-le, drop-cons}
 use mathlib.Core.List.{List, [], ◌∷◌, ◌++◌, append_assoc, append-nil}
@@ -20,8 +20,7 @@ use Rattle.terms.specs.Theory.OutcomeLaws.{Valued, within, beyond, valued}
 use Rattle.terms.specs.Values.Answered.{sized, Answered}
 use Rattle.terms.specs.Values.Entries.{under}
 use Rattle.terms.specs.Values.NodeBytesLaws.{each_append}
-use Rattle.terms.specs.declared.substitute.Sized.{Sized}
-use Rattle.terms.specs.declared.substitute.Sized.TheVariants.{Fits, TooLarge}
+use Rattle.terms.specs.Values.Sized.{Sized}
 use Rattle.answers.specs.Form.Answer.{paired, values_of}
 use Rattle.answers.specs.Writing.Values.{pairs_sized, value_pair, value_pairs, ValuePairFits, ValuePairsFit}
 
@@ -33,16 +32,16 @@ all_at Φ (x ∷ l) (suc i) h k = all_at Φ l i (omega arith) k.1
 
 -- so many bytes in front
 abbrev pub more_bytes : ℕ → Sized → Sized
-more_bytes n (Fits m) = Fits (n + m)
-more_bytes n TooLarge = TooLarge
+more_bytes n (Some m) = Some (n + m)
+more_bytes n None = None
 
 more_more : (a b : ℕ) (r : Sized) → more_bytes a (more_bytes b r) ≡ more_bytes (a + b) r
-more_more a b (Fits m) = ap Fits (omega arith)
-more_more a b TooLarge = refl
+more_more a b (Some m) = ap Some (omega arith)
+more_more a b None = refl
 
 more_none : (r : Sized) → more_bytes 0 r ≡ r
-more_none (Fits m) = ap Fits (zero-add m)
-more_none TooLarge = refl
+more_none (Some m) = ap Some (zero-add m)
+more_none None = refl
 
 module _ (s : List Bet) where
   -- where all values are within the limit they are the pairs of what the bets make of the variables
@@ -66,9 +65,9 @@ module _ (s : List Bet) where
       where
         go : (o : Option (List Binding)) → pairs_sized (paired v (some (under s v)) o) ≡ more_bytes (2 + length (term_bytes (under s v))) (pairs_sized o)
         go none = refl
-        go (some l) = ap Fits (simp length-append (omega arith))
+        go (some l) = ap Some (simp length-append (omega arith))
 
-    pub sized_large : value s v ≡ none → pairs_sized (values_of s (v ∷ vs)) ≡ TooLarge
+    pub sized_large : value s v ≡ none → pairs_sized (values_of s (v ∷ vs)) ≡ None
     unfolding values_of
     sized_large e = rw e refl
 
@@ -84,41 +83,41 @@ module _ (s : List Bet) where
 
 -- the value of a variable as code finds it, where it is within the limit: how long it is, and its bytes at the start of the buffer
 module _ {s : List Bet} {v : ℕ} {buffer : List ℕ} {r : Sized} (a : Answered s (var v) buffer r) (e : value s v ≡ some (under s v)) where
-  value_sized : r ≡ Fits (length (term_bytes (under s v)))
+  value_sized : r ≡ Some (length (term_bytes (under s v)))
   value_sized = a.is ∙ ap sized e
 
-  pub value_not_large : {P : Type 0} → r ≡ TooLarge → P
+  pub value_not_large : {P : Type 0} → r ≡ None → P
   value_not_large h = let k = value_sized in never cc
 
-  pub value_length : {m : ℕ} → r ≡ Fits m → m ≡ length (term_bytes (under s v))
+  pub value_length : {m : ℕ} → r ≡ Some m → m ≡ length (term_bytes (under s v))
   value_length h = let k = value_sized in cc
 
-  pub value_inside : {m : ℕ} → r ≡ Fits m → Inside (record { from = 0; to = m }) buffer
+  pub value_inside : {m : ℕ} → r ≡ Some m → Inside (record { from = 0; to = m }) buffer
   value_inside h =
       let n = value_length h in
       let w = stands_within (a.written e) (omega (arith, term_long (under s v))) in
       record { order = omega arith; stop = omega arith }
 
-  pub value_cut : {m : ℕ} → r ≡ Fits m → cut buffer (record { from = 0; to = m }) ≡ term_bytes (under s v)
+  pub value_cut : {m : ℕ} → r ≡ Some m → cut buffer (record { from = 0; to = m }) ≡ term_bytes (under s v)
   value_cut h = rw (value_length h) (stands_cut (a.written e))
 
 -- the answer tells whether the value is within the limit
 module _ {s : List Bet} {v : ℕ} {buffer : List ℕ} {r : Sized} (a : Answered s (var v) buffer r) where
-  answered_within : {m : ℕ} → r ≡ Fits m → value s v ≡ some (under s v)
+  answered_within : {m : ℕ} → r ≡ Some m → value s v ≡ some (under s v)
   answered_within {m} h = go (valued s (var v))
     where
       go : Valued s (var v) → value s v ≡ some (under s v)
       go (within i e) = e
       go (beyond i e) = let k = a.is ∙ ap sized e in never cc
 
-  answered_beyond : r ≡ TooLarge → value s v ≡ none
+  answered_beyond : r ≡ None → value s v ≡ none
   answered_beyond h = go (valued s (var v))
     where
       go : Valued s (var v) → value s v ≡ none
       go (within i e) = value_not_large a e h
       go (beyond i e) = e
 
-  pub answered_short : {m : ℕ} → r ≡ Fits m → m ≤ length buffer
+  pub answered_short : {m : ℕ} → r ≡ Some m → m ≤ length buffer
   answered_short h = (value_inside a (answered_within h) h).stop
 
 -- the values of the first i variables are within the limit, and have so many bytes as pairs
@@ -133,7 +132,7 @@ module _ {s : List Bet} {vs : List ℕ} {i sum : ℕ} (w : Summed s vs i sum) wh
     summed_first : pairs_sized (values_of s vs) ≡ more_bytes sum (pairs_sized (values_of s (get_or vs i 0 ∷ drop (suc i) vs)))
     summed_first = w.whole ∙ ap (λ l. more_bytes sum (pairs_sized (values_of s l))) (drop-cons vs i 0 h)
 
-    pub summed_next : {m : ℕ} → r ≡ Fits m → Summed s vs (i + 1) (sum + (2 + m))
+    pub summed_next : {m : ℕ} → r ≡ Some m → Summed s vs (i + 1) (sum + (2 + m))
     summed_next {m} e =
         let v = get_or vs i 0 in
         let rest = drop (suc i) vs in
@@ -143,12 +142,12 @@ module _ {s : List Bet} {vs : List ℕ} {i sum : ℕ} (w : Summed s vs i sum) wh
               ∙ rw (value_length a in_limit e, add-one i) refl;
         }
 
-    pub summed_large : r ≡ TooLarge → TooLarge ≡ pairs_sized (values_of s vs)
+    pub summed_large : r ≡ None → None ≡ pairs_sized (values_of s vs)
     summed_large e = sym (summed_first ∙ ap (more_bytes sum) (sized_large s (get_or vs i 0) (drop (suc i) vs) (answered_beyond a e)))
 
-  pub summed_end : i ≡ length vs → Fits sum ≡ pairs_sized (values_of s vs)
+  pub summed_end : i ≡ length vs → Some sum ≡ pairs_sized (values_of s vs)
   unfolding values_of
-  summed_end z = let none_left : length vs ≤ i = omega arith in sym (w.whole ∙ rw (drop_of_length-le vs none_left) (ap Fits (add-zero sum)))
+  summed_end z = let none_left : length vs ≤ i = omega arith in sym (w.whole ∙ rw (drop_of_length-le vs none_left) (ap Some (add-zero sum)))
 
 -- the first i variables are written with their values as pairs, and the others' values are within the limit
 pub record ValuePairsPut (s : List Bet) (vs before : List ℕ) (at i : ℕ) (out : List ℕ) (pos : ℕ) : Type 0 where

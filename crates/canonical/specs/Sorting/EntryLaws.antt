@@ -1,26 +1,25 @@
 -- Laws of clauses and their entries: what the code reads of a clause, the listing of a record's entries, and what follows one in a list of entries.
-use Rattle.std.specs.Prelude.{◌≡◌, refl, ℕ, zero, suc, ◌+◌, ◌-◌, ◌*◌, ◌≤◌, ◌<◌, drop, get_or, set}
+use Rattle.std.specs.Prelude.{◌≡◌, refl, ℕ, zero, suc, ◌+◌, ◌-◌, ◌*◌, ◌≤◌, ◌<◌, drop, get_or, set, Option, Some, None}
 use Rattle.std.proofs.Math.Path.{sym}
 use Rattle.std.proofs.Common.{ap, ◌∙◌, add-one, arith, length-append, drop-cons, take_all, le-leb}
 use mathlib.Core.List.{List, [], ◌∷◌, ◌++◌, append_assoc, append-nil}
-use Rattle.std.proofs.Math.ListN.{length, take, length-set}
-use Rattle.std.proofs.Math.Seq.{take-suc-set}
+use Rattle.std.proofs.Math.ListN.{get_or-append, length, take, length-set}
+use Rattle.std.specs.List.{IsLastAndRest}
+use Rattle.std.proofs.Math.Seq.{take-suc-set, get_or-append_seam}
+use Rattle.std.proofs.lemmas.List.{get_or_default}
 use Rattle.records.specs.Format.Never.{never}
 use Rattle.records.specs.Format.Syntax.{Clause, arity}
 use Rattle.records.specs.Format.Syntax.Clause.{clause}
 use Rattle.records.specs.Format.Encode.{each, clause_bytes, terms_bytes, goal_bytes}
 use Rattle.records.specs.Format.Formed.{All, ClauseFormed}
-use Rattle.records.specs.Format.Heads.{clause_head, clause_head_at}
+use Rattle.records.specs.Format.Heads.{signed, clause_head, clause_head_at}
 use Rattle.records.specs.Format.HeadLaws.{joined_word}
 use Rattle.records.specs.Format.Items.{read_clause}
 use Rattle.records.specs.Format.Exact.{clause_exact}
 use Rattle.records.specs.Ends.Traversal.{end_of}
 use Rattle.records.specs.Ends.Stands.{Stands}
 use Rattle.records.specs.Ends.StandsLaws.{stands_first, stands_second, stands_ends, stands_read, stands_within}
-use Rattle.records.specs.declared.ends.Found.{Found}
-use Rattle.records.specs.declared.ends.Found.TheVariants.{At, Nothing}
 use Rattle.records.specs.declared.heads.Signature.{Signature}
-use Rattle.records.specs.declared.heads.Signature.TheVariants.{Predicate, NoPredicate}
 use Rattle.canonical.specs.Form.Canonical.{variable_count, locals_of}
 use Rattle.canonical.specs.Writing.Definition.{branch_size, branches_size}
 use Rattle.canonical.specs.Sorting.Entries.{predicate_number, arity_of, clause_read, clause_at, ClauseAt, ClausesAt, clause_entries, entry_place, clauses_in, clause_nth, GroupAt}
@@ -43,9 +42,15 @@ head_fits : (c : Clause) → ClauseFormed c → HeadFits c
 head_fits (clause p v ts g) f = (f.0, f.1, f.2)
 
 head_stands : {s : List ℕ} {at e : ℕ} (c : Clause) → ClauseFormed c → Stands s at (clause_bytes c) e
-    → clause_head_at s at ≡ Predicate (predicate_number c) (arity_of c) (variable_count c)
+    → clause_head_at s at ≡ signed (predicate_number c) (arity_of c) (variable_count c)
 unfolding clause_head_at
 head_stands (clause p v ts g) f w = ap clause_head w.bytes ∙ rw (le-leb (arity ts) 16 f.1, joined_word p f.0, le-leb v 64 f.2)
+
+-- the parts of a head
+signed_parts : {d : Signature} {p k v : ℕ} → Some d ≡ signed p k v → (d.predicate ≡ p) × (d.arity ≡ k) × (d.count ≡ v)
+signed_parts {d} {p} {k} {v} e =
+    let same : d ≡ record { predicate = p; arity = k; count = v } = cc in
+    (ap (λ (x : Signature). x.predicate) same, ap (λ (x : Signature). x.arity) same, ap (λ (x : Signature). x.count) same)
 
 -- a clause's bytes, told by its branch's
 clause_length : (c : Clause) → 5 * arity_of c + length (clause_bytes c) ≡ 4 + branch_size c
@@ -59,30 +64,30 @@ module _ {s : List ℕ} {at : ℕ} (w : ClauseAt s at) where
   clause_small = head_fits (clause_at s at) w.formed
 
   -- for code that read its head
-  module _ {r : Signature} (is : r ≡ clause_head_at s at) where
-    pub head_read : {p k v : ℕ} → r ≡ Predicate p k v
-        → (p ≡ predicate_number (clause_at s at)) × (k ≡ arity_of (clause_at s at)) × (v ≡ variable_count (clause_at s at))
-    head_read {p} {k} {v} q =
-        let y : Predicate p k v ≡ Predicate (predicate_number (clause_at s at)) (arity_of (clause_at s at)) (variable_count (clause_at s at)) =
+  module _ {r : Option Signature} (is : r ≡ clause_head_at s at) where
+    pub head_read : {d : Signature} → r ≡ Some d
+        → (d.predicate ≡ predicate_number (clause_at s at)) × (d.arity ≡ arity_of (clause_at s at)) × (d.count ≡ variable_count (clause_at s at))
+    head_read {d} q =
+        let y : Some d ≡ signed (predicate_number (clause_at s at)) (arity_of (clause_at s at)) (variable_count (clause_at s at)) =
         sym q ∙ is ∙ head_stands (clause_at s at) w.formed w.stands in
-        (cc, cc, cc)
+        signed_parts y
 
-    pub head_unread : {P : Type 0} → r ≡ NoPredicate → P
+    pub head_unread : {P : Type 0} → r ≡ None → P
     head_unread q =
-        let y : NoPredicate ≡ Predicate (predicate_number (clause_at s at)) (arity_of (clause_at s at)) (variable_count (clause_at s at)) =
+        let y : None ≡ signed (predicate_number (clause_at s at)) (arity_of (clause_at s at)) (variable_count (clause_at s at)) =
         sym q ∙ is ∙ head_stands (clause_at s at) w.formed w.stands in
         never cc
 
   -- and its end
-  module _ {f : Found} (is : f ≡ end_of read_clause s at) where
-    pub end_read : {e : ℕ} → f ≡ At e → e ≡ w.end
+  module _ {f : Option ℕ} (is : f ≡ end_of read_clause s at) where
+    pub end_read : {e : ℕ} → f ≡ Some e → e ≡ w.end
     end_read {e} q =
-        let y : At e ≡ At w.end = sym q ∙ is ∙ stands_ends clause_exact (clause_at s at) w.formed w.stands in
+        let y : Some e ≡ Some w.end = sym q ∙ is ∙ stands_ends clause_exact (clause_at s at) w.formed w.stands in
         cc
 
-    pub end_unread : {P : Type 0} → f ≡ Nothing → P
+    pub end_unread : {P : Type 0} → f ≡ None → P
     end_unread q =
-        let y : Nothing ≡ At w.end = sym q ∙ is ∙ stands_ends clause_exact (clause_at s at) w.formed w.stands in
+        let y : None ≡ Some w.end = sym q ∙ is ∙ stands_ends clause_exact (clause_at s at) w.formed w.stands in
         never cc
 
   -- it lies within the record, and its branch is as long as the code says
@@ -132,37 +137,35 @@ module _ {s : List ℕ} {n : ℕ} {whole table : List ℕ} {pos i : ℕ} (w : St
         go (c ∷ cs) f m d = clause_at_stands c f.0 (stands_first (clause_bytes c) (each clause_bytes cs) d)
 
     -- for code that read its head and its end
-    module _ {r : Signature} (is : r ≡ clause_head_at s pos) {p k v : ℕ} (q : r ≡ Predicate p k v) where
-      pub storing_bound : (p < 65536) × (k ≤ 16) × (pos < 65536) × (length table ≡ n)
+    module _ {r : Option Signature} (is : r ≡ clause_head_at s pos) {d : Signature} (q : r ≡ Some d) where
+      pub storing_bound : (d.predicate < 65536) × (d.arity ≤ 16) × (pos < 65536) × (length table ≡ n)
       storing_bound =
           let x = head_read storing_clause is q in
           let y = clause_small storing_clause in
           let z = clause_within storing_clause in
           (omega (arith, x.0, y.0), omega (arith, x.1, y.1), omega (arith, z.0, z.1, w.short), w.same_length)
 
-      pub storing_next : {f : Found} {e : ℕ} → f ≡ end_of read_clause s pos → f ≡ At e → Storing s n whole (set table i ((p * 256 + k) * 65536 + pos)) e (i + 1)
+      pub storing_next : {f : Option ℕ} {e : ℕ} → f ≡ end_of read_clause s pos → f ≡ Some e → Storing s n whole (set table i ((d.predicate * 256 + d.arity) * 65536 + pos)) e (i + 1)
       unfolding clause_entries
       storing_next {f} {e} at u = go w.rest w.formed w.many w.stand w.stored
         where
           go : (rest : List Clause) → All ClauseFormed rest → i + length rest ≡ n → Stands s pos (each clause_bytes rest) w.end
-              → whole ≡ take i table ++ clause_entries pos rest → Storing s n whole (set table i ((p * 256 + k) * 65536 + pos)) e (i + 1)
-          go [] a m d o = absurd (omega arith)
-          go (clause p' v' ts g ∷ cs) a m d o =
-              let one = stands_first (clause_bytes (clause p' v' ts g)) (each clause_bytes cs) d in
-              let y : Predicate p k v ≡ Predicate p' (arity ts) v' = sym q ∙ is ∙ head_stands (clause p' v' ts g) a.0 one in
-              let z : At e ≡ At (pos + length (clause_bytes (clause p' v' ts g))) = sym u ∙ at ∙ stands_ends clause_exact (clause p' v' ts g) a.0 one in
-              let b : p ≡ p' = cc in
-              let c : k ≡ arity ts = cc in
+              → whole ≡ take i table ++ clause_entries pos rest → Storing s n whole (set table i ((d.predicate * 256 + d.arity) * 65536 + pos)) e (i + 1)
+          go [] a m l' o = absurd (omega arith)
+          go (clause p' v' ts g ∷ cs) a m l' o =
+              let one = stands_first (clause_bytes (clause p' v' ts g)) (each clause_bytes cs) l' in
+              let y = signed_parts (sym q ∙ is ∙ head_stands (clause p' v' ts g) a.0 one) in
+              let z : Some e ≡ Some (pos + length (clause_bytes (clause p' v' ts g))) = sym u ∙ at ∙ stands_ends clause_exact (clause p' v' ts g) a.0 one in
               let x : e ≡ pos + length (clause_bytes (clause p' v' ts g)) = cc in
               let l = w.same_length in
-              rw (b, c, x) (record {
+              rw (y.0, y.1, x) (record {
                 rest = cs;
                 formed = a.1;
                 many = omega arith;
                 same_length = length-set table i ((p' * 256 + arity ts) * 65536 + pos) ∙ w.same_length;
                 short = w.short;
                 end = w.end;
-                stand = stands_second (clause_bytes (clause p' v' ts g)) (each clause_bytes cs) d;
+                stand = stands_second (clause_bytes (clause p' v' ts g)) (each clause_bytes cs) l';
                 stored =
                     o ∙ rw (add-one i, take-suc-set table i ((p' * 256 + arity ts) * 65536 + pos) (omega arith))
                     (sym (append_assoc (take i table) (((p' * 256 + arity ts) * 65536 + pos) ∷ []) (clause_entries (pos + length (clause_bytes (clause p' v' ts g))) cs)));
@@ -184,6 +187,19 @@ all_at Φ (x ∷ l) (suc i) h k = all_at Φ l i h.1 (omega arith)
 
 pub group_clause : {s group : List ℕ} {i : ℕ} → GroupAt s group → i < length group → ClauseAt s (entry_place (get_or group i 0))
 group_clause {s} {group} {i} r h = all_at (λ e. ClauseAt s (entry_place e)) group i r.entries h
+
+-- for code that read the place of the i-th entry
+pub place_read : (group : List ℕ) (i e : ℕ) {p : ℕ} → e ≡ get_or group i e → i < length group → p ≡ entry_place e → p ≡ entry_place (get_or group i 0)
+place_read group i e is h q = q ∙ ap entry_place (is ∙ get_or_default group i e 0 h)
+
+-- and for code that took the last entry off
+pub other_read : (group others : List ℕ) (last i e : ℕ) {p : ℕ} → IsLastAndRest group last others → e ≡ get_or others i e → i < length others → p ≡ entry_place e
+    → p ≡ entry_place (get_or group i 0)
+other_read group others last i e split is h q =
+    q ∙ ap entry_place (is ∙ get_or_default others i e 0 h ∙ sym (ap (λ (l : List ℕ). get_or l i 0) split.0 ∙ get_or-append others (last ∷ []) 0 i h))
+
+pub last_read : (group others : List ℕ) (last i : ℕ) {p : ℕ} → IsLastAndRest group last others → i ≡ length others → p ≡ entry_place last → p ≡ entry_place (get_or group i 0)
+last_read group others last i split at q = q ∙ ap entry_place (sym (ap (λ (l : List ℕ). get_or l i 0) split.0 ∙ rw at (get_or-append_seam others last [] 0)))
 
 -- the clauses of the entries from the i-th on
 pub clauses_next : (s group : List ℕ) (i : ℕ) → i < length group

@@ -1,10 +1,13 @@
--- Laws of groups: the scan for a group's end; and that entries picked one after the other are those of each predicate in turn.
-use Rattle.std.specs.Prelude.{◌≡◌, Bool, true, false, cond, ℕ, suc, ◌+◌, ◌*◌, ◌≤◌, ◌<◌, drop, get_or}
-use Rattle.std.proofs.Math.Path.{refl, sym, ap}
-use Rattle.std.proofs.Common.{◌∙◌, inl, inr, add-one, arith, drop_of_length-le, length-append, drop-cons}
+-- Laws of groups: what a group starts with; and that entries picked one after the other are those of each predicate in turn.
+use Rattle.std.specs.Prelude.{◌≡◌, Bool, true, false, cond, ℕ, suc, ◌+◌, ◌*◌, ◌-◌, ◌≤◌, ◌<◌, zero, take, drop, get_or}
+use Rattle.std.proofs.Math.Path.{refl, sym, ap, subst}
+use Rattle.std.proofs.Common.{◌∙◌, inl, inr, arith, length-append, length-drop, drop-cons, drop-drop, take_at, drop_at}
 use mathlib.Core.List.{List, [], ◌∷◌, ◌++◌}
 use Rattle.std.proofs.Math.Dec.{eqb}
 use Rattle.std.proofs.Math.ListN.{length}
+use Rattle.std.specs.List.{All as Each, AllByRecursion, IsChunkByPrefix, IsDistinct}
+use Rattle.std.proofs.lemmas.Bool.{eqb-false}
+use Rattle.std.proofs.lemmas.List.Elements.{All-cons}
 use borrow.Author.Tests.{eq-eqb, ne_eqb, eqb-true}
 use Rattle.records.specs.Format.Syntax.{Clause}
 use Rattle.records.specs.Format.Syntax.Clause.{clause}
@@ -21,36 +24,69 @@ use Rattle.canonical.specs.Sorting.Entries.{clause_at, ClauseAt, clause_entry, c
 use Rattle.canonical.specs.Sorting.EntryLaws.{clause_at_is, clause_at_stands}
 use Rattle.canonical.specs.Sorting.Picking.{entry_limit, picked}
 use Rattle.canonical.specs.Sorting.PickingLaws.{Ascending, picked_ascending}
-use Rattle.canonical.specs.Sorting.Groups.{group_length, with_key, by_predicate}
+use Rattle.canonical.specs.Sorting.Groups.{group_length, with_key, by_predicate, one_key, NextGroup}
 
--- the scan at j for the end of a group
-pub record Grouping (t : List ℕ) (key whole j : ℕ) : Type 0 where
-  pub within : j ≤ length t
-  pub ahead : whole ≡ j + group_length key (drop j t)
+-- the longest run of entries with one key, as the library cuts it off
+run_length : (k : ℕ) (l : List ℕ) (n : ℕ) → n < length l → entry_key (get_or l 0 0) ≡ k → IsChunkByPrefix one_key l (suc n) → suc n ≡ group_length k l
+unfolding group_length
+run_length k [] n h e w = absurd (omega arith)
+run_length k (x ∷ []) zero h e w = rw (e, eq-eqb k k refl) refl
+run_length k (x ∷ y ∷ l) zero h e w =
+    let no : eqb (entry_key x) (entry_key y) ≡ false = w.1 (omega arith) 0 in
+    rw (e, eq-eqb k k refl, ne_eqb (entry_key y) k (λ h. eqb-false (entry_key x) (entry_key y) no (e ∙ sym h))) refl
+run_length k (x ∷ []) (suc n) h e w = absurd (omega arith)
+run_length k (x ∷ y ∷ l) (suc n) h e w =
+    let same : entry_key y ≡ k = sym (eqb-true (entry_key x) (entry_key y) (w.0 0 0 (omega arith))) ∙ e in
+    let next : (i : ℕ) → suc i + 1 ≡ suc (i + 1) = λ i. omega arith in
+    let last : suc (suc n) - 1 ≡ suc (suc n - 1) = omega arith in
+    let more =
+    run_length k (y ∷ l) n (omega arith) same (
+      λ i d b. subst (λ (j : ℕ). one_key (get_or (y ∷ l) i d) (get_or (x ∷ y ∷ l) j d) ≡ true) (next i) (w.0 (suc i) d (omega arith)),
+      λ b d. subst (λ (j : ℕ). one_key (get_or (x ∷ y ∷ l) j d) (get_or (y ∷ l) (suc n) d) ≡ false) last (w.1 (omega arith) d),
+    ) in
+    rw (e, eq-eqb k k refl) (ap suc more)
 
-pub grouping_start : (t : List ℕ) (key i : ℕ) → i < length t → Grouping t key (i + group_length key (drop i t)) i
-grouping_start t key i h = record { within = omega arith; ahead = refl }
-
-module _ {t : List ℕ} {key whole j : ℕ} (r : Grouping t key whole j) where
-  pub grouping_next : entry_key (get_or t j 0) ≡ key → j < length t → Grouping t key whole (j + 1)
-  unfolding group_length
-  grouping_next e h = record {
-    within = omega arith;
-    ahead = r.ahead ∙ rw (drop-cons t j 0 h, eq-eqb (entry_key (get_or t j 0)) key e, add-one) (omega arith);
-  }
-
-  pub grouping_other : (entry_key (get_or t j 0) ≡ key → ⊥) → j < length t → j ≡ whole
-  unfolding group_length
-  grouping_other e h = sym (r.ahead ∙ rw (drop-cons t j 0 h, ne_eqb (entry_key (get_or t j 0)) key e) (omega arith))
-
-  pub grouping_end : length t ≤ j → j ≡ whole
-  unfolding group_length
-  grouping_end h = sym (r.ahead ∙ rw (drop_of_length-le t h) (omega arith))
+pub chunk_next : {P Q : (ℕ → ℕ → Bool) → Type 0} {t rest group later : List ℕ} {i : ℕ} → rest ≡ drop i t
+    → (rest ≡ group ++ later) × (0 < length group) × ((e : ℕ → ℕ → Bool) → P e → Q e × IsChunkByPrefix e rest (length group)) → P one_key
+    → NextGroup t i group later (i + length group)
+chunk_next {t = t} {rest = rest} {group = group} {later = later} {i = i} at step p =
+    let split = step.0 in
+    let some = step.1 in
+    let run = (step.2 one_key p).1 in
+    let whole : drop i t ≡ group ++ later = sym at ∙ split in
+    let size = ap length whole in
+    let total = length-append group later in
+    let left = length-drop i t in
+    let more : i < length t = omega arith in
+    let n : i + length group - i ≡ length group = omega arith in
+    let m : suc (length group - 1) ≡ length group = omega arith in
+    let first = ap (λ (l : List ℕ). entry_key (get_or l 0 0)) (drop-cons t i 0 more) in
+    let long = run_length (entry_key (get_or t i 0)) (drop i t) (length group - 1) (omega arith) first (rw m (rw at at run)) in
+    record {
+      more = more;
+      ends = ap (λ (k : ℕ). i + k) (sym m ∙ long);
+      is = sym (ap (take (i + length group - i)) whole ∙ take_at group later (i + length group - i) (sym n));
+      later_is = sym (sym (drop-drop (length group) i t) ∙ ap (drop (length group)) whole ∙ drop_at group later (length group) refl);
+    }
 
 -- places rise from p on, and entries are below the limit, as they stand in a record
 abbrev pub PlacesRise : ℕ → List ℕ → Type 0
 PlacesRise p [] = Unit {0}
 PlacesRise p (e ∷ l) = (p ≤ entry_place e) × (e < entry_limit) × PlacesRise (suc (entry_place e)) l
+
+-- such entries differ
+rise_differ : (e p : ℕ) (l : List ℕ) → entry_place e < p → PlacesRise p l → AllByRecursion (λ v. eqb e v ≡ false) l
+rise_differ e p [] h r = tt
+rise_differ e p (v ∷ l) h r = (ne_eqb e v (λ i. omega (arith, ap entry_place i, r.0)), rise_differ e (suc (entry_place v)) l (omega (arith, r.0)) r.2)
+
+pub rise_distinct : (p : ℕ) (l : List ℕ) → PlacesRise p l → IsDistinct eqb l
+unfolding IsDistinct
+rise_distinct p [] r = tt
+rise_distinct p (e ∷ l) r = (rise_differ e (suc (entry_place e)) l (omega arith) r.2, rise_distinct (suc (entry_place e)) l r.2)
+
+pub rise_below : (p : ℕ) (l : List ℕ) → PlacesRise p l → Each (λ e. e < entry_limit) l
+rise_below p [] r = λ k d h. absurd (omega arith)
+rise_below p (e ∷ l) r = All-cons (λ e. e < entry_limit) e l r.1 (rise_below (suc (entry_place e)) l r.2)
 
 ascending_weaker : (low high : ℕ) (l : List ℕ) → low ≤ high → Ascending high l → Ascending low l
 ascending_weaker low high [] b h = tt

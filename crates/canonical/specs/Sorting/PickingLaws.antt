@@ -1,7 +1,17 @@
--- Laws of picking: what one turn of a scan, and of the sorting, does; and that picking sorts.
-use Rattle.std.specs.Prelude.{◌≡◌, refl, ◌⊎◌, Bool, true, false, cond, List, [], ◌∷◌, ◌++◌, ℕ, zero, suc, ◌+◌, ◌-◌, ◌≤◌, ◌<◌, ltb, length, take, drop, get_or, set}
-use Rattle.std.proofs.Common.{sym, ap, ◌∙◌, inl, inr, append_assoc, append-nil, le_refl, add-one, arith, length-set, drop_of_length-le, drop-cons, take-suc-set, take_all}
-use borrow.Author.Tests.{lt-ltb, le-ltb, ltb-true, ltb-false}
+-- Laws of picking: picking sorts, and numbers that differ, in their order, are what is picked of them.
+use Rattle.std.specs.Prelude.{◌≡◌, refl, ◌⊎◌, Bool, true, false, cond, List, [], ◌∷◌, ℕ, zero, suc, ◌/◌, ◌%◌, ◌≤◌, ◌<◌, ltb, eqb, length, get_or}
+use Rattle.std.specs.List.{All, IsDistinct}
+use Rattle.std.specs.List.Sorted.{IsPermutation, IsSorted, IsNonDecreasing, IsStrictlyIncreasing}
+use Rattle.std.specs.Ordering.{ordering_then, nat_cmp, is_lt}
+use Rattle.std.specs.declared.cmp.Ordering.{Ordering}
+use Rattle.std.specs.declared.cmp.Ordering.TheVariants.{Less, Equal, Greater}
+use Rattle.std.proofs.Common.{sym, ap, ◌∙◌, inl, inr, le_refl, add-one, arith}
+use Rattle.std.proofs.lemmas.Bool.Decides.{nat_tests}
+use Rattle.std.proofs.lemmas.List.Sorted.{IsNonDecreasingBy-from_all_adjacent, All-permutation, IsPermutation-sym, length_permutation}
+use Rattle.std.proofs.lemmas.Map.Keys.{IsDistinct-IsPermutation, IsStrictlyIncreasing-from_distinct}
+use Rattle.std.proofs.lemmas.Bool.{eqb-false}
+use Rattle.records.specs.Format.Never.{never}
+use borrow.Author.Tests.{lt-ltb, le-ltb, ltb-true, ltb-false, eqb-true}
 use Rattle.terms.specs.Theory.Variables.{Among}
 use Rattle.canonical.specs.Sorting.Picking.{entry_limit, better, least, picked}
 
@@ -17,60 +27,6 @@ module _ (low best x : ℕ) where
   pub better_higher : low ≤ x → best ≤ x → best ≡ better low best x
   unfolding better
   better_higher h k = rw (le-ltb x low h, le-ltb x best k)
-
--- the scan at i, whose outcome is to be `whole`
-pub record Scanning (t : List ℕ) (low whole best i : ℕ) : Type 0 where
-  pub within : i ≤ length t
-  pub ahead : whole ≡ least low best (drop i t)
-
-pub scanning_start : (t : List ℕ) (low : ℕ) → Scanning t low (least low entry_limit t) entry_limit 0
-scanning_start t low = record { within = omega arith; ahead = refl }
-
--- one number more
-pub scanning_next : {t : List ℕ} {low whole best i r : ℕ} → Scanning t low whole best i → r ≡ better low best (get_or t i 0) → i < length t
-    → Scanning t low whole r (i + 1)
-unfolding least
-scanning_next {t} {low} {whole} {best} {i} {r} p q h =
-    record { within = omega arith; ahead = p.ahead ∙ rw (drop-cons t i 0 h, add-one, q) }
-
-pub scanning_end : {t : List ℕ} {low whole best i : ℕ} → Scanning t low whole best i → length t ≤ i → best ≡ whole
-unfolding least
-scanning_end {t} {low} {whole} {best} {i} p h = sym (p.ahead ∙ rw (drop_of_length-le t h))
-
--- the sorting at i, whose outcome is to be `whole`: what was stored, and what is still to be picked
-pub record Picking (t whole sorted : List ℕ) (low i : ℕ) : Type 0 where
-  pub within : i ≤ length t
-  pub same_length : length sorted ≡ length t
-  pub stored : whole ≡ take i sorted ++ picked (length t - i) low t
-
-pub picking_start : (t sorted : List ℕ) → length sorted ≡ length t → Picking t (picked (length t) 0 t) sorted 0 0
-picking_start t sorted e =
-    record { within = omega arith; same_length = e; stored = let n : length t ≡ length t - 0 = omega arith in ap (λ (k : ℕ). picked k 0 t) n }
-
-more : (t sorted : List ℕ) (n i low : ℕ) → i < length sorted → 0 < n
-    → take i sorted ++ picked n low t ≡ take (suc i) (set sorted i (least low entry_limit t)) ++ picked (n - 1) (suc (least low entry_limit t)) t
-unfolding picked
-more t sorted zero i low h z = absurd (omega arith)
-more t sorted (suc n) i low h z =
-    let k : suc n - 1 ≡ n = omega arith in
-    rw (k, take-suc-set sorted i (least low entry_limit t) h) (sym (append_assoc (take i sorted) (least low entry_limit t ∷ []) (picked n (suc (least low entry_limit t)) t)))
-
--- one more is picked and stored
-pub picking_next : {t whole sorted : List ℕ} {low i e : ℕ} → Picking t whole sorted low i → e ≡ least low entry_limit t → i < length t
-    → Picking t whole (set sorted i e) (e + 1) (i + 1)
-picking_next {t} {whole} {sorted} {low} {i} {e} p q h = record {
-  within = omega arith;
-  same_length = length-set sorted i e ∙ p.same_length;
-  stored =
-      let n : length t - i - 1 ≡ length t - suc i = omega arith in
-      rw (add-one i, add-one e, q, ← n) (p.stored ∙ more t sorted (length t - i) i low (omega (arith, p.same_length)) (omega arith));
-}
-
-pub picking_end : {t whole sorted : List ℕ} {low i : ℕ} → Picking t whole sorted low i → length t ≤ i → sorted ≡ whole
-unfolding picked
-picking_end {t} {whole} {sorted} {low} {i} p h =
-    let n : length t - i ≡ 0 = omega arith in
-    sym (p.stored ∙ rw (n, take_all i sorted (omega (arith, p.same_length))) (append-nil sorted))
 
 -- the better of two, by cases
 better_cases : (low best x : ℕ)
@@ -140,3 +96,67 @@ picked_ascending l (y ∷ m) low h f g =
       | inr j ↦ j
     ]) in
     rw first (ap (λ (k : List ℕ). y ∷ k) rest)
+
+-- numbers that rise strictly, below `entry_limit`
+ascending_strictly : (low : ℕ) (l : List ℕ) → (0 < length l → low ≤ get_or l 0 0) → IsStrictlyIncreasing l → All (λ e. e < entry_limit) l → Ascending low l
+ascending_strictly low [] h r b = tt
+ascending_strictly low (x ∷ l) h r b = (
+  h (omega arith),
+  b 0 x (omega arith),
+  ascending_strictly (suc x) l (λ n. r 0 (omega arith)) (λ k n. rw (add-one k) (rw (add-one (suc k)) at (r (suc k) (omega arith)))) (λ k d n. b (suc k) d (omega arith)),
+)
+
+among_at : (l : List ℕ) (k d : ℕ) → k < length l → Among (get_or l k d) l
+among_at [] k d h = absurd (omega arith)
+among_at (x ∷ l) zero d h = inl refl
+among_at (x ∷ l) (suc k) d h = inr (among_at l k d (omega arith))
+
+of_all : (Φ : ℕ → Type 0) (l : List ℕ) → All Φ l → (x : ℕ) → Among x l → Φ x
+of_all Φ [] a x m = absurd m
+of_all Φ (y ∷ l) a x (inl e) = rw e (a 0 y (omega arith))
+of_all Φ (y ∷ l) a x (inr m) = of_all Φ l (λ k d n. a (suc k) d (omega arith)) x m
+
+moved : (t u : List ℕ) → IsPermutation t u → (x : ℕ) → Among x u → Among x t
+moved t u p = of_all (λ x. Among x t) u (All-permutation (λ x. Among x t) t u p (among_at t))
+
+eqb_flips : (x y : ℕ) → eqb x y ≡ eqb y x
+eqb_flips x y = grind (arith, nat_tests)
+
+-- entries are in order by predicate, then arity, then place
+abbrev pub entry_cmp : ℕ → ℕ → Ordering
+entry_cmp x y = ordering_then (nat_cmp (x / 65536 / 256) (y / 65536 / 256)) (ordering_then (nat_cmp (x / 65536 % 256) (y / 65536 % 256)) (nat_cmp (x % 65536) (y % 65536)))
+
+not_before : (a b : ℕ) (o : Ordering) → is_lt (ordering_then (nat_cmp a b) o) ≡ false → (b < a) ⊎ ((a ≡ b) × (is_lt o ≡ false))
+not_before a b o h = go (ltb a b) (eqb a b) refl refl h
+  where
+    go : (t u : Bool) → ltb a b ≡ t → eqb a b ≡ u → is_lt (ordering_then (cond t Less (cond u Equal Greater)) o) ≡ false → (b < a) ⊎ ((a ≡ b) × (is_lt o ≡ false))
+    go true u i j k = never cc
+    go false true i j k = inr (eqb-true a b j, k)
+    go false false i j k = inl (omega (arith, ltb-false a b i, eqb-false a b j))
+
+last_order : (a b : ℕ) → is_lt (nat_cmp a b) ≡ false → b ≤ a
+last_order a b h = go (ltb a b) (eqb a b) refl refl h
+  where
+    go : (t u : Bool) → ltb a b ≡ t → eqb a b ≡ u → is_lt (cond t Less (cond u Equal Greater)) ≡ false → b ≤ a
+    go true u i j k = never cc
+    go false u i j k = ltb-false a b i
+
+-- which is the order of numbers
+entry_order : (x y : ℕ) → is_lt (entry_cmp y x) ≡ false → x ≤ y
+entry_order x y h = elim (not_before (y / 65536 / 256) (x / 65536 / 256) _ h) [
+  | inl i ↦ omega arith
+  | inr i ↦ elim (not_before (y / 65536 % 256) (x / 65536 % 256) _ i.1) [
+    | inl j ↦ omega (arith, i.0)
+    | inr j ↦ omega (arith, i.0, j.0, last_order (y % 65536) (x % 65536) j.1)
+  ]
+]
+
+pub sorted_entries : (u : List ℕ) → IsSorted entry_cmp u → IsNonDecreasing u
+sorted_entries u h = IsNonDecreasingBy-from_all_adjacent (λ x. x) u (λ k d n. entry_order _ _ (h k d (omega arith) n))
+
+-- the numbers of a list that differ, in their order, are what is picked of it
+pub sorted_picked : (t u : List ℕ) → IsPermutation t u → IsNonDecreasing u → IsDistinct eqb t → All (λ e. e < entry_limit) t → u ≡ picked (length t) 0 t
+sorted_picked t u p o d b =
+    let rises = IsStrictlyIncreasing-from_distinct u o (IsDistinct-IsPermutation eqb eqb_flips t u p d) in
+    let low = ascending_strictly 0 u (λ n. omega arith) rises (All-permutation (λ e. e < entry_limit) t u p b) in
+    sym (ap (λ (n : ℕ). picked n 0 t) (sym (length_permutation t u p)) ∙ picked_ascending t u 0 low (moved t u p) (λ x m h. moved u t (IsPermutation-sym t u p) x m))

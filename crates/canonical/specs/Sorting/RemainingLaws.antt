@@ -1,6 +1,7 @@
 -- Laws of the definitions that sorted entries still have to make: an accepted record's entries, picked one after the other, have its whole program
 -- to make, the next group makes the next definition, and at the end there is none.
-use Rattle.std.specs.Prelude.{◌≡◌, refl, List, [], ◌∷◌, ◌++◌, ℕ, suc, ◌+◌, ◌-◌, ◌*◌, ◌≤◌, ◌<◌, length, take, drop, get_or}
+use Rattle.std.specs.Prelude.{◌≡◌, refl, List, [], ◌∷◌, ◌++◌, ℕ, suc, ◌+◌, ◌-◌, ◌*◌, ◌≤◌, ◌<◌, length, take, drop, get_or, eqb, Option, Some, None}
+use Rattle.std.specs.List.{All as Each, IsDistinct}
 use Rattle.std.proofs.Common.{sym, ◌∙◌, arith, length-append, length-take, length-drop, drop_of_length-le, drop-cons, drop-drop, take_at, drop_at}
 use Rattle.std.proofs.Math.Path.{ap}
 use Rattle.records.specs.Format.Never.{never}
@@ -16,16 +17,14 @@ use Rattle.records.specs.Gate.GateLaws.{RecordOf, clauses_tree}
 use Rattle.records.specs.Ends.EndLaws.{goal_long}
 use Rattle.records.specs.Ends.Stands.{Stands}
 use Rattle.records.specs.Ends.StandsLaws.{body_stands, stands_second, word_stands}
-use Rattle.records.specs.declared.heads.Word.{Word}
-use Rattle.records.specs.declared.heads.Word.TheVariants.{Number, Short}
 use Rattle.canonical.specs.Form.Canonical.{Predicate, predicate, predicate_of, predicates, clauses_of, defined_by, if_any, definitions, canonical}
 use Rattle.canonical.specs.Form.PredicateLaws.{rank, ArityFits, Rising, all_predicates, all_ranked, predicates_rise, all_clauses_of}
 use Rattle.canonical.specs.Form.FormedLaws.{arities_fit}
 use Rattle.canonical.specs.Sorting.Entries.{ClauseAt, ClausesAt, clause_entries, record_entries, entry_key, entry_place, clauses_in, GroupAt}
 use Rattle.canonical.specs.Sorting.EntryLaws.{clauses_length}
-use Rattle.canonical.specs.Sorting.Picking.{picked}
+use Rattle.canonical.specs.Sorting.Picking.{picked, entry_limit}
 use Rattle.canonical.specs.Sorting.Groups.{group_length, with_key, by_predicate}
-use Rattle.canonical.specs.Sorting.GroupLaws.{by_ascends, by_length, picked_by_predicate, all_with, group_first, ClausesEntered, clauses_entered, own_clauses, entries_many}
+use Rattle.canonical.specs.Sorting.GroupLaws.{PlacesRise, rise_distinct, rise_below, by_ascends, by_length, picked_by_predicate, all_with, group_first, ClausesEntered, clauses_entered, own_clauses, entries_many}
 use Rattle.canonical.specs.Sorting.Remaining.{clauses_or_none, record_clauses, program_of, clauses_between, Remaining}
 use Rattle.canonical.specs.Writing.Definition.{group_definition}
 
@@ -220,22 +219,25 @@ module _ (s : List ℕ) (known : Known s) (a : Accepted (read_clauses s)) where
   clauses_few = laid_few s (record_clauses s) laid
 
   -- for code that read their count
-  count_is : word_at s 3 ≡ Number (length (record_clauses s))
+  count_is : word_at s 3 ≡ Some (length (record_clauses s))
   count_is = word_stands (length (record_clauses s)) (each clause_bytes (record_clauses s)) laid.formed.0 (laid_stands s (record_clauses s) laid.laid)
 
-  pub count_read : {r : Word} {n : ℕ} → r ≡ word_at s 3 → r ≡ Number n → n ≡ length (record_clauses s)
-  count_read {r} {n} is e = let y : Number n ≡ Number (length (record_clauses s)) = sym e ∙ is ∙ count_is in cc
+  pub count_read : {r : Option ℕ} {n : ℕ} → r ≡ word_at s 3 → r ≡ Some n → n ≡ length (record_clauses s)
+  count_read {r} {n} is e = let y : Some n ≡ Some (length (record_clauses s)) = sym e ∙ is ∙ count_is in cc
 
-  pub count_unread : {P : Type 0} {r : Word} → r ≡ word_at s 3 → r ≡ Short → P
+  pub count_unread : {P : Type 0} {r : Option ℕ} → r ≡ word_at s 3 → r ≡ None → P
   count_unread is e =
-      let y : Short ≡ Number (length (record_clauses s)) = sym e ∙ is ∙ count_is in
+      let y : None ≡ Some (length (record_clauses s)) = sym e ∙ is ∙ count_is in
       never cc
 
 pub ordered_remaining : {s table sorted : List ℕ} (known : Known s) (a : Accepted (read_clauses s)) → table ≡ clause_entries 5 (record_clauses s)
-    → sorted ≡ picked (length table) 0 table → Remaining s sorted 0 (program_of s)
+    → (IsDistinct eqb table → Each (λ e. e < entry_limit) table → sorted ≡ picked (length table) 0 table) → Remaining s sorted 0 (program_of s)
 unfolding program_of
-ordered_remaining {s} known a e f = rw (f, e) (remaining_start (clauses_stand s known a _ refl) (omega (arith, clauses_few s known a)))
+ordered_remaining {s} {table} known a e f =
+    let there = clauses_stand s known a _ refl in
+    let rise : PlacesRise 5 table = rw e (entered there).rise in
+    rw (f (rise_distinct 5 table rise) (rise_below 5 table rise), e) (remaining_start there (omega (arith, clauses_few s known a)))
 
 -- the first n of a table
-pub front_length : (n : ℕ) (l : List ℕ) → n ≤ length l → length (take (n - 0) l) ≡ n
+pub front_length : (n : ℕ) (l : List ℕ) → n ≤ length l → length (take n l) ≡ n
 front_length n l h = simp length-take (omega arith)

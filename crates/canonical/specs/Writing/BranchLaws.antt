@@ -1,5 +1,5 @@
 -- Laws of writing a clause's branch: one equation more, and the goal at the end.
-use Rattle.std.specs.Prelude.{◌≡◌, refl, List, [], ◌∷◌, ◌++◌, ℕ, suc, ◌+◌, ◌≤◌, ◌<◌, length}
+use Rattle.std.specs.Prelude.{◌≡◌, refl, List, [], ◌∷◌, ◌++◌, ℕ, suc, ◌+◌, ◌≤◌, ◌<◌, length, Option, Some}
 use Rattle.std.proofs.Common.{sym, ap, ◌∙◌, append_assoc, append-nil, add-one, arith, length-append}
 use Rattle.records.specs.Format.Syntax.{Term, Terms, Goal, Clause, arity}
 use Rattle.records.specs.Format.Syntax.Terms.{nil, cons}
@@ -16,8 +16,6 @@ use Rattle.terms.specs.Theory.Substitution.{substitute}
 use Rattle.terms.specs.Body.Body.{substitute_goal}
 use Rattle.terms.specs.Values.NodeBytesLaws.{substituted_bytes, substituted_goal_bytes}
 use Rattle.terms.specs.Body.Renaming.{renamed}
-use Rattle.records.specs.declared.ends.Found.{Found}
-use Rattle.records.specs.declared.ends.Found.TheVariants.{At}
 use Rattle.canonical.specs.Form.Canonical.{numbered_from, branch_from, branch}
 use Rattle.canonical.specs.Sorting.Entries.{arity_of, clause_at, ClauseAt}
 use Rattle.canonical.specs.Writing.PartlyPut.{PartlyPut}
@@ -76,7 +74,7 @@ module _ {s whole before after : List ℕ} {k base first at pos x : ℕ} (u : Eq
     pub formed : TermsFormed others
     pub past : ℕ
     pub walks : traverse s pos 1 0 ≡ on (term_nodes term) past
-    pub ends : end_at s pos 1 0 ≡ At past
+    pub ends : end_at s pos 1 0 ≡ Some past
     pub stands : Stands s past (terms_bytes others ++ goal_bytes u.goal) u.end
     pub split : goal_bytes (branch_from x (numbered_from base) u.terms u.goal)
         ≡ equation x (renamed base (traverse s pos 1 0)) ++ goal_bytes (branch_from (suc x) (numbered_from base) others u.goal)
@@ -118,7 +116,7 @@ module _ {s whole before after : List ℕ} {k base first at pos x : ℕ} (u : Eq
           length-append (equation x (renamed base (traverse s pos 1 0))) (goal_bytes (branch_from (suc x) (numbered_from base) (next_term h).others u.goal)),
         )
 
-    pub equating_next : {later : List ℕ} {to next : ℕ} {o : Found} → Put after at (equation x (renamed base (traverse s pos 1 0))) later to
+    pub equating_next : {later : List ℕ} {to next : ℕ} {o : Option ℕ} → Put after at (equation x (renamed base (traverse s pos 1 0))) later to
         → o ≡ end_at s pos 1 0 → next ≡ position o → Equating s k base whole before first later to next (x + 1)
     equating_next {next = next} q is e' =
         let t = next_term h in

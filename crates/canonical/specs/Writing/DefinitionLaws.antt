@@ -1,5 +1,5 @@
 -- Laws of a group's definition: the sizes are those of the bytes, summing the clauses gives them, and the branches are written one after the other.
-use Rattle.std.specs.Prelude.{◌≡◌, refl, List, [], ◌∷◌, ◌++◌, ℕ, suc, ◌+◌, ◌*◌, ◌≤◌, ◌<◌, ◌%◌, leb, length, drop, get_or}
+use Rattle.std.specs.Prelude.{◌≡◌, refl, List, [], ◌∷◌, ◌++◌, ℕ, suc, ◌+◌, ◌*◌, ◌≤◌, ◌<◌, ◌%◌, leb, length, drop, get_or, Option, Some}
 use Rattle.std.proofs.Math.Path.{sym}
 use Rattle.std.proofs.Common.{ap, ◌∙◌, append-nil, arith, drop_of_length-le, length-append}
 use Rattle.records.specs.Format.Syntax.{Term, Terms, Goal, Clause, arity}
@@ -13,7 +13,6 @@ use Rattle.records.specs.Ends.Traversal.Node.{variable, other}
 use Rattle.records.specs.Writing.Patched.{Put}
 use Rattle.records.specs.Writing.PatchedLaws.{put_then}
 use Rattle.records.specs.declared.heads.Signature.{Signature}
-use Rattle.records.specs.declared.heads.Signature.TheVariants.{Predicate}
 use Rattle.terms.specs.Theory.Substitution.{substitute}
 use Rattle.terms.specs.Theory.SubstitutionLaws.{substitute_var}
 use Rattle.terms.specs.Body.Body.{substitute_goal}
@@ -183,23 +182,23 @@ definition_of_parts cs c gs {p} {k} {l} e i j b m d =
     rw (e, x, y, i, j)
 
 -- for code that read the head of a group's first clause, and the group's totals
-module _ {s group : List ℕ} (r : GroupAt s group) (some : 0 < length group) {head : Signature} (is : head ≡ clause_head_at s (entry_place (get_or group 0 0))) {p k v : ℕ} (e : head ≡ Predicate p k v) where
+module _ {s group : List ℕ} (r : GroupAt s group) (some : 0 < length group) {head : Option Signature} (is : head ≡ clause_head_at s (entry_place (get_or group 0 0))) {d : Signature} (e : head ≡ Some d) where
   first_clause : ClauseAt s (entry_place (get_or group 0 0))
   first_clause = group_clause r some
 
-  pub arity_small : k ≤ 16
+  pub arity_small : d.arity ≤ 16
   arity_small = omega (arith, (head_read first_clause is e).1, (clause_small first_clause).1)
 
   module _ {t : Totals} (sums : Sums (clauses_in s group) t) (fit : locals_of (clauses_in s group) ≤ 255) where
-    definition_parts : definition_bytes (group_definition (clauses_in s group)) ≡ word p ++ ((k % 256 ∷ (t.locals % 256 ∷ [])) ++ goal_bytes (joined_branches k (clauses_in s group)))
+    definition_parts : definition_bytes (group_definition (clauses_in s group)) ≡ word d.predicate ++ ((d.arity % 256 ∷ (t.locals % 256 ∷ [])) ++ goal_bytes (joined_branches d.arity (clauses_in s group)))
     definition_parts =
         let h = head_read first_clause is e in
         definition_of_parts (clauses_in s group) (clause_nth s group 0) (clauses_in s (drop 1 group)) (clauses_next s group 0 some)
         h.0 h.1 arity_small sums.locals (omega (arith, sums.locals))
 
-    pub definition_size : length (definition_bytes (group_definition (clauses_in s group))) ≡ 4 + length (goal_bytes (joined_branches k (clauses_in s group)))
+    pub definition_size : length (definition_bytes (group_definition (clauses_in s group))) ≡ 4 + length (goal_bytes (joined_branches d.arity (clauses_in s group)))
     definition_size = omega (arith, ap length definition_parts)
 
-    pub definition_put : {before one two after : List ℕ} {at a b c : ℕ} → Put before at (word p) one a → Put one a (k % 256 ∷ (t.locals % 256 ∷ [])) two b
-        → Put two b (goal_bytes (joined_branches k (clauses_in s group))) after c → Put before at (definition_bytes (group_definition (clauses_in s group))) after c
+    pub definition_put : {before one two after : List ℕ} {at a b c : ℕ} → Put before at (word d.predicate) one a → Put one a (d.arity % 256 ∷ (t.locals % 256 ∷ [])) two b
+        → Put two b (goal_bytes (joined_branches d.arity (clauses_in s group))) after c → Put before at (definition_bytes (group_definition (clauses_in s group))) after c
     definition_put x y z = rw definition_parts (put_then x (put_then y z))

@@ -1,5 +1,5 @@
 -- Laws of a program, group by group: measuring its definitions, and writing them.
-use Rattle.std.specs.Prelude.{◌≡◌, refl, Bool, ◌&&◌, ℕ, ◌+◌, ◌-◌, ◌*◌, ◌≤◌, ◌<◌, leb, take, drop, get_or}
+use Rattle.std.specs.Prelude.{◌≡◌, refl, Bool, ◌&&◌, ℕ, ◌+◌, ◌-◌, ◌*◌, ◌≤◌, ◌<◌, leb, take, drop, get_or, Some, None}
 use Rattle.std.proofs.Common.{sym, ◌∙◌, arith, length-append}
 use Rattle.std.proofs.Math.Path.{ap}
 use Rattle.std.proofs.Math.Bool.{true, false}
@@ -24,7 +24,6 @@ use Rattle.canonical.specs.Writing.DefinitionLaws.{definition_length, definition
 use Rattle.canonical.specs.Writing.Service.{locals_fit}
 use Rattle.canonical.specs.Writing.Program.{surveyed}
 use Rattle.canonical.specs.declared.definition.Totals.{Totals}
-use Rattle.canonical.specs.declared.program.Survey.TheVariants.{Within, TooMany}
 
 -- the next group has clauses, and question 9 of what is left is its question first
 module _ {s t : List ℕ} {i : ℕ} {ds : List Definition} (m : Remaining s t i ds) (h : i < length t) {j : ℕ} (is : j ≡ i + group_length (entry_key (get_or t i 0)) (drop i t)) where
@@ -74,7 +73,7 @@ module _ {s t : List ℕ} {whole : List Definition} {count size i : ℕ} (v : Su
         (omega (arith, q.forth, q.within), omega (arith, group_size, q.forth, q.within))
 
     -- question 9 says no
-    pub surveying_many : 255 < r.locals → TooMany ≡ surveyed whole
+    pub surveying_many : 255 < r.locals → None ≡ surveyed whole
     unfolding surveyed
     surveying_many k =
         let b : 255 < locals_of (clauses_between s t i j) = omega (arith, sums.locals) in
@@ -107,7 +106,7 @@ module _ {s t : List ℕ} {whole : List Definition} {count size i : ℕ} (v : Su
           size_small = omega (arith, group_size, q.forth);
         }
 
-  pub surveying_end : length t ≤ i → Within count size ≡ surveyed whole
+  pub surveying_end : length t ≤ i → Some (record { count = count; size = size }) ≡ surveyed whole
   unfolding surveyed
   surveying_end h =
       let e = remaining_end v.remaining h in

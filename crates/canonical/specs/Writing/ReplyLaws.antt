@@ -1,7 +1,7 @@
 -- Laws of the reply: what the measuring says of questions 9 and 10, and the record that is written.
-use Rattle.std.specs.Prelude.{◌≡◌, Bool, cond, List, ℕ, ◌+◌, ◌≤◌, ◌<◌, leb}
+use Rattle.std.specs.Prelude.{◌≡◌, Bool, cond, List, ℕ, ◌+◌, ◌≤◌, ◌<◌, Some, None}
 use Rattle.std.proofs.Math.Path.{refl, ap}
-use Rattle.std.proofs.Common.{sym, ◌∙◌, arith, le-leb, leb-true, leb-false}
+use Rattle.std.proofs.Common.{◌∙◌, arith, le-leb}
 use Rattle.std.proofs.Math.Bool.{true, false}
 use Rattle.std.proofs.Math.ListN.{length}
 use Rattle.std.proofs.lemmas.Bool.{lt-leb}
@@ -22,9 +22,8 @@ use Rattle.canonical.specs.Form.Canonical.{canonical}
 use Rattle.canonical.specs.Writing.Service.{locals_fit, record_fits, program_answer, clauses_answer, program_reply, canonical_record}
 use Rattle.canonical.specs.Sorting.Remaining.{program_of}
 use Rattle.canonical.specs.Sorting.RemainingLaws.{accepted_tree}
-use Rattle.canonical.specs.Writing.Program.{surveyed, survey_refusal}
+use Rattle.canonical.specs.Writing.Program.{surveyed}
 use Rattle.canonical.specs.declared.program.Survey.{Survey}
-use Rattle.canonical.specs.declared.program.Survey.TheVariants.{Within, TooMany}
 
 -- a program's record: the length, the version, the count, and the definitions
 program_length : (ds : List Definition) → length (program_record ds) ≡ 5 + length (each definition_bytes ds)
@@ -32,83 +31,63 @@ unfolding record_of
 program_length ds = omega arith
 
 -- what the measuring said
-pub record ProgramMeasured (ds : List Definition) (count size : ℕ) : Type 0 where
+pub record ProgramMeasured (ds : List Definition) (survey : Survey) : Type 0 where
   pub fit : every locals_fit ds ≡ true
-  pub counts : count ≡ length ds
-  pub sizes : size ≡ length (each definition_bytes ds)
+  pub counts : survey.count ≡ length ds
+  pub sizes : survey.size ≡ length (each definition_bytes ds)
 
-pub program_measured : (ds : List Definition) {count size : ℕ} → Within count size ≡ surveyed ds → ProgramMeasured ds count size
+pub program_measured : (ds : List Definition) {survey : Survey} → Some survey ≡ surveyed ds → ProgramMeasured ds survey
 unfolding surveyed
-program_measured ds {count} {size} e = go (every locals_fit ds) refl e
+program_measured ds {survey} e = go (every locals_fit ds) refl e
   where
-    go : (b : Bool) → every locals_fit ds ≡ b → Within count size ≡ cond b (Within (length ds) (length (each definition_bytes ds))) TooMany → ProgramMeasured ds count size
-    go true f q = record { fit = f; counts = cc; sizes = cc }
+    whole : Survey
+    whole = record { count = length ds; size = length (each definition_bytes ds) }
+
+    go : (b : Bool) → every locals_fit ds ≡ b → Some survey ≡ cond b (Some whole) None → ProgramMeasured ds survey
+    go true f q =
+        let i : survey ≡ whole = cc in
+        rw i (record { fit = f; counts = refl; sizes = refl })
     go false f q = never cc
 
-too_many : (ds : List Definition) → TooMany ≡ surveyed ds → every locals_fit ds ≡ false
+too_many : (ds : List Definition) → None ≡ surveyed ds → every locals_fit ds ≡ false
 unfolding surveyed
 too_many ds e = go (every locals_fit ds) refl e
   where
-    go : (b : Bool) → every locals_fit ds ≡ b → TooMany ≡ cond b (Within (length ds) (length (each definition_bytes ds))) TooMany → every locals_fit ds ≡ false
+    whole : Survey
+    whole = record { count = length ds; size = length (each definition_bytes ds) }
+
+    go : (b : Bool) → every locals_fit ds ≡ b → None ≡ cond b (Some whole) None → every locals_fit ds ≡ false
     go true f q = never cc
     go false f q = f
 
 module _ (out : List ℕ) (ds : List Definition) (roomy : 32768 ≤ length out) where
   -- question 9 says no
-  pub reply_many : TooMany ≡ surveyed ds → Replied (program_reply out ds) 9 out
+  pub reply_many : None ≡ surveyed ds → Replied (program_reply out ds) 9 out
   unfolding program_reply program_answer on_yes question_number
   reply_many e = replied_refused program_record out (room_enough _ roomy ∙ ap (λ (b : Bool). on_yes locals b (on_yes fits (record_fits ds) (gives ds))) (too_many ds e)) refl
 
-  module _ {count size : ℕ} (m : ProgramMeasured ds count size) where
+  module _ {survey : Survey} (m : ProgramMeasured ds survey) where
     fitting : (b : Bool) → record_fits ds ≡ b → program_answer (length out) ds ≡ on_yes fits b (gives ds)
     unfolding program_answer on_yes
     fitting b e = room_enough _ roomy ∙ rw (m.fit, e)
 
     -- question 10 says no
-    pub reply_long : 32763 < size → Replied (program_reply out ds) 10 out
+    pub reply_long : 32763 < survey.size → Replied (program_reply out ds) 10 out
     unfolding program_reply on_yes question_number
     reply_long h = replied_refused program_record out (fitting false (lt-leb (length (program_record ds)) 32768 (omega (arith, program_length ds, m.sizes)))) refl
 
     -- the record is written
-    pub reply_whole : {after : List ℕ} {n : ℕ} → size ≤ 32763 → Put out 0 (program_record ds) after n → Replied (program_reply out ds) 0 after
+    pub reply_whole : {after : List ℕ} {n : ℕ} → survey.size ≤ 32763 → Put out 0 (program_record ds) after n → Replied (program_reply out ds) 0 after
     unfolding program_reply on_yes
     reply_whole h p =
         let k : length (program_record ds) ≤ 32768 = omega (arith, program_length ds, m.sizes) in
         replied_given program_record out (fitting true (le-leb (length (program_record ds)) 32768 k)) p (omega arith)
 
--- the number of a survey refuses, or is 0 and the record fits
-module _ (out : List ℕ) (ds : List Definition) (roomy : 32768 ≤ length out) where
-  pub reply_refused : {v : Survey} {k : ℕ} → v ≡ surveyed ds → k ≡ survey_refusal v → (k ≡ 0 → ⊥) → Replied (program_reply out ds) k out
-  reply_refused {v} {k} e n z = go v refl
-    where
-      long : (count size : ℕ) → ProgramMeasured ds count size → (b : Bool) → leb (5 + size) 32768 ≡ b → k ≡ cond b 0 10 → Replied (program_reply out ds) k out
-      long count size m true f i = absurd (z i)
-      long count size m false f i = rw i (reply_long out ds roomy m (omega (arith, leb-false (5 + size) 32768 f)))
-
-      go : (x : Survey) → v ≡ x → Replied (program_reply out ds) k out
-      go (Within count size) q = long count size (program_measured ds (sym q ∙ e)) _ refl (n ∙ ap survey_refusal q)
-      go TooMany q = rw (n ∙ ap survey_refusal q) (reply_many out ds roomy (sym q ∙ e))
-
--- its number, for what was program-measured
-module _ {v : Survey} {count size : ℕ} (q : v ≡ Within count size) where
-  pub survey_long : 32763 < size → 10 ≡ survey_refusal v
-  survey_long h = rw (q, lt-leb (5 + size) 32768 (omega arith)) refl
-
-  pub survey_short : size ≤ 32763 → 0 ≡ survey_refusal v
-  survey_short h = rw (q, le-leb (5 + size) 32768 (omega arith)) refl
-
-pub survey_fits : {v : Survey} {k count size : ℕ} → v ≡ Within count size → k ≡ survey_refusal v → k ≡ 0 → size ≤ 32763
-survey_fits {k = k} {count} {size} q n z = go (leb (5 + size) 32768) refl (n ∙ ap survey_refusal q)
-  where
-    go : (b : Bool) → leb (5 + size) 32768 ≡ b → k ≡ cond b 0 10 → size ≤ 32763
-    go true f i = omega (arith, leb-true (5 + size) 32768 f)
-    go false f i = omega arith
-
 -- a record is written by its head, its count and its definitions, one after the other
-pub put_program : {ds : List Definition} {before one two after : List ℕ} {count size a b c : ℕ} → ProgramMeasured ds count size
-    → Put before 0 (record_head (size + 5)) one a → Put one a (word count) two b → Put two b (each definition_bytes ds) after c → Put before 0 (program_record ds) after c
-put_program {ds} {size = size} m p q r =
-    let n : size + 5 ≡ length (program_record ds) = omega (arith, m.sizes, program_length ds) in
+pub put_program : {ds : List Definition} {before one two after : List ℕ} {survey : Survey} {a b c : ℕ} → ProgramMeasured ds survey
+    → Put before 0 (record_head (survey.size + 5)) one a → Put one a (word survey.count) two b → Put two b (each definition_bytes ds) after c → Put before 0 (program_record ds) after c
+put_program {ds} {survey = survey} m p q r =
+    let n : survey.size + 5 ≡ length (program_record ds) = omega (arith, m.sizes, program_length ds) in
     put_record n p (put_then (rw m.counts at q) r)
 
 -- a clause record that is refused

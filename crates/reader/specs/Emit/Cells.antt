@@ -6,6 +6,7 @@ use Rattle.std.specs.Prelude.{Bool, true, false, cond, ◌||◌, not, List, [], 
 use Rattle.records.specs.Format.Encode as encode
 use Rattle.reader.specs.Form.Meaning.{place, number_in, met}
 use Rattle.reader.specs.Items.Items.{Item, item}
+use Rattle.reader.specs.declared.emit.Behind.{Behind}
 use Rattle.reader.specs.declared.roles.Role.{Role}
 use Rattle.reader.specs.declared.roles.Role.TheVariants.{Variable, Constant, Functor, GoalVariable, GoalConstant, GoalFunctor, Truth, Failure, Head, HeadFunctor, Shut, Next, And, Or, Equal, Open, Close, Neck, Fact, Rule}
 
@@ -54,10 +55,6 @@ unfoldable pub cells : List (List ℕ) → List (List ℕ) → List Item → Lis
 cells ns vs [] = []
 cells ns vs (i ∷ is) = cell (role i) (name_number ns i) (variable_number vs i) ∷ cells ns (met_behind vs i) is
 
--- a comma, and a semicolon, behind what is in brackets
-pub data Behind : Type 0 where
-  behind : Bool → Bool → Behind
-
 pub data Emission : Type 0 where
   -- the bytes, whether an arity is over 16, the clauses, the counts of arguments, the brackets, comma, semicolon, =, variables
   emission : List ℕ → Bool → ℕ → List ℕ → List Behind → Bool → Bool → Bool → ℕ → Emission
@@ -96,7 +93,7 @@ headed kind n k l = kind ∷ (encode.word n ++ (k ∷ l))
 -- an opening bracket gives back what stands behind its closing one
 abbrev pub reopened : Emission → Emission
 reopened (emission l o n ks [] c s q v) = emission l o n ks [] false false q v
-reopened (emission l o n ks (behind a b ∷ bs) c s q v) = emission l o n ks bs a b q v
+reopened (emission l o n ks (b ∷ bs) c s q v) = emission l o n ks bs b.comma b.semicolon q v
 
 abbrev pub shown_clause : ℕ → ℕ → ℕ → List ℕ → List ℕ
 shown_clause p k v l = encode.word p ++ (k ∷ (v ∷ l))
@@ -119,7 +116,7 @@ emit_cell (cell And a x) (emission l o n ks bs c s q v) = emission l o n ks bs t
 emit_cell (cell Or a x) (emission l o n ks bs c s q v) = emission (due s 0x14 l) o n ks bs c true q v
 emit_cell (cell Equal a x) (emission l o n ks bs c s q v) = emission l o n ks bs c s true v
 emit_cell (cell Open a x) e = primary (reopened (whole e))
-emit_cell (cell Close a x) (emission l o n ks bs c s q v) = emission l o n ks (behind c s ∷ bs) false false q v
+emit_cell (cell Close a x) (emission l o n ks bs c s q v) = emission l o n ks (record { comma = c; semicolon = s } ∷ bs) false false q v
 emit_cell (cell Neck a x) e = whole e
 emit_cell (cell Fact a x) (emission l o n ks bs c s q v) = emission (0x10 ∷ l) o (suc n) ks bs c s q x
 emit_cell (cell Rule a x) (emission l o n ks bs c s q v) = emission l o (suc n) ks bs c s q x

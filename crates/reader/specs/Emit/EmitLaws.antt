@@ -22,7 +22,8 @@ use Rattle.text.specs.Grammar.ClauseTree.{fact, implied}
 use Rattle.reader.specs.Form.Meaning.{place, number_in, all_met, met, variables_of_term, variables_of_arguments, variables_of_atom, variables_of_goal, variables_of_conjunction, variables_of_primary, term_of, terms_of, atom_of, goal_of, conjunction_of, primary_of, clause_of, clauses_of, head_variables, arguments_of, name_of}
 use Rattle.reader.specs.Form.Service.{term_within, terms_within, goal_within, arities_within}
 use Rattle.reader.specs.Items.Items.{Item, item, term_items, arguments_items, left_items, atom_items, head_items, goal_items, conjunction_items, primary_items, clause_items, clauses_items}
-use Rattle.reader.specs.Emit.Cells.{cell, cells, Behind, Emission, emission, emitted, emit_cell, due, whole, primary, reopened}
+use Rattle.reader.specs.Emit.Cells.{cell, cells, Emission, emission, emitted, emit_cell, due, whole, primary, reopened}
+use Rattle.reader.specs.declared.emit.Behind.{Behind}
 use Rattle.reader.specs.declared.roles.Role.TheVariants.{Variable, Constant, Functor, GoalVariable, GoalConstant, GoalFunctor, Truth, Failure, Head, HeadFunctor, Shut, Next, And, Or, Equal, Close, Neck, Fact, Rule}
 
 pub all_met_append : (vs a b : List (List ℕ)) → all_met vs (a ++ b) ≡ all_met (all_met vs a) b

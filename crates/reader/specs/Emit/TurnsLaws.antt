@@ -1,17 +1,18 @@
 -- Laws of what code makes of an emission: bytes in front, symbols and heads, what is taken from a stack and put there, flags.
-use Rattle.std.specs.Prelude.{◌≡◌, refl, Bool, true, false, cond, ◌||◌, not, ℕ, suc, ◌+◌, ◌-◌, ◌≤◌, ◌<◌, min, eqb, leb, length, get_or, set}
+use Rattle.std.specs.Prelude.{◌≡◌, refl, Bool, cond, ◌||◌, not, ℕ, suc, ◌+◌, ◌-◌, ◌≤◌, ◌<◌, min, leb, length, get_or, set}
 use Rattle.std.proofs.Common.{sym, ap, ap₂, ◌∙◌, arith, add-one, length-set}
 use mathlib.Core.List.{List, [], ◌∷◌, ◌++◌, append_assoc, head-eq_of_cons-eq, tail-eq_of_cons-eq}
-use Rattle.reader.specs.Emit.Cells.{Emission, emission, behind, cell, emit_cell, reopened, due, whole, primary, headed, shown_clause, top, popped}
-use Rattle.reader.specs.Emit.Emits.{Pushes, stacked, capped, all_capped, behind_code, behind_codes, Emits, Turns, with_bytes, with_symbol, with_clause, with_top, placed, one_fewer, whole_state, primary_state, over_state, headed_state, starting_kind, shut_state, close_state, reopened_state, semicolon_state, end_state, and_state, equal_state}
+use Rattle.reader.specs.Emit.Cells.{Emission, emission, cell, emit_cell, reopened, due, whole, primary, headed, shown_clause, top, popped}
+use Rattle.reader.specs.Emit.Emits.{Pushes, stacked, capped, all_capped, nothing, Emits, Turns, with_bytes, with_symbol, with_clause, with_top, placed, one_fewer, whole_state, primary_state, over_state, headed_state, starting_kind, shut_state, close_state, reopened_state, semicolon_state, end_state, and_state, equal_state}
+use Rattle.reader.specs.declared.emit.Behind.{Behind}
 use Rattle.reader.specs.declared.emit.Emission.{Emission as State}
 use Rattle.reader.specs.declared.roles.Role.TheVariants.{Shut, Next, And, Or, Equal, Close, Rule}
 use Rattle.reader.specs.Emit.PushLaws.{pushes_then, due_append, held_as}
 use Rattle.reader.specs.Emit.StackLaws.{capped_over, capped_within, stacked_popped, stacked_length, stacked_suc, stacked_push, capped_top, capped_popped}
 
 -- Turns: one behind the other, and the same for what makes the same of an emission
-module _ {o1 k1 b1 o2 k2 b2 : List ℕ} {e d : State} where
-  pub turns_then : {o3 k3 b3 : List ℕ} {r : State} {f g : Emission → Emission} → Turns o1 k1 b1 e o2 k2 b2 d f → Turns o2 k2 b2 d o3 k3 b3 r g → Turns o1 k1 b1 e o3 k3 b3 r (λ x. g (f x))
+module _ {o1 k1 : List ℕ} {b1 : List Behind} {o2 k2 : List ℕ} {b2 : List Behind} {e d : State} where
+  pub turns_then : {o3 k3 : List ℕ} {b3 : List Behind} {r : State} {f g : Emission → Emission} → Turns o1 k1 b1 e o2 k2 b2 d f → Turns o2 k2 b2 d o3 k3 b3 r g → Turns o1 k1 b1 e o3 k3 b3 r (λ x. g (f x))
   turns_then {f = f} p q = record {
     keeps = q.keeps ∙ p.keeps;
     counts_keep = q.counts_keep ∙ p.counts_keep;
@@ -30,7 +31,7 @@ module _ {o1 k1 b1 o2 k2 b2 : List ℕ} {e d : State} where
   }
 
 -- bytes in front
-module _ {out after : List ℕ} {e : State} {next : ℕ} (counts brackets : List ℕ) where
+module _ {out after : List ℕ} {e : State} {next : ℕ} (counts : List ℕ) (brackets : List Behind) where
   pub turns_bytes : {b : List ℕ} {r : State} → Pushes out e.at b after next → r ≡ placed e next → Turns out counts brackets e after counts brackets r (with_bytes b)
   turns_bytes {b} {r} p i = record { keeps = p.keeps; counts_keep = refl; brackets_keep = refl; lower = rw i p.lower; emits = go }
     where
@@ -47,7 +48,7 @@ module _ {out after : List ℕ} {e : State} {next : ℕ} (counts brackets : List
         variables_are = h.variables_are;
       })
 
-  pub turns_whole : {r : State} → Pushes out e.at (due e.semicolon 0x14 []) after next → r ≡ whole_state e next → Turns out counts brackets e after counts brackets r whole
+  pub turns_whole : {r : State} → Pushes out e.at (due e.behind.semicolon 0x14 []) after next → r ≡ whole_state e next → Turns out counts brackets e after counts brackets r whole
   turns_whole {r} p i = record { keeps = p.keeps; counts_keep = refl; brackets_keep = refl; lower = rw i p.lower; emits = go }
     where
       go : (x : Emission) → Emits out counts brackets e x → Emits after counts brackets r (whole x)
@@ -63,11 +64,11 @@ module _ {out after : List ℕ} {e : State} {next : ℕ} (counts brackets : List
         variables_are = h.variables_are;
       })
 
-  pub turns_primary : {between : List ℕ} {equality : ℕ} {r : State} → Pushes out e.at (due e.equal 0x12 []) between equality → Pushes between equality (due e.comma 0x13 []) after next
+  pub turns_primary : {between : List ℕ} {equality : ℕ} {r : State} → Pushes out e.at (due e.equal 0x12 []) between equality → Pushes between equality (due e.behind.comma 0x13 []) after next
       → r ≡ primary_state e next → Turns out counts brackets e after counts brackets r primary
   turns_primary {r = r} p1 p2 i = record { keeps = p.keeps; counts_keep = refl; brackets_keep = refl; lower = rw i p.lower; emits = go }
     where
-      p : Pushes out e.at (due e.comma 0x13 [] ++ due e.equal 0x12 []) after next
+      p : Pushes out e.at (due e.behind.comma 0x13 [] ++ due e.equal 0x12 []) after next
       p = pushes_then p1 p2
 
       go : (x : Emission) → Emits out counts brackets e x → Emits after counts brackets r (primary x)
@@ -83,7 +84,7 @@ module _ {out after : List ℕ} {e : State} {next : ℕ} (counts brackets : List
         variables_are = h.variables_are;
       })
 
-module _ {out after : List ℕ} {e : State} {next : ℕ} (k : ℕ) {count : ℕ} (same : count ≡ capped k) (counts brackets : List ℕ) where
+module _ {out after : List ℕ} {e : State} {next : ℕ} (k : ℕ) {count : ℕ} (same : count ≡ capped k) (counts : List ℕ) (brackets : List Behind) where
   pub turns_symbol : {kind : ℕ} (a : ℕ) {r : State} → Pushes out e.at (headed kind a count []) after next → r ≡ over_state e next (leb 17 count || e.over)
       → Turns out counts brackets e after counts brackets r (with_symbol kind a k)
   turns_symbol {kind} a {r} p i = record { keeps = p.keeps; counts_keep = refl; brackets_keep = refl; lower = rw i p.lower; emits = go }
@@ -119,8 +120,8 @@ module _ {out after : List ℕ} {e : State} {next : ℕ} (k : ℕ) {count : ℕ}
       })
 
 -- what takes the top count
-pub turns_top : {out counts brackets after : List ℕ} {e d r : State} {f : ℕ → Emission → Emission} → d ≡ one_fewer e
-    → length after ≡ length out → r.at ≤ d.at → ((k : ℕ) → top (stacked counts e.terms) ≡ capped k → Turns out counts brackets d after counts brackets r (f k))
+pub turns_top : {out counts : List ℕ} {brackets : List Behind} {after : List ℕ} {e d r : State} {f : ℕ → Emission → Emission} → d ≡ one_fewer e
+    → length after ≡ length out → r.at ≤ d.at → ((k : ℕ) → top (stacked 0 counts e.terms) ≡ capped k → Turns out counts brackets d after counts brackets r (f k))
     → Turns out counts brackets e after counts brackets r (with_top f)
 turns_top {out} {counts} {brackets} {after} {e} {d} {r} {f} u i j t = record { keeps = i; counts_keep = refl; brackets_keep = refl; lower = omega (arith, j, ap (λ (x : State). x.at) u); emits = go }
   where
@@ -140,7 +141,7 @@ turns_top {out} {counts} {brackets} {after} {e} {d} {r} {f} u i j t = record { k
         }))
 
 -- the kind of what may be the left side of an equality, by the = behind it
-pub turns_kind : {out counts brackets after : List ℕ} {e r : State} (f : ℕ → Emission → Emission) {kind : ℕ} → kind ≡ cond e.equal 0x02 0x15
+pub turns_kind : {out counts : List ℕ} {brackets : List Behind} {after : List ℕ} {e r : State} (f : ℕ → Emission → Emission) {kind : ℕ} → kind ≡ cond e.equal 0x02 0x15
     → Turns out counts brackets e after counts brackets r (f kind) → Turns out counts brackets e after counts brackets r (λ x. f (starting_kind x) x)
 turns_kind {out} {counts} {brackets} {after} {e} {r} f {kind} i t = record { keeps = t.keeps; counts_keep = refl; brackets_keep = refl; lower = t.lower; emits = go }
   where
@@ -149,7 +150,7 @@ turns_kind {out} {counts} {brackets} {after} {e} {r} f {kind} i t = record { kee
 
 -- a state in which only flags and counts differ
 module _ (out : List ℕ) (a x : ℕ) where
-  pub turns_shut : {counts brackets : List ℕ} {e r : State} → e.terms < length counts → r ≡ shut_state e
+  pub turns_shut : {counts : List ℕ} {brackets : List Behind} {e r : State} → e.terms < length counts → r ≡ shut_state e
       → Turns out counts brackets e out (set counts e.terms 1) brackets r (emit_cell (cell Shut a x))
   turns_shut {counts} {brackets} {e} {r} k i = record { keeps = refl; counts_keep = length-set counts e.terms 1; brackets_keep = refl; lower = rw i (omega arith); emits = go }
     where
@@ -158,7 +159,7 @@ module _ (out : List ℕ) (a x : ℕ) where
         bytes = h.bytes;
         over_is = h.over_is;
         clauses_are = h.clauses_are;
-        counts_are = stacked_push counts e.terms 1 k ∙ ap (λ (m : List ℕ). 1 ∷ m) h.counts_are;
+        counts_are = stacked_push 0 counts e.terms 1 k ∙ ap (λ (m : List ℕ). 1 ∷ m) h.counts_are;
         brackets_are = h.brackets_are;
         comma_is = h.comma_is;
         semicolon_is = h.semicolon_is;
@@ -167,31 +168,31 @@ module _ (out : List ℕ) (a x : ℕ) where
       })
 
   -- one argument more: of the first, of one that is counted, and of one that is over already
-  pub turns_first : {counts after brackets : List ℕ} {e r : State} → e.terms ≡ 0 → Turns out counts brackets e out after brackets r (emit_cell (cell Shut a x))
+  pub turns_first : {counts after : List ℕ} {brackets : List Behind} {e r : State} → e.terms ≡ 0 → Turns out counts brackets e out after brackets r (emit_cell (cell Shut a x))
       → Turns out counts brackets e out after brackets r (emit_cell (cell Next a x))
   turns_first {counts} {after} {brackets} {e} {r} z t = record { keeps = t.keeps; counts_keep = t.counts_keep; brackets_keep = t.brackets_keep; lower = t.lower; emits = go }
     where
       go : (y : Emission) → Emits out counts brackets e y → Emits out after brackets r (emit_cell (cell Next a x) y)
       go (emission l o n [] bs c s q v) h = t.emits (emission l o n [] bs c s q v) h
-      go (emission l o n (k ∷ ks) bs c s q v) h = absurd (omega (arith, ap length h.counts_are, stacked_length counts e.terms, z))
+      go (emission l o n (k ∷ ks) bs c s q v) h = absurd (omega (arith, ap length h.counts_are, stacked_length 0 counts e.terms, z))
 
-  pub turns_next : {counts brackets : List ℕ} {e : State} {m : ℕ} → 0 < e.terms → e.terms ≤ length counts → m ≡ min (get_or counts (e.terms - 1) 0 + 1) 17
+  pub turns_next : {counts : List ℕ} {brackets : List Behind} {e : State} {m : ℕ} → 0 < e.terms → e.terms ≤ length counts → m ≡ min (get_or counts (e.terms - 1) 0 + 1) 17
       → Turns out counts brackets e out (set counts (e.terms - 1) m) brackets e (emit_cell (cell Next a x))
   turns_next {counts} {brackets} {e} {m} z k i = record { keeps = refl; counts_keep = length-set counts (e.terms - 1) m; brackets_keep = refl; lower = omega arith; emits = go }
     where
       last : ℕ
       last = e.terms - 1
 
-      top_is : stacked counts e.terms ≡ get_or counts last 0 ∷ stacked counts last
-      top_is = let q : last + 1 ≡ e.terms = omega arith in rw q at (stacked_suc counts last)
+      top_is : stacked 0 counts e.terms ≡ get_or counts last 0 ∷ stacked 0 counts last
+      top_is = let q : last + 1 ≡ e.terms = omega arith in rw q at (stacked_suc 0 counts last)
 
-      new_is : stacked (set counts last m) e.terms ≡ m ∷ stacked counts last
-      new_is = let q : last + 1 ≡ e.terms = omega arith in rw q at (stacked_push counts last m (omega arith))
+      new_is : stacked 0 (set counts last m) e.terms ≡ m ∷ stacked 0 counts last
+      new_is = let q : last + 1 ≡ e.terms = omega arith in rw q at (stacked_push 0 counts last m (omega arith))
 
       go : (y : Emission) → Emits out counts brackets e y → Emits out (set counts last m) brackets e (emit_cell (cell Next a x) y)
-      go (emission l o n [] bs c s q v) h = absurd (omega (arith, ap length h.counts_are, stacked_length counts e.terms))
+      go (emission l o n [] bs c s q v) h = absurd (omega (arith, ap length h.counts_are, stacked_length 0 counts e.terms))
       go (emission l o n (j ∷ ks) bs c s q v) h =
-          let both : get_or counts last 0 ∷ stacked counts last ≡ capped j ∷ all_capped ks = sym top_is ∙ h.counts_are in
+          let both : get_or counts last 0 ∷ stacked 0 counts last ≡ capped j ∷ all_capped ks = sym top_is ∙ h.counts_are in
           let d : get_or counts last 0 ≡ capped j = head-eq_of_cons-eq both in
           let f : m ≡ capped (suc j) = omega arith in
           record {
@@ -206,18 +207,18 @@ module _ (out : List ℕ) (a x : ℕ) where
             variables_are = h.variables_are;
           }
 
-  pub turns_many : {counts brackets : List ℕ} {e : State} → 0 < e.terms → e.terms ≤ length counts → 17 ≤ get_or counts (e.terms - 1) 0
+  pub turns_many : {counts : List ℕ} {brackets : List Behind} {e : State} → 0 < e.terms → e.terms ≤ length counts → 17 ≤ get_or counts (e.terms - 1) 0
       → Turns out counts brackets e out counts brackets e (emit_cell (cell Next a x))
   turns_many {counts} {brackets} {e} z k i = record { keeps = refl; counts_keep = refl; brackets_keep = refl; lower = omega arith; emits = go }
     where
       last : ℕ
       last = e.terms - 1
 
-      top_is : stacked counts e.terms ≡ get_or counts last 0 ∷ stacked counts last
-      top_is = let q : last + 1 ≡ e.terms = omega arith in rw q at (stacked_suc counts last)
+      top_is : stacked 0 counts e.terms ≡ get_or counts last 0 ∷ stacked 0 counts last
+      top_is = let q : last + 1 ≡ e.terms = omega arith in rw q at (stacked_suc 0 counts last)
 
       go : (y : Emission) → Emits out counts brackets e y → Emits out counts brackets e (emit_cell (cell Next a x) y)
-      go (emission l o n [] bs c s q v) h = absurd (omega (arith, ap length h.counts_are, stacked_length counts e.terms))
+      go (emission l o n [] bs c s q v) h = absurd (omega (arith, ap length h.counts_are, stacked_length 0 counts e.terms))
       go (emission l o n (j ∷ ks) bs c s q v) h =
           let d : get_or counts last 0 ≡ capped j = head-eq_of_cons-eq (sym top_is ∙ h.counts_are) in
           let f : capped j ≡ capped (suc j) = omega (arith, d, i) in
@@ -233,19 +234,19 @@ module _ (out : List ℕ) (a x : ℕ) where
             variables_are = h.variables_are;
           }
 
-  pub turns_close : {counts brackets : List ℕ} {e r : State} {code : ℕ} → e.goals < length brackets → code ≡ behind_code (behind e.comma e.semicolon) → r ≡ close_state e
-      → Turns out counts brackets e out counts (set brackets e.goals code) r (emit_cell (cell Close a x))
-  turns_close {counts} {brackets} {e} {r} {code} k d i = record { keeps = refl; counts_keep = refl; brackets_keep = length-set brackets e.goals code; lower = rw i (omega arith); emits = go }
+  pub turns_close : {counts : List ℕ} {brackets : List Behind} {e r : State} → e.goals < length brackets → r ≡ close_state e
+      → Turns out counts brackets e out counts (set brackets e.goals e.behind) r (emit_cell (cell Close a x))
+  turns_close {counts} {brackets} {e} {r} k i = record { keeps = refl; counts_keep = refl; brackets_keep = length-set brackets e.goals e.behind; lower = rw i (omega arith); emits = go }
     where
-      go : (y : Emission) → Emits out counts brackets e y → Emits out counts (set brackets e.goals code) r (emit_cell (cell Close a x) y)
+      go : (y : Emission) → Emits out counts brackets e y → Emits out counts (set brackets e.goals e.behind) r (emit_cell (cell Close a x) y)
       go (emission l o n ks bs c s q v) h =
-          let f : code ≡ behind_code (behind c s) = d ∙ ap₂ (λ (y z : Bool). behind_code (behind y z)) h.comma_is h.semicolon_is in
+          let f : e.behind ≡ record { comma = c; semicolon = s } = ap₂ (λ (y z : Bool). record { comma = y; semicolon = z }) h.comma_is h.semicolon_is in
           rw i (record {
             bytes = h.bytes;
             over_is = h.over_is;
             clauses_are = h.clauses_are;
             counts_are = h.counts_are;
-            brackets_are = stacked_push brackets e.goals code k ∙ ap₂ ◌∷◌ f h.brackets_are;
+            brackets_are = stacked_push nothing brackets e.goals e.behind k ∙ ap₂ ◌∷◌ f h.brackets_are;
             comma_is = refl;
             semicolon_is = refl;
             equal_is = h.equal_is;
@@ -253,7 +254,7 @@ module _ (out : List ℕ) (a x : ℕ) where
           })
 
   -- flags, and the end of a clause
-  pub turns_semicolon : {counts brackets before : List ℕ} {e d r : State} → Turns before counts brackets e out counts brackets d whole → r ≡ semicolon_state d
+  pub turns_semicolon : {counts : List ℕ} {brackets : List Behind} {before : List ℕ} {e d r : State} → Turns before counts brackets e out counts brackets d whole → r ≡ semicolon_state d
       → Turns before counts brackets e out counts brackets r (emit_cell (cell Or a x))
   turns_semicolon {counts} {brackets} {before} {e} {d} {r} t i = record { keeps = t.keeps; counts_keep = refl; brackets_keep = refl; lower = rw i t.lower; emits = go }
     where
@@ -272,7 +273,7 @@ module _ (out : List ℕ) (a x : ℕ) where
             variables_are = w.variables_are;
           })
 
-  module _ {counts brackets : List ℕ} {e r : State} where
+  module _ {counts : List ℕ} {brackets : List Behind} {e r : State} where
     pub turns_end : r ≡ end_state e x → Turns out counts brackets e out counts brackets r (emit_cell (cell Rule a x))
     turns_end i = record { keeps = refl; counts_keep = refl; brackets_keep = refl; lower = rw i (omega arith); emits = go }
       where
@@ -323,7 +324,7 @@ module _ (out : List ℕ) (a x : ℕ) where
 
 -- an opening bracket
 module _ (out : List ℕ) where
-  pub turns_reopened_none : {counts brackets : List ℕ} {e r : State} → e.goals ≡ 0 → r ≡ reopened_state e e.goals false false → Turns out counts brackets e out counts brackets r reopened
+  pub turns_reopened_none : {counts : List ℕ} {brackets : List Behind} {e r : State} → e.goals ≡ 0 → r ≡ reopened_state e e.goals nothing → Turns out counts brackets e out counts brackets r reopened
   turns_reopened_none {counts} {brackets} {e} {r} z i = record { keeps = refl; counts_keep = refl; brackets_keep = refl; lower = rw i (omega arith); emits = go }
     where
       go : (y : Emission) → Emits out counts brackets e y → Emits out counts brackets r (reopened y)
@@ -338,37 +339,30 @@ module _ (out : List ℕ) where
         equal_is = h.equal_is;
         variables_are = h.variables_are;
       })
-      go (emission l o n ks (b ∷ bs) c s q v) h = absurd (omega (arith, ap length h.brackets_are, stacked_length brackets e.goals, z))
+      go (emission l o n ks (b ∷ bs) c s q v) h = absurd (omega (arith, ap length h.brackets_are, stacked_length nothing brackets e.goals, z))
 
-  pub turns_reopened : {counts brackets : List ℕ} {e r : State} {code : ℕ} → 0 < e.goals → code ≡ get_or brackets (e.goals - 1) 0
-      → r ≡ reopened_state e (e.goals - 1) (eqb code 1 || eqb code 3) (leb 2 code) → Turns out counts brackets e out counts brackets r reopened
-  turns_reopened {counts} {brackets} {e} {r} {code} z d i = record { keeps = refl; counts_keep = refl; brackets_keep = refl; lower = rw i (omega arith); emits = go }
+  pub turns_reopened : {counts : List ℕ} {brackets : List Behind} {e r : State} → 0 < e.goals → r ≡ reopened_state e (e.goals - 1) (get_or brackets (e.goals - 1) nothing) → Turns out counts brackets e out counts brackets r reopened
+  turns_reopened {counts} {brackets} {e} {r} z i = record { keeps = refl; counts_keep = refl; brackets_keep = refl; lower = rw i (omega arith); emits = go }
     where
       last : ℕ
       last = e.goals - 1
 
-      top_is : stacked brackets e.goals ≡ code ∷ stacked brackets last
-      top_is = let q : last + 1 ≡ e.goals = omega arith in rw (q, sym d) at (stacked_suc brackets last)
-
-      decoded : (a b : Bool) → code ≡ behind_code (behind a b) → ((eqb code 1 || eqb code 3) ≡ a) × (leb 2 code ≡ b)
-      decoded true true h = rw h (refl, refl)
-      decoded true false h = rw h (refl, refl)
-      decoded false true h = rw h (refl, refl)
-      decoded false false h = rw h (refl, refl)
+      top_is : stacked nothing brackets e.goals ≡ get_or brackets last nothing ∷ stacked nothing brackets last
+      top_is = let q : last + 1 ≡ e.goals = omega arith in rw q at (stacked_suc nothing brackets last)
 
       go : (y : Emission) → Emits out counts brackets e y → Emits out counts brackets r (reopened y)
-      go (emission l o n ks [] c s q v) h = absurd (omega (arith, ap length h.brackets_are, stacked_length brackets e.goals))
-      go (emission l o n ks (behind a b ∷ bs) c s q v) h =
-          let both : code ∷ stacked brackets last ≡ behind_code (behind a b) ∷ behind_codes bs = sym top_is ∙ h.brackets_are in
-          let f = decoded a b (head-eq_of_cons-eq both) in
+      go (emission l o n ks [] c s q v) h = absurd (omega (arith, ap length h.brackets_are, stacked_length nothing brackets e.goals))
+      go (emission l o n ks (b ∷ bs) c s q v) h =
+          let both : get_or brackets last nothing ∷ stacked nothing brackets last ≡ b ∷ bs = sym top_is ∙ h.brackets_are in
+          let f = head-eq_of_cons-eq both in
           rw i (record {
             bytes = h.bytes;
             over_is = h.over_is;
             clauses_are = h.clauses_are;
             counts_are = h.counts_are;
             brackets_are = tail-eq_of_cons-eq both;
-            comma_is = f.0;
-            semicolon_is = f.1;
+            comma_is = ap (λ (x : Behind). x.comma) f;
+            semicolon_is = ap (λ (x : Behind). x.semicolon) f;
             equal_is = h.equal_is;
             variables_are = h.variables_are;
           })

@@ -6,27 +6,28 @@ use Rattle.text.specs.declared.table.State.{State}
 use Rattle.text.specs.declared.tokens.Kind.{Kind}
 use Rattle.text.specs.declared.tokens.Kind.TheVariants.{Name, True, Fail, Variable, Number, Functor, Open, Close, Comma, Semicolon, Equals, Neck, Stop, Wrong, End}
 use Rattle.reader.specs.Items.Items.{Item, items}
-use Rattle.reader.specs.Items.Words.{role_codes, Agrees}
+use Rattle.reader.specs.Items.Words.{RolesAre}
+use Rattle.reader.specs.declared.roles.Role.{Role}
 
 -- the items of a text, from a state on
 abbrev pub text_items : State → List ℕ → List Item
 text_items start s = items start (tokens_of s)
 
 -- the table, and how many items there are
-pub record Sorted (s : List ℕ) (start : State) (before roles : List ℕ) (count : ℕ) : Type 0 where
+pub record Sorted (s : List ℕ) (start : State) (before roles : List Role) (count : ℕ) : Type 0 where
   pub counted : count ≡ length (text_items start s)
   pub bounded : count ≤ length s
   pub kept : length roles ≡ length before
-  pub table : Agrees roles (role_codes (text_items start s)) count
+  pub table : RolesAre roles (text_items start s) count
 
 -- the same at the place `at`, in a state, with so many items sorted
-pub record Sorting (s : List ℕ) (start : State) (before roles : List ℕ) (count at : ℕ) (now : State) : Type 0 where
+pub record Sorting (s : List ℕ) (start : State) (before roles : List Role) (count at : ℕ) (now : State) : Type 0 where
   pub left : drop count (text_items start s) ≡ items now (tokens_from s at)
   pub reached : count ≤ length (text_items start s)
   pub behind : count ≤ at
   pub within : at ≤ length s
   pub kept : length roles ≡ length before
-  pub table : Agrees roles (role_codes (text_items start s)) count
+  pub table : RolesAre roles (text_items start s) count
   pub few : now.terms + now.goals ≤ count
 
 -- the kinds whose role hangs on what comes next, and the kind of =

@@ -17,10 +17,11 @@ use Rattle.text.specs.declared.tokens.Kind.TheVariants.{Name, True, Fail, Variab
 use Rattle.text.specs.declared.tokens.Lexeme.{Lexeme}
 use Rattle.text.specs.declared.table.State.{State}
 use Rattle.reader.specs.Items.Items.{Position, position, role_of, equals_next, items}
-use Rattle.reader.specs.Items.Roles.{role_code}
-use Rattle.reader.specs.Items.Words.{role_codes, item_words, token_words}
+use Rattle.reader.specs.declared.roles.Role.{Role}
+use Rattle.reader.specs.declared.roles.Role.TheVariants.{Variable as AVariable}
+use Rattle.reader.specs.Items.Words.{roles_of, item_words, token_words}
 use Rattle.reader.specs.Items.Sorted.{text_items, reserved, equals_kind, Sorted, Sorting}
-use Rattle.reader.specs.Items.TableLaws.{agrees_none, agrees_more, drop_more, drop_none, drop_head, drop_rest, drop_codes}
+use Rattle.reader.specs.Items.TableLaws.{agrees_none, agrees_more, drop_more, drop_none, drop_head, drop_rest, drop_roles}
 
 -- the words of a text's items are those of its tokens
 pub items_words : (st : State) (ts : List Token) → item_words (items st ts) ≡ token_words ts
@@ -66,7 +67,7 @@ role_alike z End h a b = refl
 
 module _ {s : List ℕ} {start : State} where
   -- before the first token
-  pub sorting_start : (roles : List ℕ) → start.terms + start.goals ≤ 0 → Sorting s start roles roles 0 0 start
+  pub sorting_start : (roles : List Role) → start.terms + start.goals ≤ 0 → Sorting s start roles roles 0 0 start
   unfolding tokens_of tokens_from
   sorting_start roles h = record {
     left = refl;
@@ -74,16 +75,16 @@ module _ {s : List ℕ} {start : State} where
     behind = omega arith;
     within = omega arith;
     kept = refl;
-    table = agrees_none roles (role_codes (text_items start s));
+    table = agrees_none _ roles (roles_of (text_items start s));
     few = h;
   }
 
   -- one token more
-  pub sorting_more : {before roles : List ℕ} {count at : ℕ} {now : State} {t : Lexeme} → Sorting s start before roles count at now → NextToken s at t
-      → end_kind t.kind ≡ false → count < length roles → (code : ℕ) → code ≡ role_code (role_of (position now.mode) t.kind (equals_next (tokens_from s t.next)))
-      → Sorting s start before (set roles count code) (count + 1) t.next (look now t.kind)
-  unfolding items role_codes
-  sorting_more {before} {roles} {count} {at} {now} {t} g n h f code q =
+  pub sorting_more : {before roles : List Role} {count at : ℕ} {now : State} {t : Lexeme} → Sorting s start before roles count at now → NextToken s at t
+      → end_kind t.kind ≡ false → count < length roles → (role : Role) → role ≡ role_of (position now.mode) t.kind (equals_next (tokens_from s t.next))
+      → Sorting s start before (set roles count role) (count + 1) t.next (look now t.kind)
+  unfolding items roles_of
+  sorting_more {before} {roles} {count} {at} {now} {t} g n h f role q =
       let all = text_items start s in
       let one = there_is_one n h in
       let l = g.left ∙ ap (items now) one.tokens in
@@ -92,14 +93,14 @@ module _ {s : List ℕ} {start : State} where
         reached = omega (arith, drop_more all count _ _ l);
         behind = omega (arith, n.advances h);
         within = n.within;
-        kept = length-set roles count code ∙ g.kept;
-        table = agrees_more roles (role_codes all) count code f g.table
-            (q ∙ ap (λ (k : Kind). role_code (role_of (position now.mode) k (equals_next (tokens_from s t.next)))) one.kind_is ∙ sym (drop_head (role_codes all) count _ _ 0 (drop_codes all count ∙ ap role_codes l)));
+        kept = length-set roles count role ∙ g.kept;
+        table = agrees_more _ roles (roles_of all) count role f g.table
+            (q ∙ ap (λ (k : Kind). role_of (position now.mode) k (equals_next (tokens_from s t.next))) one.kind_is ∙ sym (drop_head (roles_of all) count _ _ AVariable (drop_roles all count ∙ ap roles_of l)));
         few = look_small now t.kind count g.few;
       }
 
   -- behind the last token
-  pub sorting_end : {before roles : List ℕ} {count at : ℕ} {now : State} {t : Lexeme} → Sorting s start before roles count at now → NextToken s at t → end_kind t.kind ≡ true
+  pub sorting_end : {before roles : List Role} {count at : ℕ} {now : State} {t : Lexeme} → Sorting s start before roles count at now → NextToken s at t → end_kind t.kind ≡ true
       → Sorted s start before roles count
   unfolding items
   sorting_end {before} {roles} {count} {at} {now} g n h = record {

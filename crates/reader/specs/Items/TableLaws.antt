@@ -2,18 +2,18 @@
 use Rattle.std.specs.Prelude.{◌≡◌, refl, List, [], ◌∷◌, ℕ, zero, suc, ◌+◌, ◌≤◌, ◌<◌, length, drop, get_or, set}
 use Rattle.std.proofs.Common.{ap, ◌∙◌, add-one, arith, below_more, length-drop, get_or-set_same, get_or-set_other, drop-cons}
 use Rattle.reader.specs.Items.Items.{Item}
-use Rattle.reader.specs.Items.Words.{role_codes, Agrees}
+use Rattle.reader.specs.Items.Words.{roles_of, AgreesBy}
 
 -- no entry yet
-pub agrees_none : (table l : List ℕ) → Agrees table l 0
-unfolding Agrees
-agrees_none table l j h = absurd (omega arith)
+pub agrees_none : {A : Type 0} (d : A) (table l : List A) → AgreesBy d table l 0
+unfolding AgreesBy
+agrees_none d table l j h = absurd (omega arith)
 
 -- one entry more
-pub agrees_more : (table l : List ℕ) (n v : ℕ) → n < length table → Agrees table l n → v ≡ get_or l n 0 → Agrees (set table n v) l (n + 1)
-unfolding Agrees
-agrees_more table l n v h a e =
-    below_more (λ k. get_or (set table n v) k 0 ≡ get_or l k 0) n (λ k i. get_or-set_other table n k v 0 (λ q. omega arith) ∙ a k i) (get_or-set_same table n v 0 h ∙ e)
+pub agrees_more : {A : Type 0} (d : A) (table l : List A) (n : ℕ) (v : A) → n < length table → AgreesBy d table l n → v ≡ get_or l n d → AgreesBy d (set table n v) l (n + 1)
+unfolding AgreesBy
+agrees_more d table l n v h a e =
+    below_more (λ k. get_or (set table n v) k d ≡ get_or l k d) n (λ k i. get_or-set_other table n k v d (λ q. omega arith) ∙ a k i) (get_or-set_same table n v d h ∙ e)
 
 -- what is left behind n elements: the first of it, and the rest
 module _ {A : Type 0} where
@@ -30,8 +30,8 @@ module _ {A : Type 0} where
   drop_rest l n x r e = let q = drop-cons l n x (drop_more l n x r e) in rw (add-one n) (cc)
 
 -- the roles behind n items
-pub drop_codes : (is : List Item) (n : ℕ) → drop n (role_codes is) ≡ role_codes (drop n is)
-unfolding role_codes
-drop_codes is zero = refl
-drop_codes [] (suc n) = refl
-drop_codes (i ∷ is) (suc n) = drop_codes is n
+pub drop_roles : (is : List Item) (n : ℕ) → drop n (roles_of is) ≡ roles_of (drop n is)
+unfolding roles_of
+drop_roles is zero = refl
+drop_roles [] (suc n) = refl
+drop_roles (i ∷ is) (suc n) = drop_roles is n

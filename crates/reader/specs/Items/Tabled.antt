@@ -2,10 +2,11 @@
 use Rattle.std.specs.Prelude.{◌≡◌, List, ℕ, length}
 use Rattle.text.specs.Tokens.Lexer.{tokens_of}
 use Rattle.reader.specs.Items.Items.{Item}
-use Rattle.reader.specs.Items.Words.{item_words, token_words, role_codes, Agrees}
+use Rattle.reader.specs.Items.Words.{item_words, token_words, RolesAre}
+use Rattle.reader.specs.declared.roles.Role.{Role}
 
 -- items that a text has the words of, and a table the roles
-pub record Tabled (s roles : List ℕ) (count : ℕ) (is : List Item) : Type 0 where
+pub record Tabled (s : List ℕ) (roles : List Role) (count : ℕ) (is : List Item) : Type 0 where
   pub counted : count ≡ length is
-  pub coded : Agrees roles (role_codes is) count
+  pub coded : RolesAre roles is count
   pub worded : item_words is ≡ token_words (tokens_of s)

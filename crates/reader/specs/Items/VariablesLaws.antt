@@ -1,15 +1,16 @@
 -- Laws of numbering: what the search for a variable finds, one item more, and the whole table.
 use Rattle.std.specs.Prelude.{◌≡◌, refl, Bool, true, false, cond, ◌||◌, ℕ, zero, suc, ◌+◌, ◌≤◌, ◌<◌, max, get_or, set}
 use Rattle.std.proofs.Math.Path.{sym, ap}
-use Rattle.std.proofs.Common.{◌∙◌, ⊎_elim, eq-or-lt_of_le, le_of_suc-le-suc, arith, below_more, length-set, length-append, drop_of_length-le, get_or-set_same, get_or-set_other, drop-cons}
+use Rattle.std.proofs.Common.{◌∙◌, arith, length-set, length-append, drop_of_length-le, drop-cons}
 use Rattle.std.proofs.Math.Bool.{not}
 use mathlib.Core.List.{List, [], ◌∷◌, ◌++◌}
 use Rattle.std.proofs.Math.Numerals.{add-one}
 use Rattle.std.proofs.Math.Dec.{leb}
 use borrow.Author.Tests.{le-leb, lt-leb, leb-true, leb-false}
-use Rattle.std.proofs.Math.ListN.{length, drop, get_or-append}
-use Rattle.std.proofs.Math.Seq.{drop-length}
-use Rattle.std.proofs.lemmas.List.{get_or_at}
+use Rattle.std.proofs.Math.ListN.{length, take, drop}
+use Rattle.std.proofs.Math.Seq.{drop-length, take-suc-set}
+use Rattle.std.proofs.lemmas.List.{map-append, length-map, length-take, length-take-le, get_or-take, take-set-le}
+use Rattle.std.proofs.lemmas.List.Elements.{All-append}
 use Rattle.records.specs.Ends.Range.{cut, Inside}
 use Rattle.records.specs.Ends.Same.{same_bytes}
 use Rattle.records.specs.declared.put.Range.{Range}
@@ -20,17 +21,18 @@ use Rattle.text.specs.declared.table.State.{State}
 use Rattle.text.specs.declared.tokens.Lexeme.{Lexeme}
 use Rattle.reader.specs.Form.Meaning.{place, listed, lone, number_in, met}
 use Rattle.reader.specs.Items.Items.{Item, item}
-use Rattle.reader.specs.Items.Roles.{role_code, variable_code, end_code}
-use Rattle.reader.specs.Items.RolesLaws.{by_code}
-use Rattle.reader.specs.Items.Words.{item_words, token_words, role_codes, variable_numbers, most_met, Agrees}
+use Rattle.reader.specs.Items.Roles.{variable_role, end_role}
+use Rattle.reader.specs.Items.RolesLaws.{by_role}
+use Rattle.reader.specs.Items.Words.{item_words, token_words, roles_of, variable_numbers, most_met, AgreesBy}
 use Rattle.reader.specs.Items.Sorted.{text_items, Sorted}
 use Rattle.reader.specs.Items.SortedLaws.{items_words}
-use Rattle.reader.specs.Items.TableLaws.{agrees_none, agrees_more, drop_head, drop_rest, drop_codes}
+use Rattle.reader.specs.Items.TableLaws.{agrees_none, agrees_more, drop_head, drop_rest, drop_roles}
 use Rattle.reader.specs.Items.Tabled.{Tabled}
-use Rattle.reader.specs.Items.Variables.{range, range_words, RangesInside, code_number, code_met, NumberedItem, Numbering}
+use Rattle.reader.specs.Items.Variables.{range_words, RangesInside, role_number, role_met, NumberedItem, Numbering}
 use Rattle.reader.specs.Names.PlaceLaws.{place_within, place_listed, place_unlisted}
 use Rattle.reader.specs.Emit.Cells.{variable_number, met_behind}
 use Rattle.reader.specs.declared.roles.Role.{Role}
+use Rattle.reader.specs.declared.roles.Role.TheVariants.{Variable}
 use Rattle.reader.specs.declared.roles.Role.TheVariants.{Variable}
 use Rattle.reader.specs.declared.variables.Numbered.{Numbered}
 
@@ -69,115 +71,99 @@ met_new vs w = go (lone w) (listed w vs) refl
     go false true i h = absurd (omega (arith, place_listed w vs i))
     go false false i h = refl
 
-new_one : (code : ℕ) (vs : List (List ℕ)) (w : List ℕ) (x : ℕ) → variable_code code ≡ true → x ≡ number_in vs w → length vs ≤ x
-    → (length vs ≡ code_number code vs w) × (code_met code vs w ≡ vs ++ (w ∷ []))
-new_one code vs w x v e h = let q : number_in vs w ≡ length vs = omega (arith, number_within vs w) in (rw v (sym q), rw v (met_new vs w q))
+new_one : (o : Role) (vs : List (List ℕ)) (w : List ℕ) (x : ℕ) → variable_role o ≡ true → x ≡ number_in vs w → length vs ≤ x
+    → (length vs ≡ role_number o vs w) × (role_met o vs w ≡ vs ++ (w ∷ []))
+new_one o vs w x v e h = let q : number_in vs w ≡ length vs = omega (arith, number_within vs w) in (rw v (sym q), rw v (met_new vs w q))
 
 -- Ranges.
-pub length_words : (s starts ends : List ℕ) (n : ℕ) → length (range_words s starts ends n) ≡ n
+pub length_words : (s : List ℕ) (ranges : List Range) → length (range_words s ranges) ≡ length ranges
 unfolding range_words
-length_words s starts ends zero = refl
-length_words s starts ends (suc n) = length-append (range_words s starts ends n) _ ∙ omega (arith, length_words s starts ends n)
+length_words s ranges = length-map ranges (cut s)
 
-pub range_word_at : (s starts ends : List ℕ) (n j : ℕ) → j < n → get_or (range_words s starts ends n) j [] ≡ cut s (range (get_or starts j 0) (get_or ends j 0))
+pub range_word_at : (s : List ℕ) (ranges : List Range) (j : ℕ) (d : Range) → j < length ranges → get_or (range_words s ranges) j [] ≡ cut s (get_or ranges j d)
 unfolding range_words
-range_word_at s starts ends zero j h = absurd (omega arith)
-range_word_at s starts ends (suc n) j h =
-    let ws = range_words s starts ends n in
-    let w = cut s (range (get_or starts n 0) (get_or ends n 0)) in
-    ⊎_elim
-    (λ e. rw e (get_or_at ws w [] [] n (length_words s starts ends n)))
-    (λ l. get_or-append ws (w ∷ []) [] j (omega (arith, length_words s starts ends n)) ∙ range_word_at s starts ends n j l)
-    (eq-or-lt_of_le (le_of_suc-le-suc h))
+range_word_at s (r ∷ ranges) zero d h = refl
+range_word_at s (r ∷ ranges) (suc j) d h = range_word_at s ranges j d (omega arith)
+range_word_at s [] j d h = absurd (omega arith)
 
 -- a range stored behind those that are counted
-words_before : (s starts ends : List ℕ) (m a b n : ℕ) → n ≤ m → range_words s (set starts m a) (set ends m b) n ≡ range_words s starts ends n
+words_before : (s : List ℕ) (ranges : List Range) (m : ℕ) (w : Range) (n : ℕ) → n ≤ m → range_words s (take n (set ranges m w)) ≡ range_words s (take n ranges)
+words_before s ranges m w n h = ap (range_words s) (take-set-le n ranges m w h)
+
+words_more : (s : List ℕ) (ranges : List Range) (n : ℕ) (w : Range) → n < length ranges → range_words s (take (n + 1) (set ranges n w)) ≡ range_words s (take n ranges) ++ (cut s w ∷ [])
 unfolding range_words
-words_before s starts ends m a b zero h = refl
-words_before s starts ends m a b (suc n) h =
-    rw (words_before s starts ends m a b n (omega arith), get_or-set_other starts m n a 0 (λ q. omega arith), get_or-set_other ends m n b 0 (λ q. omega arith)) refl
+words_more s ranges n w h = rw (add-one n, take-suc-set ranges n w h) (map-append (cut s) (take n ranges) (w ∷ []))
 
-words_more : (s starts ends : List ℕ) (n a b : ℕ) → n < length starts → n < length ends → range_words s (set starts n a) (set ends n b) (n + 1) ≡ range_words s starts ends n ++ (cut s (range a b) ∷ [])
-unfolding range_words
-words_more s starts ends n a b h k = rw (add-one n, words_before s starts ends n a b n (omega arith), get_or-set_same starts n a 0 h, get_or-set_same ends n b 0 k) refl
-
-pub inside_none : (s starts ends : List ℕ) → RangesInside s starts ends 0
+pub inside_none : (s : List ℕ) → RangesInside s []
 unfolding RangesInside
-inside_none s starts ends j h = absurd (omega arith)
+inside_none s k d h = absurd (omega arith)
 
-inside_more : (s starts ends : List ℕ) (n a b : ℕ) → n < length starts → n < length ends → RangesInside s starts ends n → Inside (range a b) s
-    → RangesInside s (set starts n a) (set ends n b) (n + 1)
+inside_more : (s : List ℕ) (ranges : List Range) (n : ℕ) (w : Range) → n < length ranges → RangesInside s (take n ranges) → Inside w s → RangesInside s (take (n + 1) (set ranges n w))
 unfolding RangesInside
-inside_more s starts ends n a b h k all i =
-    below_more (λ j. Inside (range (get_or (set starts n a) j 0) (get_or (set ends n b) j 0)) s) n
-    (λ j l. rw (get_or-set_other starts n j a 0 (λ q. omega arith), get_or-set_other ends n j b 0 (λ q. omega arith)) (all j l))
-    (rw (get_or-set_same starts n a 0 h, get_or-set_same ends n b 0 k) i)
+inside_more s ranges n w h all i = rw (add-one n, take-suc-set ranges n w h) (All-append (λ r. Inside r s) (take n ranges) (w ∷ []) all (λ k d l. let z : k ≡ 0 = omega arith in rw z i))
 
 -- One item. A variable that was met before, a new one, a 65th, the end of a clause, anything else.
-module _ {s : List ℕ} {code : ℕ} {w : Range} {starts ends : List ℕ} {n : ℕ} (inside : RangesInside s starts ends n) where
-  pub numbered_known : (x : ℕ) → variable_code code ≡ true → x ≡ number_in (range_words s starts ends n) (cut s w) → x < n
-      → NumberedItem s code w starts ends n starts ends (record { number = x; met = n })
+front_words : (s : List ℕ) (ranges : List Range) (n : ℕ) → n ≤ length ranges → length (range_words s (take n ranges)) ≡ n
+front_words s ranges n h = length_words s (take n ranges) ∙ omega (arith, length-take n ranges)
+
+module _ {s : List ℕ} {o : Role} {w : Range} {ranges : List Range} {n : ℕ} (within : n ≤ length ranges) (inside : RangesInside s (take n ranges)) where
+  pub numbered_known : (x : ℕ) → variable_role o ≡ true → x ≡ number_in (range_words s (take n ranges)) (cut s w) → x < n → NumberedItem s o w ranges n ranges (record { number = x; met = n })
   numbered_known x v e h =
-      let vs = range_words s starts ends n in
-      let known = met_known vs (cut s w) (omega (arith, length_words s starts ends n)) in
+      let before = range_words s (take n ranges) in
+      let long = front_words s ranges n within in
+      let known = met_known before (cut s w) (omega (arith, long)) in
       record {
         number = rw v e;
-        count = rw (v, known) (sym (length_words s starts ends n));
+        count = rw (v, known) (sym long);
         words = λ l. rw (v, known) refl;
         inside = λ l. inside;
-        starts_kept = refl;
-        ends_kept = refl;
+        kept = refl;
       }
 
-  pub numbered_new : (x : ℕ) → variable_code code ≡ true → x ≡ number_in (range_words s starts ends n) (cut s w) → n ≤ x → n < length starts → n < length ends → Inside w s
-      → NumberedItem s code w starts ends n (set starts n w.from) (set ends n w.to) (record { number = n; met = n + 1 })
-  numbered_new x v e h f t i =
-      let vs = range_words s starts ends n in
-      let long = length_words s starts ends n in
-      let new = new_one code vs (cut s w) x v e (omega arith) in
+  pub numbered_new : (x : ℕ) → variable_role o ≡ true → x ≡ number_in (range_words s (take n ranges)) (cut s w) → n ≤ x → n < length ranges → Inside w s
+      → NumberedItem s o w ranges n (set ranges n w) (record { number = n; met = n + 1 })
+  numbered_new x v e h f i =
+      let before = range_words s (take n ranges) in
+      let long = front_words s ranges n within in
+      let new = new_one o before (cut s w) x v e (omega (arith, long)) in
       record {
         number = sym long ∙ new.0;
-        count = sym (ap length new.1 ∙ length-append vs (cut s w ∷ []) ∙ omega arith);
-        words = λ l. words_more s starts ends n w.from w.to f t ∙ sym new.1;
-        inside = λ l. inside_more s starts ends n w.from w.to f t inside i;
-        starts_kept = length-set starts n w.from;
-        ends_kept = length-set ends n w.to;
+        count = sym (ap length new.1 ∙ length-append before (cut s w ∷ []) ∙ omega (arith, long));
+        words = λ l. words_more s ranges n w f ∙ sym new.1;
+        inside = λ l. inside_more s ranges n w f inside i;
+        kept = length-set ranges n w;
       }
 
-  pub numbered_over : (x : ℕ) → variable_code code ≡ true → x ≡ number_in (range_words s starts ends n) (cut s w) → n ≤ x → 64 ≤ n
-      → NumberedItem s code w starts ends n starts ends (record { number = n; met = n + 1 })
+  pub numbered_over : (x : ℕ) → variable_role o ≡ true → x ≡ number_in (range_words s (take n ranges)) (cut s w) → n ≤ x → 64 ≤ n → NumberedItem s o w ranges n ranges (record { number = n; met = n + 1 })
   numbered_over x v e h f =
-      let vs = range_words s starts ends n in
-      let long = length_words s starts ends n in
-      let new = new_one code vs (cut s w) x v e (omega arith) in
+      let before = range_words s (take n ranges) in
+      let long = front_words s ranges n within in
+      let new = new_one o before (cut s w) x v e (omega (arith, long)) in
       record {
         number = sym long ∙ new.0;
-        count = sym (ap length new.1 ∙ length-append vs (cut s w ∷ []) ∙ omega arith);
+        count = sym (ap length new.1 ∙ length-append before (cut s w ∷ []) ∙ omega (arith, long));
         words = λ l. absurd (omega arith);
         inside = λ l. absurd (omega arith);
-        starts_kept = refl;
-        ends_kept = refl;
+        kept = refl;
       }
 
-  pub numbered_end : variable_code code ≡ false → end_code code ≡ true → NumberedItem s code w starts ends n starts ends (record { number = n; met = 0 })
+  pub numbered_end : variable_role o ≡ false → end_role o ≡ true → NumberedItem s o w ranges n ranges (record { number = n; met = 0 })
   unfolding range_words
   numbered_end v e = record {
-    number = rw (v, e) (sym (length_words s starts ends n));
+    number = rw (v, e) (sym (front_words s ranges n within));
     count = rw (v, e) refl;
     words = λ l. rw (v, e) refl;
-    inside = λ l. inside_none s starts ends;
-    starts_kept = refl;
-    ends_kept = refl;
+    inside = λ l. inside_none s;
+    kept = refl;
   }
 
-  pub numbered_other : variable_code code ≡ false → end_code code ≡ false → NumberedItem s code w starts ends n starts ends (record { number = 0; met = n })
+  pub numbered_other : variable_role o ≡ false → end_role o ≡ false → NumberedItem s o w ranges n ranges (record { number = 0; met = n })
   numbered_other v e = record {
     number = rw (v, e) refl;
-    count = rw (v, e) (sym (length_words s starts ends n));
+    count = rw (v, e) (sym (front_words s ranges n within));
     words = λ l. rw (v, e) refl;
     inside = λ l. inside;
-    starts_kept = refl;
-    ends_kept = refl;
+    kept = refl;
   }
 
 -- The most met: never below where it starts, and from 64 at most on only what comes behind counts.
@@ -206,42 +192,49 @@ words_split [] e = let z : ◌≡◌ {A = ℕ} 0 1 = cc in absurd (omega arith)
 words_split (t ∷ ts) e = (cc, cc)
 
 -- the items of a text that is sorted
-pub sorted_tabled : {s : List ℕ} {start : State} {before roles : List ℕ} {count : ℕ} → Sorted s start before roles count → Tabled s roles count (text_items start s)
+pub sorted_tabled : {s : List ℕ} {start : State} {before roles : List Role} {count : ℕ} → Sorted s start before roles count → Tabled s roles count (text_items start s)
 sorted_tabled {s} {start} g = record { counted = g.counted; coded = g.table; worded = items_words start (tokens_of s) }
 
 -- The table. Before the first item, one item more, a 65th variable, and behind the last.
-module _ {s roles : List ℕ} {count : ℕ} {is : List Item} (tabled : Tabled s roles count is) where
-  pub numbering_start : (variables starts ends : List ℕ) → Numbering s is variables 0 0 (range_words s starts ends 0)
-  unfolding tokens_of tokens_from range_words
-  numbering_start variables starts ends = record { words = tabled.worded; left = refl; most = refl; table = agrees_none variables (variable_numbers [] is) }
+-- the entries that are filled are a table of their own
+pub tabled_front : {s : List ℕ} {roles : List Role} {count : ℕ} {is : List Item} → count ≤ length roles → Tabled s roles count is → Tabled s (take count roles) (length (take count roles)) is
+unfolding AgreesBy
+tabled_front {roles = roles} {count} h t =
+    let e : length (take count roles) ≡ count = length-take-le count roles h in
+    record { counted = e ∙ t.counted; coded = λ j i. let k : j < count = omega (arith, e) in get_or-take count roles j Variable k ∙ t.coded j k; worded = t.worded }
 
-  module _ {variables starts ends starts_after ends_after : List ℕ} {at k n : ℕ} {t : Lexeme} {r : Numbered}
-      (g : Numbering s is variables at k (range_words s starts ends n)) (next : NextToken s at t) (more : k < count)
-      (numbered : NumberedItem s (get_or roles k 0) (range t.from t.to) starts ends n starts_after ends_after r) where
+module _ {s : List ℕ} {roles : List Role} {count : ℕ} {is : List Item} (tabled : Tabled s roles count is) where
+  pub numbering_start : (variables : List ℕ) (ranges : List Range) → Numbering s is variables 0 0 (range_words s (take 0 ranges))
+  unfolding tokens_of tokens_from range_words
+  numbering_start variables ranges = record { words = tabled.worded; left = refl; most = refl; table = agrees_none _ variables (variable_numbers [] is) }
+
+  module _ {variables : List ℕ} {ranges after : List Range} {at k n : ℕ} {t : Lexeme} {r : Numbered}
+      (g : Numbering s is variables at k (range_words s (take n ranges))) (next : NextToken s at t) (more : k < count)
+      (numbered : NumberedItem s (get_or roles k Variable) t.word ranges n after r) where
     abbrev vs : List (List ℕ)
-    vs = range_words s starts ends n
+    vs = range_words s (take n ranges)
 
     -- the item at k, told by its role and word
     by_this : (A : Type 0) → ((o : Role) (w : List ℕ) → drop k is ≡ item o w ∷ drop (suc k) is → r.number ≡ variable_number vs (item o w)
-        → code_met (get_or roles k 0) vs (cut s (range t.from t.to)) ≡ met_behind vs (item o w) → item_words (drop (suc k) is) ≡ token_words (tokens_from s t.next) → A) → A
-    unfolding Agrees role_codes
+        → role_met (get_or roles k Variable) vs (cut s t.word) ≡ met_behind vs (item o w) → item_words (drop (suc k) is) ≡ token_words (tokens_from s t.next) → A) → A
+    unfolding AgreesBy roles_of
     by_this A f = go (get_or is k (item Variable [])) (drop-cons is k (item Variable []) (omega (arith, tabled.counted)))
       where
         go : (i : Item) → drop k is ≡ i ∷ drop (suc k) is → A
         go (item o w) e =
-            let code = tabled.coded k more ∙ drop_head (role_codes is) k (role_code o) (role_codes (drop (suc k) is)) 0 (drop_codes is k ∙ ap role_codes e) in
+            let role = tabled.coded k more ∙ drop_head (roles_of is) k o (roles_of (drop (suc k) is)) Variable (drop_roles is k ∙ ap roles_of e) in
             let both = words_split (tokens_from s at) (sym (ap item_words e) ∙ g.words) in
             let word = next.word_is ∙ sym both.0 in
-            f o w e (numbered.number ∙ rw (code, word) (sym (by_code o (number_in vs w) (length vs) 0))) (rw (code, word) (sym (by_code o (met vs w) [] vs))) (both.1 ∙ sym (ap token_words next.rest_is))
+            f o w e (numbered.number ∙ rw (role, word) (sym (by_role o (number_in vs w) (length vs) 0))) (rw (role, word) (sym (by_role o (met vs w) [] vs))) (both.1 ∙ sym (ap token_words next.rest_is))
 
-    pub numbering_more : k < length variables → r.met ≤ 64 → Numbering s is (set variables k r.number) t.next (k + 1) (range_words s starts_after ends_after r.met)
+    pub numbering_more : k < length variables → r.met ≤ 64 → Numbering s is (set variables k r.number) t.next (k + 1) (range_words s (take r.met after))
     unfolding variable_numbers most_met
-    numbering_more h few = by_this (Numbering s is (set variables k r.number) t.next (k + 1) (range_words s starts_after ends_after r.met)) (λ o w e x m b. record {
+    numbering_more h few = by_this (Numbering s is (set variables k r.number) t.next (k + 1) (range_words s (take r.met after))) (λ o w e x m b. record {
       words = rw (add-one k) b;
       left = drop_rest (variable_numbers [] is) k (variable_number vs (item o w)) (variable_numbers (met_behind vs (item o w)) (drop (suc k) is)) (g.left ∙ ap (variable_numbers vs) e)
           ∙ rw (numbered.words few, m, add-one k) refl;
       most = g.most ∙ ap (λ (l : List Item). leb (most_met 0 vs l) 64) e ∙ most_from _ (met_behind vs (item o w)) (drop (suc k) is) (omega (arith, numbered.count, ap length m)) ∙ rw (numbered.words few, m, add-one k) refl;
-      table = agrees_more variables (variable_numbers [] is) k r.number h g.table
+      table = agrees_more _ variables (variable_numbers [] is) k r.number h g.table
           (x ∙ sym (drop_head (variable_numbers [] is) k (variable_number vs (item o w)) (variable_numbers (met_behind vs (item o w)) (drop (suc k) is)) 0 (g.left ∙ ap (variable_numbers vs) e)));
     })
 

@@ -3,7 +3,8 @@ use Rattle.std.specs.Prelude.{◌≡◌, List, [], ◌∷◌, ℕ, ◌<◌, max,
 use Rattle.text.specs.Grammar.{Token}
 use Rattle.text.specs.Tokens.Places.{token_word}
 use Rattle.reader.specs.Items.Items.{Item, item}
-use Rattle.reader.specs.Items.Roles.{role_code}
+use Rattle.reader.specs.declared.roles.Role.{Role}
+use Rattle.reader.specs.declared.roles.Role.TheVariants.{Variable}
 use Rattle.reader.specs.Emit.Cells.{by_sort, role, name_number, variable_number, met_behind}
 
 -- the words of items, and those of tokens
@@ -21,9 +22,9 @@ names_of_items [] = []
 names_of_items (item r w ∷ is) = by_sort r (w ∷ names_of_items is) (names_of_items is) (names_of_items is) (names_of_items is)
 
 -- what the three tables hold
-unfoldable pub role_codes : List Item → List ℕ
-role_codes [] = []
-role_codes (i ∷ is) = role_code (role i) ∷ role_codes is
+unfoldable pub roles_of : List Item → List Role
+roles_of [] = []
+roles_of (i ∷ is) = role i ∷ roles_of is
 
 unfoldable pub name_numbers : List (List ℕ) → List Item → List ℕ
 name_numbers ns [] = []
@@ -39,5 +40,12 @@ most_met most vs [] = most
 most_met most vs (i ∷ is) = most_met (max most (length (met_behind vs i))) (met_behind vs i) is
 
 -- the first n entries of a table are those of a list
-unfoldable pub Agrees : (table l : List ℕ) → ℕ → Type 0
-Agrees table l n = (j : ℕ) → j < n → get_or table j 0 ≡ get_or l j 0
+unfoldable pub AgreesBy : {A : Type 0} → A → (table l : List A) → ℕ → Type 0
+AgreesBy d table l n = (j : ℕ) → j < n → get_or table j d ≡ get_or l j d
+
+abbrev pub Agrees : (table l : List ℕ) → ℕ → Type 0
+Agrees table l n = AgreesBy 0 table l n
+
+-- the first n entries of a table are the roles of items
+abbrev pub RolesAre : List Role → List Item → ℕ → Type 0
+RolesAre roles is n = AgreesBy Variable roles (roles_of is) n

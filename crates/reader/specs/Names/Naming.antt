@@ -1,7 +1,7 @@
 -- The names of a text: what the pass leaves that numbers them, and how far it has come at an item. The names so far stand in the trie, with their numbers, and in a
 -- list of bytes; what is said of them holds of every list of names that these hold, and of every list of items that the tables have.
 -- Choice: what code needs to be safe (places, counts, lengths) is said apart, and holds whatever the tables hold.
-use Rattle.std.specs.Prelude.{◌≡◌, Bool, true, false, cond, ◌||◌, List, [], ◌∷◌, ◌++◌, ℕ, ◌+◌, ◌-◌, ◌*◌, ◌≤◌, eqb, length, take, drop}
+use Rattle.std.specs.Prelude.{◌≡◌, Bool, true, false, cond, List, [], ◌∷◌, ◌++◌, ℕ, ◌+◌, ◌-◌, ◌*◌, ◌≤◌, length, take, drop}
 use Rattle.records.specs.Ends.Range.{cut}
 use Rattle.records.specs.Format.Encode.{word}
 use Rattle.records.specs.Gate.RecordRules.{every}
@@ -14,11 +14,8 @@ use Rattle.reader.specs.Items.Words.{item_words, token_words, names_of_items, na
 use Rattle.reader.specs.Names.Holds.{Holds}
 use Rattle.reader.specs.Names.Trie.{Tables, Filled}
 use Rattle.reader.specs.declared.names.Entry.{Entry}
-use Rattle.reader.specs.declared.names.Naming.{Naming}
-
--- the numbers of the roles that take a name
-abbrev pub name_code : ℕ → Bool
-name_code n = eqb n 1 || eqb n 2 || eqb n 4 || eqb n 5 || eqb n 8 || eqb n 9
+use Rattle.reader.specs.declared.roles.Role.{Role}
+use Rattle.reader.specs.declared.trie.Trie.{Trie}
 
 -- a name in the list: its two-byte length, and its bytes
 abbrev pub name_bytes : List ℕ → List ℕ
@@ -32,6 +29,23 @@ some_bytes (b ∷ w) = true
 abbrev pub NamesSome : List Item → Type 0
 NamesSome is = every some_bytes (names_of_items is) ≡ true
 
+-- the nodes of the trie, the names in it, and the bytes of their list
+pub record Naming : Type 0 where
+  pub nodes : ℕ
+  pub names : ℕ
+  pub listed : ℕ
+
+abbrev pub naming : Trie → ℕ → Naming
+naming t listed = record { nodes = t.used; names = t.names; listed = listed }
+
+-- the number of an item's name, and the names behind it
+pub record Entered : Type 0 where
+  pub number : ℕ
+  pub naming : Naming
+
+abbrev pub entry_of : Trie → Entry → Entered
+entry_of t e = record { number = e.number; naming = naming t e.listed }
+
 -- the trie and the list hold these names
 pub record NamesIn (T : Tables) (number list : List ℕ) (now : Naming) (names : List (List ℕ)) : Type 0 where
   pub holds : Holds T number now.nodes now.names names
@@ -39,11 +53,11 @@ pub record NamesIn (T : Tables) (number list : List ℕ) (now : Naming) (names :
   pub bytes : take now.listed list ≡ name_list names
 
 -- One word entered where `due` says so: its number, and the names with it.
-pub record EntryIs (due : Bool) (w : List ℕ) (T : Tables) (number list : List ℕ) (r : Entry) (names : List (List ℕ)) : Type 0 where
+pub record EntryIs (due : Bool) (w : List ℕ) (T : Tables) (number list : List ℕ) (r : Entered) (names : List (List ℕ)) : Type 0 where
   pub number_is : r.number ≡ cond due (place w names) 0
   pub held : NamesIn T number list r.naming (cond due (with_name names w) names)
 
-pub record NameEntered (due : Bool) (s : List ℕ) (w : Range) (T₀ : Tables) (number₀ list₀ : List ℕ) (before : Naming) (T : Tables) (number list : List ℕ) (r : Entry) : Type 0 where
+pub record NameEntered (due : Bool) (s : List ℕ) (w : Range) (T₀ : Tables) (number₀ list₀ : List ℕ) (before : Naming) (T : Tables) (number list : List ℕ) (r : Entered) : Type 0 where
   pub filled : Filled T r.naming.nodes
   pub long : length number ≡ 65536
   pub kept : length list ≡ length list₀
@@ -57,7 +71,7 @@ pub record NamesAre (is : List Item) (N : List (List ℕ)) (count : ℕ) (number
   pub numbers_are : Agrees numbers (name_numbers (with_names N (names_of_items is)) is) count
   pub held : NamesIn T number list r (with_names N (names_of_items is))
 
-pub record NamedItems (s roles : List ℕ) (count : ℕ) (numbers₀ : List ℕ) (T₀ : Tables) (number₀ list₀ : List ℕ) (before : Naming) (numbers : List ℕ) (T : Tables) (number list : List ℕ) (r : Naming)
+pub record NamedItems (s : List ℕ) (roles : List Role) (count : ℕ) (numbers₀ : List ℕ) (T₀ : Tables) (number₀ list₀ : List ℕ) (before : Naming) (numbers : List ℕ) (T : Tables) (number list : List ℕ) (r : Naming)
     : Type 0 where
   pub named : (is : List Item) (N : List (List ℕ)) → Tabled s roles count is → NamesSome is → NamesIn T₀ number₀ list₀ before N → NamesAre is N count numbers T number list r
   pub filled : Filled T r.nodes
@@ -77,7 +91,7 @@ pub record NamesAt (s : List ℕ) (is : List Item) (N : List (List ℕ)) (number
   pub some : NamesSome (drop k is)
   pub table : Agrees numbers (name_numbers (with_names N (names_of_items is)) is) k
 
-pub record NamingAt (s roles : List ℕ) (count : ℕ) (numbers₀ : List ℕ) (T₀ : Tables) (number₀ list₀ : List ℕ) (before : Naming) (numbers : List ℕ) (T : Tables) (number list : List ℕ) (at k : ℕ) (now : Naming)
+pub record NamingAt (s : List ℕ) (roles : List Role) (count : ℕ) (numbers₀ : List ℕ) (T₀ : Tables) (number₀ list₀ : List ℕ) (before : Naming) (numbers : List ℕ) (T : Tables) (number list : List ℕ) (at k : ℕ) (now : Naming)
     : Type 0 where
   pub named : (is : List Item) (N : List (List ℕ)) → Tabled s roles count is → NamesSome is → NamesIn T₀ number₀ list₀ before N → NamesAt s is N numbers T number list at k now
   pub within : at ≤ length s

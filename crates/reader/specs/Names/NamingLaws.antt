@@ -1,5 +1,5 @@
 -- Laws of the pass that names the items of a text: one word entered, and from item to item.
-use Rattle.std.specs.Prelude.{◌≡◌, Bool, not, ℕ, zero, suc, ◌+◌, ◌-◌, ◌≤◌, ◌<◌, eqb, take, drop, set}
+use Rattle.std.specs.Prelude.{◌≡◌, Bool, not, ℕ, zero, suc, ◌+◌, ◌-◌, ◌≤◌, ◌<◌, eqb, take, drop, set, replicate}
 use Rattle.std.proofs.Math.Path.{refl, sym, ap}
 use Rattle.std.proofs.Common.{◌∙◌, arith, eqb-true, length-append, length-take, length-drop, length-set, drop_of_length-le, take_at}
 use Rattle.std.proofs.Math.Bool.{true, false, cond}
@@ -26,17 +26,17 @@ use Rattle.reader.specs.Form.Meaning.{place, with_name, with_names, name_list}
 use Rattle.reader.specs.Emit.Cells.{by_sort}
 use Rattle.reader.specs.Items.Items.{Item, item, Position, position, mark_role, stop_role, role_of, equals_next, items}
 use Rattle.reader.specs.Items.Items.Position.{clause_starts, head_ends, goal_starts, argument_ends, elsewhere}
-use Rattle.reader.specs.Items.Roles.{role_code}
-use Rattle.reader.specs.Items.TableLaws.{agrees_none, agrees_more, drop_none, drop_head, drop_rest, drop_codes}
+use Rattle.reader.specs.Items.Roles.{name_role}
+use Rattle.reader.specs.Items.TableLaws.{agrees_none, agrees_more, drop_none, drop_head, drop_rest, drop_roles}
 use Rattle.reader.specs.Items.Tabled.{Tabled}
-use Rattle.reader.specs.Items.Words.{item_words, token_words, names_of_items, name_numbers, role_codes, Agrees}
+use Rattle.reader.specs.Items.Words.{item_words, token_words, names_of_items, name_numbers, roles_of, AgreesBy}
 use Rattle.reader.specs.Names.Holds.{NameGiven, Zeros}
 use Rattle.reader.specs.Names.HoldsLaws.{holds_start}
-use Rattle.reader.specs.Names.Naming.{name_code, name_bytes, some_bytes, NamesSome, NamesIn, EntryIs, NameEntered, NamedItems, NamesAt, NamingAt}
+use Rattle.reader.specs.Names.Naming.{name_bytes, some_bytes, Naming, Entered, NamesSome, NamesIn, EntryIs, NameEntered, NamedItems, NamesAt, NamingAt}
 use Rattle.reader.specs.Names.PlaceLaws.{with_same, with_more, place_kept, name_list_more}
-use Rattle.reader.specs.Names.Trie.{Tables, tables, Filled}
-use Rattle.reader.specs.declared.names.Entry.{Entry}
-use Rattle.reader.specs.declared.names.Naming.{Naming}
+use Rattle.reader.specs.Names.NodeLaws.{empty_node, zeros_of}
+use Rattle.reader.specs.Names.Trie.{Tables, tables, links, marks, Filled}
+use Rattle.reader.specs.declared.trie.TrieNode.{TrieNode}
 use Rattle.reader.specs.declared.roles.Role.{Role}
 use Rattle.reader.specs.declared.roles.Role.TheVariants.{Variable, Constant, Functor, GoalVariable, GoalConstant, GoalFunctor, Truth, Failure, Head, HeadFunctor, Shut, Next, And, Or, Equal, Open, Close, Neck, Fact, Rule}
 
@@ -106,8 +106,8 @@ entered_none f l = record {
   entry = λ some N h. record { number_is = refl; held = h };
 }
 
--- roles that take a name are told by their number
-by_name : {A : Type 0} (r : Role) (n o : A) → by_sort r n o o o ≡ cond (name_code (role_code r)) n o
+-- roles that take a name are told by their sort
+by_name : {A : Type 0} (r : Role) (n o : A) → by_sort r n o o o ≡ cond (name_role r) n o
 by_name Variable n o = refl
 by_name Constant n o = refl
 by_name Functor n o = refl
@@ -132,16 +132,16 @@ by_name Rule n o = refl
 -- the names of a text's items have some bytes: a mark takes none, and the empty word is none
 module _ (is : List Item) (h : NamesSome is) where
   some_word : (r : Role) (b : ℕ) (w : List ℕ) → NamesSome (item r (b ∷ w) ∷ is)
-  some_word r b w = rw (by_name r ((b ∷ w) ∷ names_of_items is) (names_of_items is)) (go (name_code (role_code r)))
+  some_word r b w = rw (by_name r ((b ∷ w) ∷ names_of_items is) (names_of_items is)) (go (name_role r))
     where
       go : (t : Bool) → every some_bytes (cond t ((b ∷ w) ∷ names_of_items is) (names_of_items is)) ≡ true
       go true = h
       go false = h
 
-  no_word : (r : Role) → name_code (role_code r) ≡ false → (w : List ℕ) → NamesSome (item r w ∷ is)
+  no_word : (r : Role) → name_role r ≡ false → (w : List ℕ) → NamesSome (item r w ∷ is)
   no_word r e w = rw (by_name r (w ∷ names_of_items is) (names_of_items is), e) h
 
-  mark_none : (z : Position) (a b : Role) → name_code (role_code a) ≡ false → name_code (role_code b) ≡ false → NamesSome (item (mark_role z a b) [] ∷ is)
+  mark_none : (z : Position) (a b : Role) → name_role a ≡ false → name_role b ≡ false → NamesSome (item (mark_role z a b) [] ∷ is)
   mark_none argument_ends a b x y = no_word a x []
   mark_none clause_starts a b x y = no_word b y []
   mark_none goal_starts a b x y = no_word b y []
@@ -193,41 +193,41 @@ drop_numbers ns is zero = refl
 drop_numbers ns [] (suc n) = refl
 drop_numbers ns (i ∷ is) (suc n) = drop_numbers ns is n
 
-module _ {s roles : List ℕ} {count : ℕ} {is : List Item} {N : List (List ℕ)} {numbers : List ℕ} {T : Tables} {number list : List ℕ} {at k : ℕ} {now : Naming} {t : Lexeme}
-    {T' : Tables} {number' list' : List ℕ} {e : Entry} (d : Tabled s roles count is) (g : NamesAt s is N numbers T number list at k now) (n : NextToken s at t) (h : k < count) (room : k < length numbers)
-    (x : NameEntered (name_code (get_or roles k 0)) s (record { from = t.from; to = t.to }) T number list now T' number' list' e) where
+module _ {s : List ℕ} {roles : List Role} {count : ℕ} {is : List Item} {N : List (List ℕ)} {numbers : List ℕ} {T : Tables} {number list : List ℕ} {at k : ℕ} {now : Naming} {t : Lexeme}
+    {T' : Tables} {number' list' : List ℕ} {e : Entered} (d : Tabled s roles count is) (g : NamesAt s is N numbers T number list at k now) (n : NextToken s at t) (h : k < count) (room : k < length numbers)
+    (x : NameEntered (name_role (get_or roles k Variable)) s t.word T number list now T' number' list' e) where
   abbrev all : List (List ℕ)
   all = with_names N (names_of_items is)
 
   -- at the item and at the token
-  at_item : (r : Role) (w : List ℕ) (l : List Item) → drop k is ≡ item r w ∷ l → cut s (record { from = t.from; to = t.to }) ≡ w → item_words l ≡ token_words (tokens_from s t.next)
+  at_item : (r : Role) (w : List ℕ) (l : List Item) → drop k is ≡ item r w ∷ l → cut s t.word ≡ w → item_words l ≡ token_words (tokens_from s t.next)
       → with_names g.names (names_of_items (item r w ∷ l)) ≡ all → NamesSome (item r w ∷ l) → NamesAt s is N (set numbers k e.number) T' number' list' t.next (k + 1) e.naming
-  unfolding role_codes name_numbers Agrees
+  unfolding roles_of name_numbers AgreesBy
   at_item r w l f c v m o =
       let ws = names_of_items l in
-      let code : get_or roles k 0 ≡ role_code r = d.coded k h ∙ drop_head (role_codes is) k _ _ 0 (drop_codes is k ∙ ap role_codes f) in
-      let b = name_code (role_code r) in
+      let role : get_or roles k Variable ≡ r = d.coded k h ∙ drop_head (roles_of is) k _ _ Variable (drop_roles is k ∙ ap roles_of f) in
+      let b = name_role r in
       let m' : with_names g.names (cond b (w ∷ ws) ws) ≡ all = rw (by_name r (w ∷ ws) ws) at m in
       let o' = some_next b ws w (rw (by_name r (w ∷ ws) ws) at o) in
-      let i : EntryIs b w T' number' list' e g.names = entry_at b w (ap name_code code) c o'.1 in
+      let i : EntryIs b w T' number' list' e g.names = entry_at b w (ap name_role role) c o'.1 in
       record {
         names = cond b (with_name g.names w) g.names;
         held = i.held;
         words = ap item_words (drop_rest is k _ _ f) ∙ v;
         rest = ap (λ (y : List Item). with_names (cond b (with_name g.names w) g.names) (names_of_items y)) (drop_rest is k _ _ f) ∙ with_next b g.names ws w ∙ m';
         some = ap (λ (y : List Item). every some_bytes (names_of_items y)) (drop_rest is k _ _ f) ∙ o'.0;
-        table = agrees_more numbers (name_numbers all is) k e.number room g.table
+        table = agrees_more _ numbers (name_numbers all is) k e.number room g.table
             (i.number_is ∙ number_next b g.names ws all w m' ∙ sym (by_name r (place w all) 0)
             ∙ sym (drop_head (name_numbers all is) k _ _ 0 (drop_numbers all is k ∙ ap (name_numbers all) f)));
       }
     where
-      entry_at : (b : Bool) (w : List ℕ) → name_code (get_or roles k 0) ≡ b → cut s (record { from = t.from; to = t.to }) ≡ w → (b ≡ true → w ≡ [] → ⊥) → EntryIs b w T' number' list' e g.names
+      entry_at : (b : Bool) (w : List ℕ) → name_role (get_or roles k Variable) ≡ b → cut s t.word ≡ w → (b ≡ true → w ≡ [] → ⊥) → EntryIs b w T' number' list' e g.names
       entry_at b w p q z = rw (p, q) at (x.entry (λ y u. z (sym p ∙ y) (sym q ∙ u)) g.names g.held)
 
   pub names_next : NamesAt s is N (set numbers k e.number) T' number' list' t.next (k + 1) e.naming
   names_next = go (drop k is) refl g.words g.rest g.some
     where
-      token : (ts : List Token) (r : Role) (w : List ℕ) (l : List Item) → drop k is ≡ item r w ∷ l → w ∷ item_words l ≡ token_words ts → cut s (record { from = t.from; to = t.to }) ≡ first_word ts
+      token : (ts : List Token) (r : Role) (w : List ℕ) (l : List Item) → drop k is ≡ item r w ∷ l → w ∷ item_words l ≡ token_words ts → cut s t.word ≡ first_word ts
           → tokens_from s t.next ≡ rest_tokens ts → with_names g.names (names_of_items (item r w ∷ l)) ≡ all → NamesSome (item r w ∷ l)
           → NamesAt s is N (set numbers k e.number) T' number' list' t.next (k + 1) e.naming
       token [] r w l f v c q m o = never cc
@@ -244,7 +244,11 @@ pub names_none : {child sibling letter number : List ℕ} → Zeros child → Ze
 unfolding name_list
 names_none c s l n list = record { holds = holds_start c s l n; long = refl; bytes = refl }
 
-module _ {s roles : List ℕ} {count : ℕ} where
+pub nodes_none : (n : ℕ) → n ≡ 65536 → (list : List ℕ) → NamesIn (links (replicate n empty_node)) (marks (replicate n empty_node)) list (record { nodes = 1; names = 0; listed = 0 }) []
+nodes_none n e list =
+    names_none (zeros_of (λ (x : TrieNode). x.child) refl n e) (zeros_of (λ (x : TrieNode). x.sibling) refl n e) (zeros_of (λ (x : TrieNode). x.letter) refl n e) (zeros_of (λ (x : TrieNode). x.number) refl n e) list
+
+module _ {s : List ℕ} {roles : List Role} {count : ℕ} where
   -- before the first item
   pub naming_start : {numbers : List ℕ} {T : Tables} {number list : List ℕ} {before : Naming} → Filled T before.nodes → length number ≡ 65536
       → NamingAt s roles count numbers T number list before numbers T number list 0 0 before
@@ -256,7 +260,7 @@ module _ {s roles : List ℕ} {count : ℕ} where
       words = d.worded;
       rest = refl;
       some = o;
-      table = agrees_none numbers (name_numbers (with_names N (names_of_items is)) is);
+      table = agrees_none _ numbers (name_numbers (with_names N (names_of_items is)) is);
     };
     within = omega arith;
     reached = omega arith;
@@ -271,8 +275,8 @@ module _ {s roles : List ℕ} {count : ℕ} where
 
   -- one item further
   pub naming_next : {numbers₀ : List ℕ} {T₀ : Tables} {number₀ list₀ : List ℕ} {before : Naming} {numbers : List ℕ} {T : Tables} {number list : List ℕ} {at k : ℕ} {now : Naming} {t : Lexeme}
-      {T' : Tables} {number' list' : List ℕ} {e : Entry} → NamingAt s roles count numbers₀ T₀ number₀ list₀ before numbers T number list at k now → NextToken s at t → k < count → count ≤ length numbers₀
-      → NameEntered (name_code (get_or roles k 0)) s (record { from = t.from; to = t.to }) T number list now T' number' list' e
+      {T' : Tables} {number' list' : List ℕ} {e : Entered} → NamingAt s roles count numbers₀ T₀ number₀ list₀ before numbers T number list at k now → NextToken s at t → k < count → count ≤ length numbers₀
+      → NameEntered (name_role (get_or roles k Variable)) s t.word T number list now T' number' list' e
       → NamingAt s roles count numbers₀ T₀ number₀ list₀ before (set numbers k e.number) T' number' list' t.next (k + 1) e.naming
   naming_next {numbers = numbers} {k = k} {e = e} g n h r x =
       let room : k < length numbers = omega (arith, g.numbers_kept) in

@@ -27,13 +27,13 @@ pub record ChildMade (T₀ : Tables) (nodes₀ p b : ℕ) (T : Tables) (nodes no
   pub few : nodes ≤ nodes₀ + 1
   pub held : (words : List (List ℕ)) → Trie T₀ nodes₀ words → (w : List ℕ) → HasNode w words → p ≡ trie_node w words → NodeHeld words (w ++ (b ∷ [])) T nodes node
 
+-- the bytes of a word that were passed
+abbrev pub passed : List ℕ → ℕ → ℕ → List ℕ
+passed s from i = take (i - from) (drop from s)
+
 -- From the root, by all bytes of a word.
 pub record NodeMade (T₀ : Tables) (nodes₀ : ℕ) (w : List ℕ) (T : Tables) (nodes node : ℕ) : Type 0 where
   pub filled : Filled T nodes
   pub below : node < nodes
   pub few : nodes ≤ nodes₀ + length w
   pub held : (words : List (List ℕ)) → Trie T₀ nodes₀ words → NodeHeld words w T nodes node
-
--- the bytes before i of a word that stands at `from`
-abbrev pub passed : List ℕ → ℕ → ℕ → List ℕ
-passed s from i = take (i - from) (drop from s)

@@ -1,7 +1,8 @@
 -- Laws of new nodes: one more node makes a trie of one more word, and the bytes of a word, one after the other, lead to its node.
-use Rattle.std.specs.Prelude.{◌≡◌, refl, Bool, true, false, List, [], ◌∷◌, ◌++◌, ℕ, suc, ◌+◌, ◌-◌, ◌≤◌, ◌<◌, length, get_or, drop}
-use Rattle.std.proofs.Common.{sym, ap, subst, subst₂, ◌∙◌, inl, inr, arith, length-set, length-append, length-take, length-drop, take-suc, get_or-drop, get_or-set_same, get_or-set_other}
+use Rattle.std.specs.Prelude.{◌≡◌, refl, Bool, true, false, List, [], ◌∷◌, ◌++◌, ℕ, suc, ◌+◌, ◌-◌, ◌≤◌, ◌<◌, length, get_or, take, drop}
+use Rattle.std.proofs.Common.{sym, ap, subst, subst₂, ◌∙◌, inl, inr, arith, length-set, length-append, add-one, take-suc, get_or-set_same, get_or-set_other}
 use Rattle.std.proofs.Math.Decide.{ℕ_discrete}
+use Rattle.std.proofs.lemmas.List.{length-take, length-drop, get_or-drop}
 use Rattle.records.specs.Ends.Same.{same_bytes}
 use Rattle.records.specs.Ends.SameLaws.{same_true, same_length}
 use Rattle.reader.specs.Names.SeekLaws.{differ}
@@ -163,7 +164,7 @@ module _ {T : Tables} {nodes : ℕ} (p b : ℕ) {m : ℕ} (f : Filled T nodes) (
         };
   }
 
--- the bytes of a word that were passed, and the node that they lead to
+-- the bytes of a word that were passed: how many, and one more
 pub length_passed : (s : List ℕ) (from i : ℕ) → i ≤ length s → length (passed s from i) ≡ i - from
 length_passed s from i h = simp (length-take, length-drop) (omega arith)
 
@@ -173,20 +174,19 @@ passed_next s from i h l =
     let b : from + (i - from) ≡ i = omega arith in
     rw (a, take-suc (drop from s) (i - from) 0 (omega (arith, length-drop from s)), get_or-drop from s (i - from) 0, b)
 
-pub node_start : {T : Tables} {nodes : ℕ} (s : List ℕ) (from : ℕ) → Filled T nodes → NodeMade T nodes (passed s from from) T nodes 0
-node_start {T} {nodes} s from f =
-    let z : from - from ≡ 0 = omega arith in
-    rw z (record { filled = f; below = f.some; few = omega arith; held = λ words t. record { after = words; grown = grown_none; trie = t; has = inl refl; at = sym t.root } })
+-- from the root, and one byte further
+pub node_start : {T : Tables} {nodes : ℕ} → Filled T nodes → NodeMade T nodes [] T nodes 0
+node_start f = record { filled = f; below = f.some; few = omega arith; held = λ words t. record { after = words; grown = grown_none; trie = t; has = inl refl; at = sym t.root } }
 
-pub node_next : {T₀ : Tables} {nodes₀ : ℕ} {T : Tables} {nodes p : ℕ} {T₁ : Tables} {nodes₁ p₁ : ℕ} (s : List ℕ) (from i : ℕ) → from ≤ i → i < length s → NodeMade T₀ nodes₀ (passed s from i) T nodes p
-    → ChildMade T nodes p (get_or s i 0) T₁ nodes₁ p₁ → NodeMade T₀ nodes₀ (passed s from (i + 1)) T₁ nodes₁ p₁
-node_next s from i h l w t =
-    rw (passed_next s from i h l) (record {
+pub node_next : {T₀ : Tables} {nodes₀ : ℕ} {T : Tables} {nodes p : ℕ} {T₁ : Tables} {nodes₁ p₁ : ℕ} (s : List ℕ) (i : ℕ) → i < length s → NodeMade T₀ nodes₀ (take i s) T nodes p
+    → ChildMade T nodes p (get_or s i 0) T₁ nodes₁ p₁ → NodeMade T₀ nodes₀ (take (i + 1) s) T₁ nodes₁ p₁
+node_next s i l w t =
+    rw (add-one i, take-suc s i 0 l) (record {
       filled = t.filled;
       below = t.below;
-      few = omega (arith, t.few, w.few, length-append (passed s from i) (get_or s i 0 ∷ []));
+      few = omega (arith, t.few, w.few, length-append (take i s) (get_or s i 0 ∷ []));
       held = λ words u.
           let r = w.held words u in
-          let q = t.held r.after r.trie (passed s from i) r.has r.at in
+          let q = t.held r.after r.trie (take i s) r.has r.at in
           record { after = q.after; grown = grown_then r.grown q.grown; trie = q.trie; has = q.has; at = q.at };
     })

@@ -1,7 +1,8 @@
--- The trie of names, in tables: child[p] is the newest child of node p, sibling[m] the next older child of m's parent, letter[m] the byte that leads to m,
+-- The trie of names, in a table of nodes, whose fields are seen as tables: child[p] is the newest child of node p, sibling[m] the next older child of m's parent, letter[m] the byte that leads to m,
 -- number[m] one more than the number of the name that ends at m. 0 is no child, no sibling and no name; node 0 is the root, which stands for the empty word.
 -- Choice: of a trie the words of its nodes are kept, newest first, and no parents. A word's node is then found by its bytes alone.
-use Rattle.std.specs.Prelude.{◌≡◌, List, [], ◌∷◌, ◌++◌, ◌⊎◌, ℕ, suc, ◌≤◌, ◌<◌, length, get_or}
+use Rattle.std.specs.Prelude.{◌≡◌, List, [], ◌∷◌, ◌++◌, ◌⊎◌, ℕ, suc, ◌≤◌, ◌<◌, length, get_or, map}
+use Rattle.reader.specs.declared.trie.TrieNode.{TrieNode}
 use Rattle.records.specs.Format.Heads.{pick}
 use Rattle.records.specs.Ends.Same.{same_bytes}
 
@@ -22,6 +23,13 @@ pub record Tables : Type 0 where
 
 abbrev pub tables : List ℕ → List ℕ → List ℕ → Tables
 tables c s l = record { child = c; sibling = s; letter = l }
+
+-- the tables that the fields of nodes are, and that of the numbers
+abbrev pub links : List TrieNode → Tables
+links t = tables (map (λ (n : TrieNode). n.child) t) (map (λ (n : TrieNode). n.sibling) t) (map (λ (n : TrieNode). n.letter) t)
+
+abbrev pub marks : List TrieNode → List ℕ
+marks t = map (λ (n : TrieNode). n.number) t
 
 -- tables of full length, in which a sibling is older
 pub record FullTables (T : Tables) : Type 0 where

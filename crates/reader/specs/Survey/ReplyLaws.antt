@@ -1,7 +1,7 @@
 -- Laws of the reply: the number that a survey leads to, and what is left where something is written.
-use Rattle.std.specs.Prelude.{◌≡◌, Bool, not, ◌&&◌, List, ◌++◌, ℕ, ◌+◌, ◌-◌, ◌≤◌, ◌<◌, length, drop}
+use Rattle.std.specs.Prelude.{◌≡◌, Some, None, Bool, not, ◌&&◌, List, ◌++◌, ℕ, ◌+◌, ◌-◌, ◌≤◌, ◌<◌, length, drop}
 use Rattle.std.proofs.Math.Path.{refl}
-use Rattle.std.proofs.Common.{sym, ap, ◌∙◌, arith, length-drop, take_all}
+use Rattle.std.proofs.Common.{sym, ap, arith, length-drop, take_all}
 use Rattle.std.proofs.Math.Bool.{true, false}
 use Rattle.std.proofs.Math.Option.{none, some}
 use Rattle.std.proofs.Math.Dec.{leb}
@@ -22,7 +22,8 @@ use Rattle.text.specs.Grammar.{ClauseTree, text_byte}
 use Rattle.text.specs.Reading.{reading}
 use Rattle.reader.specs.Form.Meaning.{text_names, text_clauses, name_list}
 use Rattle.reader.specs.Form.Service.{Written, written_answer, clauses_answer_of, clauses_text_answer, arities_within, variables_within, read_reply, ReadReplied}
-use Rattle.reader.specs.Survey.Survey.{Surveyed}
+use Rattle.reader.specs.Survey.Survey.{BodyStands, Surveyed}
+use Rattle.reader.specs.declared.survey.Body.{Body}
 use Rattle.reader.specs.declared.survey.Survey.{Survey}
 
 module _ (names out : List ℕ) where
@@ -83,29 +84,29 @@ module _ {names bytes : List ℕ} (rec : List ℕ) {within : Bool} {n : ℕ} {li
   unfolding answer_number question_number
   number_names h = rw (answer_names names rec within names_room room (omega (arith, s.listed_is))) refl
 
-  pub number_over : v.listed ≤ names_room → v.over ≡ true → 3 ≡ answer_number (written_answer names rec within names_room room)
+  pub number_over : v.listed ≤ names_room → v.body ≡ None → 3 ≡ answer_number (written_answer names rec within names_room room)
   unfolding answer_number question_number
-  number_over h e = rw (answer_over names rec within names_room room (omega (arith, s.listed_is)) (not_true within (sym s.over_is ∙ e))) refl
+  number_over h e = rw (answer_over names rec within names_room room (omega (arith, s.listed_is)) (rw e at s.body_is)) refl
 
-  pub number_short : v.listed ≤ names_room → v.over ≡ false → room < 32768 → 5 ≡ answer_number (written_answer names rec within names_room room)
-  unfolding answer_number question_number
-  number_short h e k = rw (answer_short names rec within names_room room (omega (arith, s.listed_is)) (not_false within (sym s.over_is ∙ e)) k) refl
+  module _ {b : Body} (e : v.body ≡ Some b) where
+    body_within : (within ≡ true) × BodyStands bytes n scratch b
+    body_within = rw e at s.body_is
 
-  module _ {head : ℕ} (size : length rec ≡ head + length bytes) where
-    pub number_long : v.listed ≤ names_room → v.over ≡ false → 32768 ≤ room → v.at + 2 < head → 10 ≡ answer_number (written_answer names rec within names_room room)
+    pub number_short : v.listed ≤ names_room → room < 32768 → 5 ≡ answer_number (written_answer names rec within names_room room)
     unfolding answer_number question_number
-    number_long h e k d =
-        let i = not_false within (sym s.over_is ∙ e) in
-        rw (answer_long names rec within names_room room (omega (arith, s.listed_is)) i k (omega (arith, (s.held i).place, s.room))) refl
+    number_short h k = rw (answer_short names rec within names_room room (omega (arith, s.listed_is)) body_within.0 k) refl
 
-    survey_passed : 2 < head → v.listed ≤ names_room → v.over ≡ false → 32768 ≤ room → head ≤ v.at + 2 → Passed names rec within names_room room
-    survey_passed z h e k d =
-        let i = not_false within (sym s.over_is ∙ e) in
-        record { names_fit = omega (arith, s.listed_is); within_is = i; roomy = k; record_fits = omega (arith, (s.held i).place, s.room) }
+    module _ {head : ℕ} (size : length rec ≡ head + length bytes) where
+      pub number_long : v.listed ≤ names_room → 32768 ≤ room → b.at + 2 < head → 10 ≡ answer_number (written_answer names rec within names_room room)
+      unfolding answer_number question_number
+      number_long h k d = rw (answer_long names rec within names_room room (omega (arith, s.listed_is)) body_within.0 k (omega (arith, body_within.1.held.place, s.room))) refl
 
-    pub number_done : 2 < head → v.listed ≤ names_room → v.over ≡ false → 32768 ≤ room → head ≤ v.at + 2 → 0 ≡ answer_number (written_answer names rec within names_room room)
-    unfolding answer_number
-    number_done z h e k d = rw (passed_gives names rec within names_room room (survey_passed z h e k d)) refl
+      survey_passed : 2 < head → v.listed ≤ names_room → 32768 ≤ room → head ≤ b.at + 2 → Passed names rec within names_room room
+      survey_passed z h k d = record { names_fit = omega (arith, s.listed_is); within_is = body_within.0; roomy = k; record_fits = omega (arith, body_within.1.held.place, s.room) }
+
+      pub number_done : 2 < head → v.listed ≤ names_room → 32768 ≤ room → head ≤ b.at + 2 → 0 ≡ answer_number (written_answer names rec within names_room room)
+      unfolding answer_number
+      number_done z h k d = rw (passed_gives names rec within names_room room (survey_passed z h k d)) refl
 
 -- 0 says that all passed
 module _ (list rec : List ℕ) (within : Bool) (names_room room : ℕ) where
@@ -142,7 +143,7 @@ module _ (text : List ℕ) (names_room room : ℕ) where
       unfolding clauses_text_answer clauses_answer_of on_yes
       said_text h = rw (plain, says, le-leb (length text) 65535 h) refl
 
--- What stands at the end of a buffer, written behind its head.
+-- What stands at the end of a buffer.
 cut_end : (l : List ℕ) (at : ℕ) {r : Range} → r.from ≡ at → r.to ≡ length l → at ≤ length l → cut l r ≡ drop at l
 unfolding cut size
 cut_end l at {r} i j h = rw (i, j) (take_all (length l - at) (drop at l) (rw (length-drop at l) (omega arith)))
@@ -150,17 +151,16 @@ cut_end l at {r} i j h = rw (i, j) (take_all (length l - at) (drop at l) (rw (le
 length_drop_end : (l : List ℕ) (at : ℕ) → at ≤ length l → length (drop at l) + at ≡ length l
 length_drop_end l at h = rw (length-drop at l) (omega arith)
 
+-- Bytes written behind their record's head.
 record_length : (body : List ℕ) → length (record_of body) ≡ 3 + length body
 unfolding record_of
 record_length body = omega arith
 
-pub put_goal_record : (scratch : List ℕ) (at : ℕ) {before between after : List ℕ} {n next end : ℕ} {r : Range} → at ≤ length scratch → r.from ≡ at → r.to ≡ length scratch → n ≡ 3 + (length scratch - at)
-    → Put before 0 (record_head n) between next → Put between next (cut scratch r) after end → Put before 0 (record_of (drop at scratch)) after end
-put_goal_record scratch at {n = n} h i j e p q =
-    put_record (omega (arith, record_length (drop at scratch), length_drop_end scratch at h)) p (rw (cut_end scratch at i j h) at q)
+pub put_goal_record : (body : List ℕ) {before between after : List ℕ} {n next end : ℕ} → n ≡ 3 + length body
+    → Put before 0 (record_head n) between next → Put between next body after end → Put before 0 (record_of body) after end
+put_goal_record body e p q = put_record (omega (arith, e, record_length body)) p q
 
-pub put_clauses_record : (scratch : List ℕ) (at : ℕ) {before one two after : List ℕ} {n a b end clauses : ℕ} {r : Range} (cs : List Clause) → at ≤ length scratch → r.from ≡ at → r.to ≡ length scratch → n ≡ 5 + (length scratch - at)
-    → clauses ≡ length cs → drop at scratch ≡ each clause_bytes cs
-    → Put before 0 (record_head n) one a → Put one a (word clauses) two b → Put two b (cut scratch r) after end → Put before 0 (clauses_record cs) after end
-put_clauses_record scratch at {n = n} {r = r} cs h i j e k d p1 p2 p3 =
-    put_record (omega (arith, record_length (word (length cs) ++ each clause_bytes cs), length_drop_end scratch at h, ap length d)) p1 (put_then (rw k at p2) (rw (cut_end scratch at i j h ∙ d) at p3))
+pub put_clauses_record : (body : List ℕ) {before one two after : List ℕ} {n a b end clauses : ℕ} (cs : List Clause) → n ≡ 5 + length body → clauses ≡ length cs → body ≡ each clause_bytes cs
+    → Put before 0 (record_head n) one a → Put one a (word clauses) two b → Put two b body after end → Put before 0 (clauses_record cs) after end
+put_clauses_record body {n = n} cs e k d p1 p2 p3 =
+    put_record (omega (arith, e, record_length (word (length cs) ++ each clause_bytes cs), ap length d)) p1 (put_then (rw k at p2) (rw d at p3))

@@ -1,7 +1,7 @@
 -- Laws of the services: what they reply where a question says no, and where everything passes.
-use Rattle.std.specs.Prelude.{◌≡◌, Bool, true, false, not, ◌&&◌, List, [], ◌∷◌, ◌++◌, ℕ, suc, ◌+◌, ◌-◌, ◌≤◌, ◌<◌, leb, ltb, take, drop}
+use Rattle.std.specs.Prelude.{◌≡◌, Some, Result, Ok, Err, Bool, true, false, not, ◌&&◌, List, [], ◌∷◌, ◌++◌, ℕ, suc, ◌+◌, ◌-◌, ◌≤◌, ◌<◌, leb, ltb, take, drop}
 use Rattle.std.proofs.Math.Path.{refl, sym}
-use Rattle.std.proofs.Common.{ap, ◌∙◌, arith, length-take}
+use Rattle.std.proofs.Common.{ap, ◌∙◌, arith, length-take, length-drop, take_all}
 use borrow.Author.Tests.{le-leb, lt-leb, leb-true, leb-false, le-ltb, lt-ltb}
 use Rattle.std.proofs.Math.Option.{Option, none, some}
 use Rattle.records.specs.Format.Never.{never}
@@ -9,20 +9,23 @@ use Rattle.std.proofs.Math.ListN.{length}
 use Rattle.records.specs.Ends.Range.{size, cut}
 use Rattle.records.specs.Format.Encode.{word, each, clause_bytes, goal_bytes, record_of, clauses_record, query_record}
 use Rattle.records.specs.Format.Syntax.{Clause}
-use Rattle.records.specs.Gate.Question.{question_number, characters, syntax, space}
+use Rattle.records.specs.Gate.Question.{question_number, refusal_number, characters, syntax, space}
 use Rattle.records.specs.Gate.RecordRules.{every}
 use Rattle.records.specs.Gate.RecordRulesLaws.{and_both}
-use Rattle.records.specs.Gate.Reply.{Answer, refused, on_yes, answer_number}
+use Rattle.records.specs.Gate.Reply.{Answer, refused, on_yes, answer_number, outcome_number}
+use Rattle.records.specs.Gate.OutcomeLaws.{refusal_positive}
+use Rattle.records.specs.declared.put.Range.{Range}
+use Rattle.records.specs.declared.questions.Refusal.{Refusal}
 use Rattle.records.specs.Gate.ReplyLaws.{number_refuses}
 use Rattle.records.specs.Writing.Patched.{Put}
-use Rattle.records.specs.declared.put.Range.{Range}
 use Rattle.text.specs.Grammar.{ClauseTree, GoalTree, Says, SaysGoal, text_byte}
 use Rattle.text.specs.Parsing.Questions.{grammatical, goal_grammatical}
-use Rattle.text.specs.Reading.{reading, reading_says, reading_none, says_allowed, goal_reading_says, goal_reading_none, says_goal_allowed}
+use Rattle.text.specs.Reading.{reading, reading_says, reading_none, says_allowed, reading_exact, goal_reading_says, goal_reading_none, goal_reading_exact, says_goal_allowed}
 use Rattle.reader.specs.Form.Meaning.{clauses_of, text_names, text_clauses, query_names, query_goal, query_variables, name_list}
 use Rattle.reader.specs.Form.Service.{Written, written_answer, arities_within, variables_within, goal_within, read_reply, ReadReplied, clauses_text_answer, clauses_text_reply, query_answer_of, query_text_answer, query_text_reply}
-use Rattle.reader.specs.Survey.Survey.{Surveyed}
+use Rattle.reader.specs.Survey.Survey.{BodyStands, Surveyed}
 use Rattle.reader.specs.Survey.ReplyLaws.{not_true, not_false, reply_refused, reply_given, Passed, passed_gives, written_passed, foreign_text, outside_text, long_text, said_text}
+use Rattle.reader.specs.declared.survey.Body.{Body}
 use Rattle.reader.specs.declared.survey.Survey.{Survey}
 
 front_cut : (list : List ℕ) {r : Range} {n : ℕ} → r.from ≡ 0 → r.to ≡ n → cut list r ≡ take n list
@@ -30,11 +33,12 @@ unfolding cut size
 front_cut list {n = n} f t = let e : n - 0 ≡ n = omega arith in rw (f, t, e) refl
 
 -- what the writers rely on
-pub record Ready (names out list scratch : List ℕ) (v : Survey) (head : ℕ) : Type 0 where
+pub record Ready (names out list scratch : List ℕ) (v : Survey) (b : Body) (head : ℕ) : Type 0 where
   pub names_fit : v.listed ≤ length names
   pub listed : v.listed ≤ length list
-  pub at_in : v.at ≤ length scratch
-  pub fits : length scratch + head ≤ length out + v.at
+  pub at_in : b.at ≤ length scratch
+  pub fits : length scratch + head ≤ length out + b.at
+  pub ending : take (32766 - b.at) (drop b.at scratch) ≡ drop b.at scratch
 
 -- a survey, the answer that it is of, and the number that it leads to
 module _ (names out : List ℕ) {a : Answer Written} {L bytes : List ℕ} (rec : List ℕ) {within : Bool} {n : ℕ} {list scratch : List ℕ} {v : Survey}
@@ -45,36 +49,39 @@ module _ (names out : List ℕ) {a : Answer Written} {L bytes : List ℕ} (rec :
       let w = number_refuses (written_answer L rec within (length names) (length out)) d z in
       reply_refused names out (e ∙ w.refuses) w.number_is
 
-  module _ (z : number ≡ 0) where
+  module _ (z : number ≡ 0) {b : Body} (some_body : v.body ≡ Some b) where
     surveyed_passed : Passed L rec within (length names) (length out)
     surveyed_passed = written_passed L rec within (length names) (length out) (sym z ∙ d)
 
-    pub surveyed_ready : Ready names out list scratch v head
+    surveyed_stands : BodyStands bytes n scratch b
+    surveyed_stands = let w : (within ≡ true) × BodyStands bytes n scratch b = rw some_body at s.body_is in w.1
+
+    pub surveyed_ready : Ready names out list scratch v b head
     surveyed_ready =
         let p = surveyed_passed in
-        let h = s.held p.within_is in
+        let h = surveyed_stands.held in
         record {
           names_fit = omega (arith, s.listed_is, p.names_fit);
           listed = omega (arith, s.listed_is, ap length s.names_are, length-take v.listed list);
           at_in = omega (arith, h.place);
           fits = omega (arith, h.place, p.record_fits, p.roomy, s.room);
+          ending = take_all (32766 - b.at) (drop b.at scratch) (rw (length-drop b.at scratch) (omega (arith, s.room)));
         }
 
     -- the body stands where it was written
-    pub surveyed_body : drop v.at scratch ≡ bytes
+    pub surveyed_body : drop b.at scratch ≡ bytes
     surveyed_body =
         let p = surveyed_passed in
-        let h = s.held p.within_is in
+        let h = surveyed_stands.held in
         h.same refl (omega (arith, h.place, p.record_fits, s.room))
 
-    pub surveyed_clauses : v.clauses ≡ n
-    surveyed_clauses = s.clauses_are surveyed_passed.within_is
+    pub surveyed_clauses : b.clauses ≡ n
+    surveyed_clauses = surveyed_stands.clauses_are
 
-    pub surveyed_given : {names' out' : List ℕ} {r : Range} {i j : ℕ} → r.from ≡ 0 → r.to ≡ v.listed → Put names 0 (cut list r) names' i → Put out 0 rec out' j → ReadReplied (read_reply names out a) 0 v.listed names' out'
-    surveyed_given {r = r} f t p q =
+    pub surveyed_given : {names' out' : List ℕ} {i j : ℕ} → Put names 0 (take v.listed list) names' i → Put out 0 rec out' j → ReadReplied (read_reply names out a) 0 v.listed names' out'
+    surveyed_given p q =
         let w = surveyed_passed in
-        let k : cut list r ≡ L = front_cut list f t ∙ s.names_are in
-        reply_given names out (e ∙ passed_gives L rec within (length names) (length out) w) s.listed_is (rw k at p) w.names_fit q (omega (arith, w.record_fits, w.roomy))
+        reply_given names out (e ∙ passed_gives L rec within (length names) (length out) w) s.listed_is (rw s.names_are at p) w.names_fit q (omega (arith, w.record_fits, w.roomy))
 
 same_many : (ns : List (List ℕ)) (cs : List ClauseTree) → length (clauses_of ns cs) ≡ length cs
 same_many ns [] = refl
@@ -122,17 +129,37 @@ module _ (text names out : List ℕ) where
       unfolding clauses_text_reply
       text_refused z = surveyed_refused names out rec s answer_is (omega arith) clauses_long number_is z
 
-      module _ (z : number ≡ 0) where
-        pub text_ready : Ready names out list scratch v 5
-        text_ready = surveyed_ready names out rec s answer_is (omega arith) clauses_long number_is z
+      module _ (z : number ≡ 0) {b : Body} (some_body : v.body ≡ Some b) where
+        pub text_ready : Ready names out list scratch v b 5
+        text_ready = surveyed_ready names out rec s answer_is (omega arith) clauses_long number_is z some_body
 
-        pub text_given : {names' out' : List ℕ} {r : Range} {i j : ℕ} → r.from ≡ 0 → r.to ≡ v.listed → Put names 0 (cut list r) names' i
-            → ((ds : List Clause) → v.clauses ≡ length ds → drop v.at scratch ≡ each clause_bytes ds → Put out 0 (clauses_record ds) out' j) → ReadReplied (clauses_text_reply text names out) 0 v.listed names' out'
+        pub text_given : {names' out' : List ℕ} {i j : ℕ} → Put names 0 (take v.listed list) names' i
+            → ((ds : List Clause) → b.clauses ≡ length ds → drop b.at scratch ≡ each clause_bytes ds → Put out 0 (clauses_record ds) out' j) → ReadReplied (clauses_text_reply text names out) 0 v.listed names' out'
         unfolding clauses_text_reply text_clauses
-        text_given f t p q =
-            let b = surveyed_body names out rec s answer_is (omega arith) clauses_long number_is z in
-            let k = surveyed_clauses names out rec s answer_is (omega arith) clauses_long number_is z in
-            surveyed_given names out rec s answer_is (omega arith) clauses_long number_is z f t p (q (text_clauses cs) (k ∙ sym (same_many (text_names cs) cs)) b)
+        text_given p q =
+            let body = surveyed_body names out rec s answer_is (omega arith) clauses_long number_is z some_body in
+            let k = surveyed_clauses names out rec s answer_is (omega arith) clauses_long number_is z some_body in
+            surveyed_given names out rec s answer_is (omega arith) clauses_long number_is z some_body p (q (text_clauses cs) (k ∙ sym (same_many (text_names cs) cs)) body)
+
+-- the same of what code is told
+module _ (text names out : List ℕ) (asked : (grammatical text ≡ true) × (length text ≤ 65535)) {list scratch : List ℕ} {v : Survey}
+    (s : (cs : List ClauseTree) → Says text cs → Surveyed (name_list (text_names cs)) (each clause_bytes (text_clauses cs)) (every arities_within (text_clauses cs) && every variables_within (text_clauses cs)) (length cs) list scratch v)
+    {r : Result Body Refusal} (d : (L bytes rec : List ℕ) (within : Bool) (n : ℕ) (l c : List ℕ) → Surveyed L bytes within n l c v → length rec ≡ 5 + length bytes → outcome_number r ≡ answer_number (written_answer L rec within (length names) (length out))) where
+  pub clauses_refused : {e : Refusal} → r ≡ Err e → ReadReplied (clauses_text_reply text names out) (refusal_number e) 0 names out
+  clauses_refused {e} z =
+      let w = (reading_exact text).0 asked.0 in
+      let number : outcome_number r ≡ refusal_number e = ap outcome_number z in
+      rw number at (text_refused text names out w.0 w.1 asked.1 (s w.0 w.1) d (λ i. refusal_positive e (sym number ∙ i)))
+
+  module _ {b : Body} (z : r ≡ Ok b) (some_body : v.body ≡ Some b) where
+    pub clauses_ready : Ready names out list scratch v b 5
+    clauses_ready = let w = (reading_exact text).0 asked.0 in text_ready text names out w.0 w.1 asked.1 (s w.0 w.1) d (ap outcome_number z) some_body
+
+    pub clauses_given : {names' out' : List ℕ} {i j : ℕ} → Put names 0 (take v.listed list) names' i
+        → ((ds : List Clause) → b.clauses ≡ length ds → take (32766 - b.at) (drop b.at scratch) ≡ each clause_bytes ds → Put out 0 (clauses_record ds) out' j) → ReadReplied (clauses_text_reply text names out) 0 v.listed names' out'
+    clauses_given p q =
+        let w = (reading_exact text).0 asked.0 in
+        text_given text names out w.0 w.1 asked.1 (s w.0 w.1) d (ap outcome_number z) some_body p (λ ds k e. q ds k (clauses_ready.ending ∙ e))
 
 -- A query behind a text.
 module _ (text query names out : List ℕ) where
@@ -181,16 +208,16 @@ module _ (text query names out : List ℕ) where
       unfolding query_text_reply
       query_refused z = surveyed_refused names out goal_rec s query_answer_is (omega arith) (record_length (goal_bytes (query_goal cs g))) query_number_is z
 
-      module _ (z : number ≡ 0) where
-        pub query_ready : Ready names out list scratch v 3
-        query_ready = surveyed_ready names out goal_rec s query_answer_is (omega arith) (record_length (goal_bytes (query_goal cs g))) query_number_is z
+      module _ (z : number ≡ 0) {b : Body} (some_body : v.body ≡ Some b) where
+        pub query_ready : Ready names out list scratch v b 3
+        query_ready = surveyed_ready names out goal_rec s query_answer_is (omega arith) (record_length (goal_bytes (query_goal cs g))) query_number_is z some_body
 
-        pub query_given : {names' out' : List ℕ} {r : Range} {i j : ℕ} → r.from ≡ 0 → r.to ≡ v.listed → Put names 0 (cut list r) names' i → Put out 0 (record_of (drop v.at scratch)) out' j
+        pub query_given : {names' out' : List ℕ} {i j : ℕ} → Put names 0 (take v.listed list) names' i → Put out 0 (record_of (drop b.at scratch)) out' j
             → ReadReplied (query_text_reply text query names out) 0 v.listed names' out'
         unfolding query_text_reply
-        query_given f t p q =
+        query_given p q =
             let size = record_length (goal_bytes (query_goal cs g)) in
-            surveyed_given names out goal_rec s query_answer_is (omega arith) size query_number_is z f t p (rw (surveyed_body names out goal_rec s query_answer_is (omega arith) size query_number_is z) at q)
+            surveyed_given names out goal_rec s query_answer_is (omega arith) size query_number_is z some_body p (rw (surveyed_body names out goal_rec s query_answer_is (omega arith) size query_number_is z some_body) at q)
 
 -- two lengths together
 pub long_both : (a b : ℕ) → a ≤ 65535 → ltb (65535 - a) b ≡ not (leb (a + b) 65535)
@@ -209,3 +236,28 @@ one_no {a} {b} i j h = rw (i, j) at (not_true (a && b) h)
 
 pub both_yes : {a b x y : Bool} → a ≡ x → b ≡ y → not (a && b) ≡ false → (x ≡ true) × (y ≡ true)
 both_yes {a} {b} {x} {y} i j h = and_both x y (rw (i, j) at (not_false (a && b) h))
+
+-- the same of what code is told
+module _ (text query names out : List ℕ) (asked : (grammatical text ≡ true) × (goal_grammatical query ≡ true)) (short : length text + length query ≤ 65535) {list scratch : List ℕ} {v : Survey}
+    (s : (cs : List ClauseTree) (g : GoalTree) → Says text cs → SaysGoal query g → Surveyed (name_list (query_names cs g)) (goal_bytes (query_goal cs g)) (goal_within (query_goal cs g) && leb (length (query_variables g)) 64) 0 list scratch v)
+    {r : Result Body Refusal} (d : (L bytes rec : List ℕ) (within : Bool) (n : ℕ) (l c : List ℕ) → Surveyed L bytes within n l c v → length rec ≡ 3 + length bytes → outcome_number r ≡ answer_number (written_answer L rec within (length names) (length out))) where
+  pub goal_refused : {e : Refusal} → r ≡ Err e → ReadReplied (query_text_reply text query names out) (refusal_number e) 0 names out
+  goal_refused {e} z =
+      let w = (reading_exact text).0 asked.0 in
+      let u = (goal_reading_exact query).0 asked.1 in
+      let number : outcome_number r ≡ refusal_number e = ap outcome_number z in
+      rw number at (query_refused text query names out w.0 w.1 u.0 u.1 short (s w.0 u.0 w.1 u.1) d (λ i. refusal_positive e (sym number ∙ i)))
+
+  module _ {b : Body} (z : r ≡ Ok b) (some_body : v.body ≡ Some b) where
+    pub goal_ready : Ready names out list scratch v b 3
+    goal_ready =
+        let w = (reading_exact text).0 asked.0 in
+        let u = (goal_reading_exact query).0 asked.1 in
+        query_ready text query names out w.0 w.1 u.0 u.1 short (s w.0 u.0 w.1 u.1) d (ap outcome_number z) some_body
+
+    pub goal_given : {names' out' : List ℕ} {i j : ℕ} → Put names 0 (take v.listed list) names' i → Put out 0 (record_of (take (32766 - b.at) (drop b.at scratch))) out' j
+        → ReadReplied (query_text_reply text query names out) 0 v.listed names' out'
+    goal_given p q =
+        let w = (reading_exact text).0 asked.0 in
+        let u = (goal_reading_exact query).0 asked.1 in
+        query_given text query names out w.0 w.1 u.0 u.1 short (s w.0 u.0 w.1 u.1) d (ap outcome_number z) some_body p (rw goal_ready.ending at q)

@@ -1,5 +1,5 @@
 -- Where the parts of an accepted event and of a definition stand, told by the tree alone.
-use Rattle.std.specs.Prelude.{ℕ, ◌+◌, ◌≡◌, List, [], ◌∷◌, length}
+use Rattle.std.specs.Prelude.{ℕ, ◌+◌, ◌≡◌, List, [], ◌∷◌, length, Some}
 use Rattle.records.specs.Format.Syntax.{Goal, Ancestor, Bet, Port, Event}
 use Rattle.records.specs.Format.Syntax.Event.{event}
 use Rattle.records.specs.Format.Encode.{counted, goal_bytes, ancestor_bytes, bet_bytes, port_byte}
@@ -14,9 +14,7 @@ use Rattle.records.specs.declared.put.Range.{Range}
 use Rattle.records.specs.declared.places.Row.{Row}
 use Rattle.records.specs.declared.places.Places.{Places}
 use Rattle.records.specs.declared.places.PartEnds.{PartEnds}
-use Rattle.records.specs.declared.ends.Found.TheVariants.{At}
 use Rattle.records.specs.declared.ends.Item.{Item}
-use Rattle.records.specs.declared.heads.Word.TheVariants.{Number}
 
 -- a row of items whose count stands at `at`
 abbrev pub row_places : {A : Type 0} → (A → List ℕ) → ℕ → List A → Row
@@ -44,13 +42,13 @@ EndsOf s ends = (e : Event) → read_event s ≡ tree e → ends ≡ part_ends e
 
 -- what was found of a row, of one whose end is known, and of a goal, at a position
 pub record RowAt (s : List ℕ) (at : ℕ) (i : Item) (r : Row) : Type 0 where
-  pub is : (n e : ℕ) → word_at s at ≡ Number n → counted_end i s at ≡ At e → r ≡ record { count = n; from = at + 2; to = e }
+  pub is : (n e : ℕ) → word_at s at ≡ Some n → counted_end i s at ≡ Some e → r ≡ record { count = n; from = at + 2; to = e }
 
 pub record RowTo (s : List ℕ) (at to : ℕ) (r : Row) : Type 0 where
-  pub is : (n : ℕ) → word_at s at ≡ Number n → r ≡ record { count = n; from = at + 2; to = to }
+  pub is : (n : ℕ) → word_at s at ≡ Some n → r ≡ record { count = n; from = at + 2; to = to }
 
 pub record GoalRange (s : List ℕ) (at : ℕ) (r : Range) : Type 0 where
-  pub is : (e : ℕ) → end_at s at 0 1 ≡ At e → r ≡ record { from = at; to = e }
+  pub is : (e : ℕ) → end_at s at 0 1 ≡ Some e → r ≡ record { from = at; to = e }
 
 -- an accepted event
 pub record EventParts (s : List ℕ) (p : Port) (g : Goal) (u : List Ancestor) (b : List Bet) : Type 0 where

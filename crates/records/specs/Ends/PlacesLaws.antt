@@ -1,5 +1,5 @@
 -- Laws of places: how the parts of an accepted event stand, and that what code finds of them is what the tree tells.
-use Rattle.std.specs.Prelude.{ℕ, ◌+◌, ◌<◌, ◌≡◌}
+use Rattle.std.specs.Prelude.{ℕ, ◌+◌, ◌<◌, ◌≡◌, Option, Some, None}
 use Rattle.std.proofs.Common.{arith, ◌∙◌, get_or-drop}
 use Rattle.std.proofs.Math.Path.{refl, sym, ap}
 use mathlib.Core.List.{List, [], ◌∷◌, ◌++◌}
@@ -27,17 +27,13 @@ use Rattle.records.specs.Ends.Places.{row_places, goal_end, event_places, part_e
 use Rattle.records.specs.declared.put.Range.{Range}
 use Rattle.records.specs.declared.places.Row.{Row}
 use Rattle.records.specs.declared.places.PartEnds.{PartEnds}
-use Rattle.records.specs.declared.ends.Found.{Found}
-use Rattle.records.specs.declared.ends.Found.TheVariants.{At, Nothing}
 use Rattle.records.specs.declared.ends.Item.{Item}
 use Rattle.records.specs.declared.ends.Item.TheVariants.{Ancestor as AnAncestor}
-use Rattle.records.specs.declared.heads.Word.{Word}
-use Rattle.records.specs.declared.heads.Word.TheVariants.{Number, Short}
 
-lost : {P : Type 0} {d : ℕ} → Nothing ≡ At d → P
+lost : {P : Type 0} {d : ℕ} → None ≡ Some d → P
 lost e = never cc
 
-shorted : {P : Type 0} {n : ℕ} → Short ≡ Number n → P
+shorted : {P : Type 0} {n : ℕ} → None ≡ Some n → P
 shorted e = never cc
 
 pub event_parts : (s : List ℕ) → Known s → (p : Port) (g : Goal) (u : List Ancestor) (b : List Bet) → read_event s ≡ tree (event p g u b) → EventParts s p g u b
@@ -58,11 +54,11 @@ event_parts s known p g u b e =
     stands_record {body} q = rw (q, length_record_of body) (body_stands body)
 
 -- where a goal that stands somewhere ends, and a row of ancestors
-pub goal_found : {s : List ℕ} {at e : ℕ} (g : Goal) → GoalFormed g → Stands s at (goal_bytes g) e → end_at s at 0 1 ≡ At e
+pub goal_found : {s : List ℕ} {at e : ℕ} (g : Goal) → GoalFormed g → Stands s at (goal_bytes g) e → end_at s at 0 1 ≡ Some e
 unfolding end_at
 goal_found g f w = ap traversal_end (traverse_goal g f w)
 
-pub ancestors_found : {s : List ℕ} {at e : ℕ} (u : List Ancestor) → Counted AncestorFormed u → Stands s at (counted ancestor_bytes u) e → counted_end AnAncestor s at ≡ At e
+pub ancestors_found : {s : List ℕ} {at e : ℕ} (u : List Ancestor) → Counted AncestorFormed u → Stands s at (counted ancestor_bytes u) e → counted_end AnAncestor s at ≡ Some e
 unfolding counted_end
 ancestors_found u f w = stands_ends (counted_exact ancestor_exact) u f w
 
@@ -102,37 +98,37 @@ accepted_long s known h = go (read_event s) refl h
     go (tree (event p g u b)) e z = let w = event_parts s known p g u b e in omega (arith, w.bets_stand.end)
 
 -- for code that found a row
-module _ (s : List ℕ) (at : ℕ) (i : Item) {w : Word} (is : w ≡ word_at s at) where
-  pub row_is : {n e : ℕ} {f : Found} → w ≡ Number n → f ≡ items_end i n s (at + 2) → f ≡ At e → RowAt s at i (record { count = n; from = at + 2; to = e })
-  row_is {n} {e} q k z = record { is = λ m d p r. let a : Number n ≡ Number m = sym q ∙ is ∙ p in let b : At e ≡ At d = sym z ∙ k ∙ row_end s at is i q ∙ r in same m d a b }
+module _ (s : List ℕ) (at : ℕ) (i : Item) {w : Option ℕ} (is : w ≡ word_at s at) where
+  pub row_is : {n e : ℕ} {f : Option ℕ} → w ≡ Some n → f ≡ items_end i n s (at + 2) → f ≡ Some e → RowAt s at i (record { count = n; from = at + 2; to = e })
+  row_is {n} {e} q k z = record { is = λ m d p r. let a : Some n ≡ Some m = sym q ∙ is ∙ p in let b : Some e ≡ Some d = sym z ∙ k ∙ row_end s at is i q ∙ r in same m d a b }
     where
-      same : (m d : ℕ) → Number n ≡ Number m → At e ≡ At d → ◌≡◌ {A = Row} (record { count = n; from = at + 2; to = e }) (record { count = m; from = at + 2; to = d })
+      same : (m d : ℕ) → Some n ≡ Some m → Some e ≡ Some d → ◌≡◌ {A = Row} (record { count = n; from = at + 2; to = e }) (record { count = m; from = at + 2; to = d })
       same m d a b = let x : n ≡ m = cc in let y : e ≡ d = cc in rw (x, y) refl
 
-  pub row_off : {n : ℕ} {f : Found} {r : Row} → w ≡ Number n → f ≡ items_end i n s (at + 2) → f ≡ Nothing → RowAt s at i r
+  pub row_off : {n : ℕ} {f : Option ℕ} {r : Row} → w ≡ Some n → f ≡ items_end i n s (at + 2) → f ≡ None → RowAt s at i r
   row_off q k z = record { is = λ m d p x. lost (sym z ∙ k ∙ row_end s at is i q ∙ x) }
 
-  pub row_short : {r : Row} → w ≡ Short → RowAt s at i r
+  pub row_short : {r : Row} → w ≡ None → RowAt s at i r
   row_short q = record { is = λ m d p x. shorted (sym q ∙ is ∙ p) }
 
 -- for code that found a row whose end is known
-module _ (s : List ℕ) (at to : ℕ) {w : Word} (is : w ≡ word_at s at) where
-  pub row_to_is : {n : ℕ} → w ≡ Number n → RowTo s at to (record { count = n; from = at + 2; to = to })
+module _ (s : List ℕ) (at to : ℕ) {w : Option ℕ} (is : w ≡ word_at s at) where
+  pub row_to_is : {n : ℕ} → w ≡ Some n → RowTo s at to (record { count = n; from = at + 2; to = to })
   row_to_is {n} q = record { is = λ m p. same m (sym q ∙ is ∙ p) }
     where
-      same : (m : ℕ) → Number n ≡ Number m → ◌≡◌ {A = Row} (record { count = n; from = at + 2; to = to }) (record { count = m; from = at + 2; to = to })
+      same : (m : ℕ) → Some n ≡ Some m → ◌≡◌ {A = Row} (record { count = n; from = at + 2; to = to }) (record { count = m; from = at + 2; to = to })
       same m a = let x : n ≡ m = cc in rw x refl
 
-  pub row_to_short : {r : Row} → w ≡ Short → RowTo s at to r
+  pub row_to_short : {r : Row} → w ≡ None → RowTo s at to r
   row_to_short q = record { is = λ m p. shorted (sym q ∙ is ∙ p) }
 
 -- for code that found a goal's end
-module _ (s : List ℕ) (at : ℕ) {f : Found} (is : f ≡ end_at s at 0 1) where
-  pub goal_is : {e : ℕ} → f ≡ At e → GoalRange s at (record { from = at; to = e })
+module _ (s : List ℕ) (at : ℕ) {f : Option ℕ} (is : f ≡ end_at s at 0 1) where
+  pub goal_is : {e : ℕ} → f ≡ Some e → GoalRange s at (record { from = at; to = e })
   goal_is {e} q = record { is = λ d r. same d (sym q ∙ is ∙ r) }
     where
-      same : (d : ℕ) → At e ≡ At d → ◌≡◌ {A = Range} (record { from = at; to = e }) (record { from = at; to = d })
+      same : (d : ℕ) → Some e ≡ Some d → ◌≡◌ {A = Range} (record { from = at; to = e }) (record { from = at; to = d })
       same d z = let x : e ≡ d = cc in rw x refl
 
-  pub goal_off : {r : Range} → f ≡ Nothing → GoalRange s at r
+  pub goal_off : {r : Range} → f ≡ None → GoalRange s at r
   goal_off q = record { is = λ d r. lost (sym q ∙ is ∙ r) }

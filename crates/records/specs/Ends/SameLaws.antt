@@ -1,17 +1,16 @@
--- Laws of the comparison of bytes: it is true of equal lists alone, goes a byte at a time, and answers for two ranges.
-use Prim.Native.Nat.{ℕ, suc, ◌+◌, ◌-◌, ◌≤◌, ◌<◌}
-use native.Mathlib.Omega.{arith}
-use Rattle.std.specs.Prelude.{◌≡◌, Bool, true, false, ◌&&◌, List, [], ◌∷◌, eqb, length, drop, take, get_or}
+-- Laws of the comparison of bytes: it is true of equal lists alone, is the library's, and answers for two ranges.
+use Prim.Native.Nat.{ℕ, suc, ◌-◌}
+use Rattle.std.specs.Prelude.{◌≡◌, Bool, true, false, ◌&&◌, List, [], ◌∷◌, eqb, length, drop, take}
 use Rattle.std.proofs.Math.Path.{refl}
 use Rattle.std.proofs.Common.{sym, ap, ap₂, ◌∙◌}
-use Rattle.std.proofs.Math.Seq.{drop-cons}
-use borrow.Author.Tests.{eq-eqb, ne_eqb, eqb-true}
+use borrow.Author.Tests.{eq-eqb, eqb-true}
 use Rattle.records.specs.Format.Never.{never}
 use Rattle.records.specs.Gate.RecordRulesLaws.{and_both}
 use Rattle.records.specs.Ends.Range.{size, cut, Inside}
 use Rattle.records.specs.Ends.RangeLaws.{length_cut}
-use Rattle.records.specs.Ends.Same.{same_bytes, from_on}
+use Rattle.records.specs.Ends.Same.{same_bytes}
 use Rattle.records.specs.declared.put.Range.{Range}
+use lib.Pointwise.{pointwise}
 
 pub same_true : (l k : List ℕ) → same_bytes l k ≡ true → l ≡ k
 unfolding same_bytes
@@ -36,33 +35,13 @@ same_length (x ∷ l) (y ∷ k) h = rw (same_length l k (λ e. h (ap suc e))) (n
     no_matter true = refl
     no_matter false = refl
 
-module _ (s u : List ℕ) (a b n : ℕ) (hs : a + n ≤ length s) (hu : b + n ≤ length u) (i : ℕ) (h : i < n) where
-  one_on : (l : List ℕ) (c : ℕ) → c + n ≤ length l → from_on l c n i ≡ get_or l (c + i) 0 ∷ from_on l c n (i + 1)
-  unfolding from_on
-  one_on l c k =
-      let x : n - i ≡ suc (n - (i + 1)) = omega arith in
-      let y : c + (i + 1) ≡ suc (c + i) = omega arith in
-      rw (x, drop-cons l (c + i) 0 (omega arith), y) refl
-
-  pub same_next : get_or s (a + i) 0 ≡ get_or u (b + i) 0 → same_bytes (from_on s a n i) (from_on u b n i) ≡ same_bytes (from_on s a n (i + 1)) (from_on u b n (i + 1))
-  unfolding same_bytes
-  same_next e = rw (one_on s a hs, one_on u b hu, eq-eqb _ _ e)
-
-  pub differ_here : (get_or s (a + i) 0 ≡ get_or u (b + i) 0 → ⊥) → false ≡ same_bytes (from_on s a n i) (from_on u b n i)
-  unfolding same_bytes
-  differ_here e = rw (one_on s a hs, one_on u b hu, ne_eqb _ _ e)
-
-pub same_start : (s u : List ℕ) (a b n : ℕ) → same_bytes (take n (drop a s)) (take n (drop b u)) ≡ same_bytes (from_on s a n 0) (from_on u b n 0)
-unfolding from_on
-same_start s u a b n =
-    let x : n - 0 ≡ n = omega arith in
-    let y : a + 0 ≡ a = omega arith in
-    let z : b + 0 ≡ b = omega arith in
-    rw (x, y, z)
-
-pub same_end : (s u : List ℕ) (a b n i : ℕ) → n ≤ i → true ≡ same_bytes (from_on s a n i) (from_on u b n i)
-unfolding same_bytes from_on
-same_end s u a b n i h = let x : n - i ≡ 0 = omega arith in rw x
+-- the library's comparison of two slices of bytes is this one
+pub pointwise_same : (l k : List ℕ) → pointwise eqb l k ≡ same_bytes l k
+unfolding same_bytes
+pointwise_same [] [] = refl
+pointwise_same [] (y ∷ k) = refl
+pointwise_same (x ∷ l) [] = refl
+pointwise_same (x ∷ l) (y ∷ k) = ap (λ (b : Bool). eqb x y && b) (pointwise_same l k)
 
 -- two ranges
 pub differ_size : (s u : List ℕ) (x y : Range) → Inside x s → Inside y u → (x.to - x.from ≡ y.to - y.from → ⊥) → false ≡ same_bytes (cut s x) (cut u y)

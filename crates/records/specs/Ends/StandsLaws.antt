@@ -1,6 +1,6 @@
 -- Laws of what stands at a position: its parts stand one after the other, readers and traversals go over it, the heads there are the tree's, and
 -- equal bytes are equal trees.
-use Rattle.std.specs.Prelude.{ℕ, ◌+◌, ◌-◌, ◌≤◌, ◌<◌, ◌≡◌, refl, List, [], ◌∷◌, ◌++◌, length, drop}
+use Rattle.std.specs.Prelude.{ℕ, ◌+◌, ◌-◌, ◌≤◌, ◌<◌, ◌≡◌, refl, List, [], ◌∷◌, ◌++◌, length, drop, Some}
 use Rattle.std.proofs.Common.{add_assoc, arith, sym, ◌∙◌, append_assoc, append-nil, length-append, length-drop, drop-drop, drop_at, take_at}
 use Rattle.std.proofs.Math.Path.{ap}
 use borrow.Author.Tests.{le-leb}
@@ -13,7 +13,7 @@ use Rattle.records.specs.Format.Syntax.Bet.{unifier, or, by}
 use Rattle.records.specs.Format.Syntax.Definition.{definition}
 use Rattle.records.specs.Format.Encode.{word, term_bytes, terms_bytes, goal_bytes, ancestor_bytes, bet_bytes, definition_bytes, record_of, each, counted}
 use Rattle.records.specs.Format.Formed.{TermFormed, TermsFormed, GoalFormed, AncestorFormed, BetFormed, DefinitionFormed}
-use Rattle.records.specs.Format.Heads.{term_head, goal_head, ancestor_head, bet_head, definition_head, word_head, term_head_at, goal_head_at, ancestor_head_at, bet_head_at, word_at, definition_head_at}
+use Rattle.records.specs.Format.Heads.{signed, term_head, goal_head, ancestor_head, bet_head, definition_head, word_head, term_head_at, goal_head_at, ancestor_head_at, bet_head_at, word_at, definition_head_at}
 use Rattle.records.specs.Format.HeadLaws.{joined_word}
 use Rattle.records.specs.Ends.Range.{size, cut, Inside}
 use Rattle.records.specs.Format.Reader.{read}
@@ -25,9 +25,6 @@ use Rattle.records.specs.Format.Exact.{tag_is}
 use Rattle.records.specs.Ends.Traversal.{traverse, place_of, end_of, term_nodes, terms_nodes, goal_nodes, end_at, traversal_end}
 use Rattle.records.specs.Ends.Traversal.Traversal.{on}
 use Rattle.records.specs.Ends.Stands.{Stands, head_of_term, head_of_goal, head_of_ancestor, head_of_bet, Both}
-use Rattle.records.specs.declared.ends.Found.TheVariants.{At}
-use Rattle.records.specs.declared.heads.Word.TheVariants.{Number}
-use Rattle.records.specs.declared.heads.Signature.TheVariants.{Predicate}
 
 -- what stands lies within
 pub stands_within : {s : List ℕ} {at : ℕ} {x : List ℕ} {e : ℕ} → Stands s at x e → 0 < length x → (at < e) × (e ≤ length s)
@@ -79,9 +76,9 @@ pub stands_read : {A : Type 0} {bytes : A → List ℕ} {Formed : A → Type 0} 
 stands_read {bytes = bytes} {r = r} w {s} {at} {e} a f h = ap r h.bytes ∙ w.complete a f (drop e s)
 
 pub stands_ends : {A : Type 0} {bytes : A → List ℕ} {Formed : A → Type 0} {r : Reader A} → Exact bytes Formed r → {s : List ℕ} {at e : ℕ} (a : A) → Formed a → Stands s at (bytes a) e
-    → end_of r s at ≡ At e
+    → end_of r s at ≡ Some e
 unfolding end_of
-stands_ends w {s} {at} {e} a f h = ap (place_of at) (stands_read w a f h) ∙ ap At (sym h.end)
+stands_ends w {s} {at} {e} a f h = ap (place_of at) (stands_read w a f h) ∙ ap Some (sym h.end)
 
 -- the traversal over what stands there
 pub traverse_terms : {s : List ℕ} {at e : ℕ} (ts : Terms) → TermsFormed ts → Stands s at (terms_bytes ts) e → traverse s at (arity ts) 0 ≡ on (terms_nodes ts) e
@@ -97,7 +94,7 @@ traverse_term {s} {at} {e} t f h =
     traverse_terms (cons t nil) (f, tt) (rw (← append-nil (term_bytes t)) at h) ∙ ap (λ (l : List _). on l e) (append-nil (term_nodes t))
 
 -- it ends there
-pub term_ends : {s : List ℕ} {at e : ℕ} (t : Term) → TermFormed t → Stands s at (term_bytes t) e → end_at s at 1 0 ≡ At e
+pub term_ends : {s : List ℕ} {at e : ℕ} (t : Term) → TermFormed t → Stands s at (term_bytes t) e → end_at s at 1 0 ≡ Some e
 unfolding end_at
 term_ends t f h = ap traversal_end (traverse_term t f h)
 
@@ -136,11 +133,11 @@ module _ {s : List ℕ} {at e : ℕ} where
   bet_stands (or h) f w = ap bet_head w.bytes ∙ rw (tag_is h)
   bet_stands (by g) f w = ap bet_head w.bytes
 
-  pub definition_stands : (p k n : ℕ) (g : Goal) → DefinitionFormed (definition p k n g) → Stands s at (definition_bytes (definition p k n g)) e → definition_head_at s at ≡ Predicate p k n
+  pub definition_stands : (p k n : ℕ) (g : Goal) → DefinitionFormed (definition p k n g) → Stands s at (definition_bytes (definition p k n g)) e → definition_head_at s at ≡ signed p k n
   unfolding definition_head_at
   definition_stands p k n g f w = ap definition_head w.bytes ∙ rw (le-leb k 16 f.1, joined_word p f.0)
 
-  pub word_stands : (n : ℕ) (x : List ℕ) → n < 65536 → Stands s at (word n ++ x) e → word_at s at ≡ Number n
+  pub word_stands : (n : ℕ) (x : List ℕ) → n < 65536 → Stands s at (word n ++ x) e → word_at s at ≡ Some n
   unfolding word_at
   word_stands n x f w = ap word_head w.bytes ∙ rw (joined_word n f)
 

@@ -1,5 +1,5 @@
 -- Laws of a traversal step by step: where a step leads, what it leaves of the traversal, and how a fold over the variables goes on.
-use Rattle.std.specs.Prelude.{ℕ, zero, suc, ◌+◌, ◌-◌, ◌*◌, ◌≤◌, ◌<◌, max, ◌≡◌, List, [], ◌∷◌}
+use Rattle.std.specs.Prelude.{ℕ, zero, suc, ◌+◌, ◌-◌, ◌*◌, ◌≤◌, ◌<◌, max, ◌≡◌, List, [], ◌∷◌, Option, Some, None}
 use Rattle.std.proofs.Common.{arith, sym, ap, ◌∙◌}
 use Rattle.std.proofs.Math.Path.{refl}
 use Rattle.std.proofs.Math.ListN.{length}
@@ -15,12 +15,12 @@ use Rattle.records.specs.Ends.EndLaws.{end_bound}
 use Rattle.records.specs.Ends.Above.{above}
 use Rattle.records.specs.Ends.Steps.{On, met, end_place, step_by, next_step, traverse_from, Goes, To, along, Underway, raised}
 use Rattle.records.specs.declared.heads.TermHead.{TermHead}
-use Rattle.records.specs.declared.heads.TermHead.TheVariants.{Variable, Symbol, NoTerm}
+use Rattle.records.specs.declared.heads.TermHead.TheVariants.{Variable, Symbol}
 use Rattle.records.specs.declared.heads.GoalHead.{GoalHead}
-use Rattle.records.specs.declared.heads.GoalHead.TheVariants.{Truth, Failure, Equal, Conj, Disj, Atom, NoGoal}
+use Rattle.records.specs.declared.heads.GoalHead.TheVariants.{Truth, Failure, Equal, Conj, Disj, Atom}
 use Rattle.records.specs.declared.traverse.Cursor.{Cursor}
 use Rattle.records.specs.declared.traverse.NodeStep.{NodeStep}
-use Rattle.records.specs.declared.traverse.NodeStep.TheVariants.{Variable as Met, Other, Done}
+use Rattle.records.specs.declared.traverse.NodeStep.TheVariants.{Variable as Met, Other}
 
 moved : (s x : List ℕ) (q t g t' g' : ℕ) → t ≡ t' → g ≡ g' → (y : List ℕ) × (before (other x) (traverse s q t g) ≡ before (other y) (traverse s q t' g'))
 moved s x q t g t' g' e d = (x, rw (e, d))
@@ -35,21 +35,21 @@ module _ (s : List ℕ) (known : Known s) (p : ℕ) where
       go off e z = absurd z
       go (on l e) q z = end_bound s p known t g e (ap traversal_end q)
 
-  goes_by : (t g : ℕ) (h : TermHead) (i : GoalHead) → TermRoom s p h → GoalRoom s p i → On (step s p t g h i) → Goes s p (step s p t g h i) (step_by p t g h i)
+  goes_by : (t g : ℕ) (h : Option TermHead) (i : Option GoalHead) → TermRoom s p h → GoalRoom s p i → On (step s p t g h i) → Goes s p (step s p t g h i) (step_by p t g h i)
   goes_by zero zero h i x y z = refl
-  goes_by (suc t) g (Variable v) i x y z = (ap (λ (n : ℕ). before (variable v) (traverse s (p + 3) n g)) (omega arith), omega arith, x.1)
-  goes_by (suc t) g (Symbol f k) i x y z = (moved s _ (p + 4) (k + t) g (k + (suc t - 1)) g (omega arith) refl, omega arith)
-  goes_by (suc t) g NoTerm i x y z = absurd z
-  goes_by zero (suc g) h Truth x y z = (moved s _ (p + 1) zero g zero (0 + (suc g - 1)) refl (omega arith), omega arith)
-  goes_by zero (suc g) h Failure x y z = (moved s _ (p + 1) zero g zero (0 + (suc g - 1)) refl (omega arith), omega arith)
-  goes_by zero (suc g) h Equal x y z = (moved s _ (p + 1) 2 g 2 (0 + (suc g - 1)) refl (omega arith), omega arith)
-  goes_by zero (suc g) h Conj x y z = (moved s _ (p + 1) zero (suc (suc g)) zero (2 + (suc g - 1)) refl (omega arith), omega arith)
-  goes_by zero (suc g) h Disj x y z = (moved s _ (p + 1) zero (suc (suc g)) zero (2 + (suc g - 1)) refl (omega arith), omega arith)
-  goes_by zero (suc g) h (Atom f k) x y z = (moved s _ (p + 4) k g k (0 + (suc g - 1)) refl (omega arith), omega arith)
-  goes_by zero (suc g) h NoGoal x y z = absurd z
+  goes_by (suc t) g (Some (Variable v)) i x y z = (ap (λ (n : ℕ). before (variable v) (traverse s (p + 3) n g)) (omega arith), omega arith, x.1)
+  goes_by (suc t) g (Some (Symbol f k)) i x y z = (moved s _ (p + 4) (k + t) g (k + (suc t - 1)) g (omega arith) refl, omega arith)
+  goes_by (suc t) g None i x y z = absurd z
+  goes_by zero (suc g) h (Some Truth) x y z = (moved s _ (p + 1) zero g zero (0 + (suc g - 1)) refl (omega arith), omega arith)
+  goes_by zero (suc g) h (Some Failure) x y z = (moved s _ (p + 1) zero g zero (0 + (suc g - 1)) refl (omega arith), omega arith)
+  goes_by zero (suc g) h (Some Equal) x y z = (moved s _ (p + 1) 2 g 2 (0 + (suc g - 1)) refl (omega arith), omega arith)
+  goes_by zero (suc g) h (Some Conj) x y z = (moved s _ (p + 1) zero (suc (suc g)) zero (2 + (suc g - 1)) refl (omega arith), omega arith)
+  goes_by zero (suc g) h (Some Disj) x y z = (moved s _ (p + 1) zero (suc (suc g)) zero (2 + (suc g - 1)) refl (omega arith), omega arith)
+  goes_by zero (suc g) h (Some (Atom f k)) x y z = (moved s _ (p + 4) k g k (0 + (suc g - 1)) refl (omega arith), omega arith)
+  goes_by zero (suc g) h None x y z = absurd z
 
   -- for code that has the step r from a call
-  pub goes : (t g : ℕ) → On (traverse s p t g) → {r : NodeStep} → r ≡ next_step s p t g → (i : NodeStep) → r ≡ i → Goes s p (traverse s p t g) i
+  pub goes : (t g : ℕ) → On (traverse s p t g) → {r : Option NodeStep} → r ≡ next_step s p t g → (i : Option NodeStep) → r ≡ i → Goes s p (traverse s p t g) i
   unfolding next_step
   goes t g z is i e =
       let q = traverse_step s p t g in
@@ -74,7 +74,7 @@ end_place_before x off = refl
 end_place_before x (on l e) = refl
 
 -- what a step does to the traversal from c on
-module _ (s : List ℕ) (known : Known s) (c : Cursor) (h : On (traverse_from s c)) {r : NodeStep} (is : r ≡ next_step s c.pos c.terms c.goals) where
+module _ (s : List ℕ) (known : Known s) (c : Cursor) (h : On (traverse_from s c)) {r : Option NodeStep} (is : r ≡ next_step s c.pos c.terms c.goals) where
   reaches : (x : Node) (d : Cursor) → traverse_from s c ≡ before x (traverse_from s d) → c.pos < d.pos → To s known c h is d
   reaches x d e z =
       let y : On (traverse_from s d) = on_before x (traverse_from s d) (rw e at h) in
@@ -83,35 +83,35 @@ module _ (s : List ℕ) (known : Known s) (c : Cursor) (h : On (traverse_from s 
       let b' = on_bound s known c.pos c.terms c.goals h in
       record { through = y; end = q; forth = z; within = omega arith }
 
-  pub to_variable : {v : ℕ} {d : Cursor} → r ≡ Met v d → To s known c h is d × (met (traverse_from s c) ≡ v ∷ met (traverse_from s d)) × (v < 65536)
+  pub to_variable : {v : ℕ} {d : Cursor} → r ≡ (Some (Met v d)) → To s known c h is d × (met (traverse_from s c) ≡ v ∷ met (traverse_from s d)) × (v < 65536)
   to_variable {v} {d} e =
-      let y = goes s known c.pos c.terms c.goals h is (Met v d) e in
+      let y = goes s known c.pos c.terms c.goals h is (Some (Met v d)) e in
       let t = reaches (variable v) d y.0 y.1 in
       (t, ap met y.0 ∙ met_variable v (traverse_from s d) t.through, y.2)
 
-  pub to_other : {d : Cursor} → r ≡ Other d → To s known c h is d × (met (traverse_from s c) ≡ met (traverse_from s d))
+  pub to_other : {d : Cursor} → r ≡ (Some (Other d)) → To s known c h is d × (met (traverse_from s c) ≡ met (traverse_from s d))
   to_other {d} e =
-      let y = goes s known c.pos c.terms c.goals h is (Other d) e in
+      let y = goes s known c.pos c.terms c.goals h is (Some (Other d)) e in
       (reaches (other y.0.0) d y.0.1 y.1, ap met y.0.1 ∙ met_other y.0.0 (traverse_from s d))
 
-  pub to_end : r ≡ Done → (met (traverse_from s c) ≡ []) × (end_place (traverse_from s c) ≡ c.pos)
-  to_end e = let y = goes s known c.pos c.terms c.goals h is Done e in (ap met y, ap end_place y)
+  pub to_end : r ≡ None → (met (traverse_from s c) ≡ []) × (end_place (traverse_from s c) ≡ c.pos)
+  to_end e = let y = goes s known c.pos c.terms c.goals h is None e in (ap met y, ap end_place y)
 
 pub underway_start : {A : Type 0} (f : A → ℕ → A) (s : List ℕ) (c : Cursor) (a : A) → On (traverse_from s c) → Underway f s (traverse_from s c) a c a
 underway_start f s c a h = record { through = h; same_end = refl; same_value = refl }
 
-module _ {A : Type 0} {f : A → ℕ → A} (s : List ℕ) (known : Known s) {w : Traversal} {a₀ : A} {c : Cursor} {a : A} (u : Underway f s w a₀ c a) {r : NodeStep} (is : r ≡ next_step s c.pos c.terms c.goals) where
-  pub underway_variable : {v : ℕ} {d : Cursor} → r ≡ Met v d → Underway f s w a₀ d (f a v)
+module _ {A : Type 0} {f : A → ℕ → A} (s : List ℕ) (known : Known s) {w : Traversal} {a₀ : A} {c : Cursor} {a : A} (u : Underway f s w a₀ c a) {r : Option NodeStep} (is : r ≡ next_step s c.pos c.terms c.goals) where
+  pub underway_variable : {v : ℕ} {d : Cursor} → r ≡ (Some (Met v d)) → Underway f s w a₀ d (f a v)
   underway_variable e =
       let y = to_variable s known c u.through is e in
       record { through = y.0.through; same_end = u.same_end ∙ y.0.end; same_value = u.same_value ∙ ap (along f a) y.1 }
 
-  pub underway_other : {d : Cursor} → r ≡ Other d → Underway f s w a₀ d a
+  pub underway_other : {d : Cursor} → r ≡ (Some (Other d)) → Underway f s w a₀ d a
   underway_other e =
       let y = to_other s known c u.through is e in
       record { through = y.0.through; same_end = u.same_end ∙ y.0.end; same_value = u.same_value ∙ ap (along f a) y.1 }
 
-  pub underway_done : r ≡ Done → (along f a₀ (met w) ≡ a) × (end_place w ≡ c.pos)
+  pub underway_done : r ≡ None → (along f a₀ (met w) ≡ a) × (end_place w ≡ c.pos)
   underway_done e =
       let y = to_end s known c u.through is e in
       (u.same_value ∙ ap (along f a) y.0, u.same_end ∙ y.1)

@@ -1,6 +1,6 @@
 -- A traversal over terms and goals, a node at a time: the variables and the other nodes in their order, and where it ends.
 -- Whatever goes over a term or a goal, to find its end, its variables or its bytes under a substitution, goes over this row of nodes.
-use Rattle.std.specs.Prelude.{ℕ, ◌+◌, List, [], ◌∷◌, ◌++◌, drop}
+use Rattle.std.specs.Prelude.{ℕ, ◌+◌, List, [], ◌∷◌, ◌++◌, drop, Option, Some, None}
 use Rattle.records.specs.Format.Syntax.{Term, Terms, Goal, arity}
 use Rattle.records.specs.Format.Syntax.Term.{var, app}
 use Rattle.records.specs.Format.Syntax.Terms.{nil, cons}
@@ -9,8 +9,6 @@ use Rattle.records.specs.Format.Encode.{word}
 use Rattle.records.specs.Format.Reader.{Read, Parts, terms_of, goals_of, read}
 use Rattle.records.specs.Format.Reader.Read.{unread, found}
 use Rattle.records.specs.Format.Items.{Reader}
-use Rattle.records.specs.declared.ends.Found.{Found}
-use Rattle.records.specs.declared.ends.Found.TheVariants.{At, Nothing}
 
 -- a variable, or another node with its own bytes
 pub data Node : Type 0 where
@@ -66,22 +64,22 @@ before x off = off
 before x (on l e) = on (x ∷ l) e
 
 -- where what was found from a position on ends
-abbrev pub place_of : {A : Type 0} → ℕ → Read A → Found
-place_of at unread = Nothing
-place_of at (found a n) = At (at + n)
+abbrev pub place_of : {A : Type 0} → ℕ → Read A → Option ℕ
+place_of at unread = None
+place_of at (found a n) = Some (at + n)
 
 -- the place that was found, else 0
-abbrev pub position : Found → ℕ
-position (At e) = e
-position Nothing = 0
+abbrev pub position : Option ℕ → ℕ
+position (Some e) = e
+position None = 0
 
-unfoldable pub end_of : {A : Type 0} → Reader A → List ℕ → ℕ → Found
+unfoldable pub end_of : {A : Type 0} → Reader A → List ℕ → ℕ → Option ℕ
 end_of r s at = place_of at (r (drop at s))
 
-abbrev pub traversal_end : Traversal → Found
-traversal_end off = Nothing
-traversal_end (on l e) = At e
+abbrev pub traversal_end : Traversal → Option ℕ
+traversal_end off = None
+traversal_end (on l e) = Some e
 
 -- where t terms and then g goals end
-unfoldable pub end_at : List ℕ → ℕ → ℕ → ℕ → Found
+unfoldable pub end_at : List ℕ → ℕ → ℕ → ℕ → Option ℕ
 end_at s at t g = traversal_end (traverse s at t g)

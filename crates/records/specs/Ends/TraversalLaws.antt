@@ -1,5 +1,5 @@
 -- Laws of a traversal: it goes a node at a time by the heads, and a traversal over some terms goes on into the traversal over what follows them.
-use Rattle.std.specs.Prelude.{ℕ, zero, suc, ◌+◌, ◌≡◌, List, [], ◌∷◌, ◌++◌, length, drop}
+use Rattle.std.specs.Prelude.{ℕ, zero, suc, ◌+◌, ◌≡◌, List, [], ◌∷◌, ◌++◌, length, drop, Option, Some, None}
 use Rattle.std.proofs.Common.{add-zero, arith, ◌∙◌, append_assoc, append-nil}
 use Rattle.std.proofs.Math.Nat.{add_assoc}
 use Rattle.std.proofs.Math.Path.{refl, ap}
@@ -17,23 +17,23 @@ use Rattle.records.specs.Ends.Traversal.{Node, Traversal, terms_nodes, goal_node
 use Rattle.records.specs.Ends.Traversal.Node.{variable, other}
 use Rattle.records.specs.Ends.Traversal.Traversal.{off, on}
 use Rattle.records.specs.declared.heads.TermHead.{TermHead}
-use Rattle.records.specs.declared.heads.TermHead.TheVariants.{Variable, Symbol, NoTerm}
+use Rattle.records.specs.declared.heads.TermHead.TheVariants.{Variable, Symbol}
 use Rattle.records.specs.declared.heads.GoalHead.{GoalHead}
-use Rattle.records.specs.declared.heads.GoalHead.TheVariants.{Truth, Failure, Equal, Conj, Disj, Atom, NoGoal}
+use Rattle.records.specs.declared.heads.GoalHead.TheVariants.{Truth, Failure, Equal, Conj, Disj, Atom}
 
 -- one node, by its heads
-abbrev pub step : List ℕ → ℕ → ℕ → ℕ → TermHead → GoalHead → Traversal
+abbrev pub step : List ℕ → ℕ → ℕ → ℕ → Option TermHead → Option GoalHead → Traversal
 step s at zero zero h i = on [] at
-step s at (suc t) g (Variable v) i = before (variable v) (traverse s (at + 3) t g)
-step s at (suc t) g (Symbol f k) i = before (other (0x02 ∷ (word f ++ (k ∷ [])))) (traverse s (at + 4) (k + t) g)
-step s at (suc t) g NoTerm i = off
-step s at zero (suc g) h Truth = before (other (0x10 ∷ [])) (traverse s (at + 1) zero g)
-step s at zero (suc g) h Failure = before (other (0x11 ∷ [])) (traverse s (at + 1) zero g)
-step s at zero (suc g) h Equal = before (other (0x12 ∷ [])) (traverse s (at + 1) 2 g)
-step s at zero (suc g) h Conj = before (other (0x13 ∷ [])) (traverse s (at + 1) zero (suc (suc g)))
-step s at zero (suc g) h Disj = before (other (0x14 ∷ [])) (traverse s (at + 1) zero (suc (suc g)))
-step s at zero (suc g) h (Atom p k) = before (other (0x15 ∷ (word p ++ (k ∷ [])))) (traverse s (at + 4) k g)
-step s at zero (suc g) h NoGoal = off
+step s at (suc t) g (Some (Variable v)) i = before (variable v) (traverse s (at + 3) t g)
+step s at (suc t) g (Some (Symbol f k)) i = before (other (0x02 ∷ (word f ++ (k ∷ [])))) (traverse s (at + 4) (k + t) g)
+step s at (suc t) g None i = off
+step s at zero (suc g) h (Some Truth) = before (other (0x10 ∷ [])) (traverse s (at + 1) zero g)
+step s at zero (suc g) h (Some Failure) = before (other (0x11 ∷ [])) (traverse s (at + 1) zero g)
+step s at zero (suc g) h (Some Equal) = before (other (0x12 ∷ [])) (traverse s (at + 1) 2 g)
+step s at zero (suc g) h (Some Conj) = before (other (0x13 ∷ [])) (traverse s (at + 1) zero (suc (suc g)))
+step s at zero (suc g) h (Some Disj) = before (other (0x14 ∷ [])) (traverse s (at + 1) zero (suc (suc g)))
+step s at zero (suc g) h (Some (Atom p k)) = before (other (0x15 ∷ (word p ++ (k ∷ [])))) (traverse s (at + 4) k g)
+step s at zero (suc g) h None = off
 
 -- what a node makes of what was read after it, as a traversal
 module _ (s : List ℕ) (at : ℕ) where
@@ -77,19 +77,19 @@ atom_nodes f k (parts ts gs) e =
     rw (w.0, w.1, e)
 
 module _ (s : List ℕ) (at : ℕ) where
-  step_at : (t g : ℕ) (h : TermHead) (i : GoalHead)
+  step_at : (t g : ℕ) (h : Option TermHead) (i : Option GoalHead)
       → traversed at (node t g h i (read (drop 1 (drop at s))) (read (drop 3 (drop at s))) (read (drop 4 (drop at s)))) ≡ step s at t g h i
   step_at zero zero h i = ap (on []) (add-zero at)
-  step_at (suc t) g (Variable v) i = made s at (variable v) (over_variable v) 3 t g (λ p n w. refl)
-  step_at (suc t) g (Symbol f k) i = made s at _ (over_symbol f k) 4 (k + t) g (λ p n w. symbol_nodes f k t p w.terms)
-  step_at (suc t) g NoTerm i = refl
-  step_at zero (suc g) h Truth = made s at _ (over_goal truth) 1 zero g (λ p n w. goal_nodes_first _ truth p refl w.terms)
-  step_at zero (suc g) h Failure = made s at _ (over_goal failure) 1 zero g (λ p n w. goal_nodes_first _ failure p refl w.terms)
-  step_at zero (suc g) h Equal = made s at _ over_equal 1 2 g (λ p n w. equal_nodes p w.terms)
-  step_at zero (suc g) h Conj = made s at _ (over_pair conj) 1 zero (suc (suc g)) (λ p n w. pair_nodes conj _ (λ _ _. refl) g p w.terms w.goals)
-  step_at zero (suc g) h Disj = made s at _ (over_pair disj) 1 zero (suc (suc g)) (λ p n w. pair_nodes disj _ (λ _ _. refl) g p w.terms w.goals)
-  step_at zero (suc g) h (Atom f k) = made s at _ (over_atom f k) 4 k g (λ p n w. atom_nodes f k p w.terms)
-  step_at zero (suc g) h NoGoal = refl
+  step_at (suc t) g (Some (Variable v)) i = made s at (variable v) (over_variable v) 3 t g (λ p n w. refl)
+  step_at (suc t) g (Some (Symbol f k)) i = made s at _ (over_symbol f k) 4 (k + t) g (λ p n w. symbol_nodes f k t p w.terms)
+  step_at (suc t) g None i = refl
+  step_at zero (suc g) h (Some Truth) = made s at _ (over_goal truth) 1 zero g (λ p n w. goal_nodes_first _ truth p refl w.terms)
+  step_at zero (suc g) h (Some Failure) = made s at _ (over_goal failure) 1 zero g (λ p n w. goal_nodes_first _ failure p refl w.terms)
+  step_at zero (suc g) h (Some Equal) = made s at _ over_equal 1 2 g (λ p n w. equal_nodes p w.terms)
+  step_at zero (suc g) h (Some Conj) = made s at _ (over_pair conj) 1 zero (suc (suc g)) (λ p n w. pair_nodes conj _ (λ _ _. refl) g p w.terms w.goals)
+  step_at zero (suc g) h (Some Disj) = made s at _ (over_pair disj) 1 zero (suc (suc g)) (λ p n w. pair_nodes disj _ (λ _ _. refl) g p w.terms w.goals)
+  step_at zero (suc g) h (Some (Atom f k)) = made s at _ (over_atom f k) 4 k g (λ p n w. atom_nodes f k p w.terms)
+  step_at zero (suc g) h None = refl
 
   -- the one law of a traversal
   pub traverse_step : (t g : ℕ) → traverse s at t g ≡ step s at t g (term_head_at s at) (goal_head_at s at)

@@ -1,5 +1,5 @@
 -- The readers of ancestors, pairs, bets, stacks, events, definitions and clauses are exact, each for its layout.
-use Rattle.std.specs.Prelude.{ℕ, ◌≡◌, refl, Bool, true, false, ◌||◌, List, [], ◌∷◌, ◌++◌, eqb, length}
+use Rattle.std.specs.Prelude.{ℕ, ◌≡◌, refl, Bool, true, false, ◌||◌, List, [], ◌∷◌, ◌++◌, eqb, length, Option, Some, None}
 use Rattle.std.proofs.Common.{arith, sym, ap, ◌∙◌, append-nil, le-leb, eqb-true}
 use Rattle.records.specs.Format.Never.{never}
 use Rattle.records.specs.Format.Syntax.{Terms, Half, Ancestor, Binding, Bet, Definition, Clause, arity, Port, Event}
@@ -22,13 +22,10 @@ use Rattle.records.specs.Format.Items.{many, first_term, first_goal, second_goal
 use Rattle.records.specs.Format.Items.Stacks.{stacks}
 use Rattle.records.specs.Format.ItemLaws.{Laid, Exact, PartsFormed, parts_exact, also_laid, many_exact, after_laid, after_complete, counted_exact, goal_exact}
 use Rattle.records.specs.declared.heads.AncestorHead.{AncestorHead}
-use Rattle.records.specs.declared.heads.AncestorHead.TheVariants.{Called, InConj, InDisj, NoAncestor}
+use Rattle.records.specs.declared.heads.AncestorHead.TheVariants.{Called, InConj, InDisj}
 use Rattle.records.specs.declared.heads.BetHead.{BetHead}
-use Rattle.records.specs.declared.heads.BetHead.TheVariants.{Unifier, Or, By, NoBet}
-use Rattle.records.specs.declared.heads.Word.{Word}
-use Rattle.records.specs.declared.heads.Word.TheVariants.{Number, Short}
+use Rattle.records.specs.declared.heads.BetHead.TheVariants.{Unifier, Or, By}
 use Rattle.records.specs.declared.heads.Signature.{Signature}
-use Rattle.records.specs.declared.heads.Signature.TheVariants.{Predicate, NoPredicate}
 use Rattle.records.specs.Format.Syntax.Port.{call, exit, fail, redo}
 use Rattle.records.specs.Format.Syntax.Event.{event}
 use Rattle.records.specs.Format.Items.EventFrame.{frame}
@@ -99,17 +96,17 @@ ancestor_exact = record { complete = whole; sound = λ l b a n e. back l b (ance
     whole (in_disj d x y) h s =
         rw (tag_is d, half_tag d, read_on 0 2 (parts nil (x ∷ y ∷ [])) s (goal_bytes x ++ goal_bytes y) (refl, refl, tt, (h.0, (h.1, tt))) (simp append-nil)) (ap (found (in_disj d x y)) (omega arith))
 
-    back : (l : List ℕ) → Bytes l → (i : AncestorHead) → AncestorLead l i → (a : Ancestor) (n : ℕ) → ancestor_by i l ≡ found a n → Laid ancestor_bytes AncestorFormed l a n
-    back l b (Called p k) q =
+    back : (l : List ℕ) → Bytes l → (i : Option AncestorHead) → AncestorLead l i → (a : Ancestor) (n : ℕ) → ancestor_by i l ≡ found a n → Laid ancestor_bytes AncestorFormed l a n
+    back l b (Some (Called p k)) q =
         also_laid (0x15 ∷ (word p ++ (k ∷ []))) (λ w. called p (terms_of w)) (λ m. read m k 0) l q.0 (parts_exact k 0) b
         (λ w h. (ap (λ (n : ℕ). 0x15 ∷ (word p ++ (n ∷ terms_bytes (terms_of w)))) h.0 ∙ ap (λ (x : List ℕ). 0x15 ∷ (word p ++ (k ∷ x))) (sym (only_terms w h.1)), (q.1, rw h.0 q.2, h.2)))
-    back l b (InConj k) q =
+    back l b (Some (InConj k)) q =
         also_laid (0x30 ∷ (k ∷ [])) (λ w. in_conj (half_of k) (first_goal w) (second_goal w)) (λ m. read m 0 2) l q.0 (parts_exact 0 2) b
         (λ w h. let v = two_goals w h in (rw (tag_half k q.1) (ap (λ (x : List ℕ). 0x30 ∷ (k ∷ x)) (sym v.0)), (v.1, v.2)))
-    back l b (InDisj k) q =
+    back l b (Some (InDisj k)) q =
         also_laid (0x31 ∷ (k ∷ [])) (λ w. in_disj (half_of k) (first_goal w) (second_goal w)) (λ m. read m 0 2) l q.0 (parts_exact 0 2) b
         (λ w h. let v = two_goals w h in (rw (tag_half k q.1) (ap (λ (x : List ℕ). 0x31 ∷ (k ∷ x)) (sym v.0)), (v.1, v.2)))
-    back l b NoAncestor q = λ a n e. unread_found e
+    back l b None q = λ a n e. unread_found e
 
 pub binding_exact : Exact binding_bytes BindingFormed read_binding
 unfolding read_binding
@@ -119,10 +116,10 @@ binding_exact = record { complete = whole; sound = λ l b a n e. back l b (word_
     whole (bind v t) h s =
         rw (joined_word v h.0, read_on 1 0 (parts (cons t nil) []) s (term_bytes t) (refl, refl, (h.1, tt), tt) (simp append-nil)) (ap (found (bind v t)) (omega arith))
 
-    back : (l : List ℕ) → Bytes l → (i : Word) → WordLead l i → (a : Binding) (n : ℕ) → binding_by i l ≡ found a n → Laid binding_bytes BindingFormed l a n
-    back l b (Number v) q =
+    back : (l : List ℕ) → Bytes l → (i : Option ℕ) → WordLead l i → (a : Binding) (n : ℕ) → binding_by i l ≡ found a n → Laid binding_bytes BindingFormed l a n
+    back l b (Some v) q =
         also_laid (word v) (λ w. bind v (first_term w)) (λ m. read m 1 0) l q.0 (parts_exact 1 0) b (λ w h. let u = one_term w h in (ap (λ (x : List ℕ). word v ++ x) (sym u.0), (q.1, u.1)))
-    back l b Short q = λ a n e. unread_found e
+    back l b None q = λ a n e. unread_found e
 
 pub bet_exact : Exact bet_bytes BetFormed read_bet
 unfolding read_bet
@@ -133,17 +130,17 @@ bet_exact = record { complete = whole; sound = λ l b a n e. back l b (bet_head 
     whole (or d) h s = rw (tag_is d, half_tag d)
     whole (by g) h s = rw (read_on 0 1 (parts nil (g ∷ [])) s (goal_bytes g) (refl, refl, tt, (h, tt)) (simp append-nil)) (ap (found (by g)) (omega arith))
 
-    back : (l : List ℕ) → Bytes l → (i : BetHead) → BetLead l i → (a : Bet) (n : ℕ) → bet_by i l ≡ found a n → Laid bet_bytes BetFormed l a n
-    back l b (Unifier n) q =
+    back : (l : List ℕ) → Bytes l → (i : Option BetHead) → BetLead l i → (a : Bet) (n : ℕ) → bet_by i l ≡ found a n → Laid bet_bytes BetFormed l a n
+    back l b (Some (Unifier n)) q =
         also_laid (0x20 ∷ word n) unifier (many read_binding n) l q.0 (many_exact binding_exact n) b
         (λ bs h. (ap (λ (k : ℕ). 0x20 ∷ (word k ++ each binding_bytes bs)) h.0, (rw h.0 q.1, h.1)))
-    back l b (Or k) q = λ a n e.
+    back l b (Some (Or k)) q = λ a n e.
         let a1 : or (half_of k) ≡ a = cc in
         let a2 : 2 ≡ n = cc in
         rw (← a1, ← a2) (record { formed = tt; size = refl; front = rw (tag_half k q.1) q.0 })
-    back l b By q =
+    back l b (Some By) q =
         also_laid (0x22 ∷ []) (λ w. by (first_goal w)) (λ m. read m 0 1) l q (parts_exact 0 1) b (λ w h. let u = sole_goal w h in (ap (λ (x : List ℕ). 0x22 ∷ x) (sym u.0), u.1))
-    back l b NoBet q = λ a n e. unread_found e
+    back l b None q = λ a n e. unread_found e
 
 pub definition_exact : Exact definition_bytes DefinitionFormed read_definition
 unfolding read_definition
@@ -153,11 +150,11 @@ definition_exact = record { complete = whole; sound = λ l b a n e. back l b (de
     whole (definition p k n g) h s =
         rw (le-leb k 16 h.1, joined_word p h.0, read_on 0 1 (parts nil (g ∷ [])) s (goal_bytes g) (refl, refl, tt, (h.3, tt)) (simp append-nil)) (ap (found (definition p k n g)) (omega arith))
 
-    back : (l : List ℕ) → Bytes l → (i : Signature) → DefinitionLead l i → (a : Definition) (n : ℕ) → definition_by i l ≡ found a n → Laid definition_bytes DefinitionFormed l a n
-    back l b (Predicate p k n) q =
-        also_laid (word p ++ (k ∷ (n ∷ []))) (λ w. definition p k n (first_goal w)) (λ m. read m 0 1) l q.0 (parts_exact 0 1) b
-        (λ w h. let u = sole_goal w h in (ap (λ (x : List ℕ). word p ++ (k ∷ (n ∷ x))) (sym u.0), (q.1, q.2, q.3, u.1)))
-    back l b NoPredicate q = λ a n e. unread_found e
+    back : (l : List ℕ) → Bytes l → (i : Option Signature) → DefinitionLead l i → (a : Definition) (n : ℕ) → definition_by i l ≡ found a n → Laid definition_bytes DefinitionFormed l a n
+    back l b (Some d) q =
+        also_laid (word d.predicate ++ (d.arity ∷ (d.count ∷ []))) (λ w. definition d.predicate d.arity d.count (first_goal w)) (λ m. read m 0 1) l q.0 (parts_exact 0 1) b
+        (λ w h. let u = sole_goal w h in (ap (λ (x : List ℕ). word d.predicate ++ (d.arity ∷ (d.count ∷ x))) (sym u.0), (q.1, q.2, q.3, u.1)))
+    back l b None q = λ a n e. unread_found e
 
 pub clause_exact : Exact clause_bytes ClauseFormed read_clause
 unfolding read_clause
@@ -168,14 +165,14 @@ clause_exact = record { complete = whole; sound = λ l b a n e. back l b (clause
         rw (le-leb (arity ts) 16 h.1, le-leb v 64 h.2, joined_word p h.0, read_on (arity ts) 1 (parts ts (g ∷ [])) s (terms_bytes ts ++ goal_bytes g) (refl, refl, h.3, (h.4, tt)) (simp append-nil))
         (ap (found (clause p v ts g)) (omega arith))
 
-    back : (l : List ℕ) → Bytes l → (i : Signature) → ClauseLead l i → (a : Clause) (n : ℕ) → clause_by i l ≡ found a n → Laid clause_bytes ClauseFormed l a n
-    back l b (Predicate p k v) q =
-        also_laid (word p ++ (k ∷ (v ∷ []))) (λ w. clause p v (terms_of w) (first_goal w)) (λ m. read m k 1) l q.0 (parts_exact k 1) b
-        (λ w h. let u = one_goal k w h in (
-          ap (λ (n : ℕ). word p ++ (n ∷ (v ∷ (terms_bytes (terms_of w) ++ goal_bytes (first_goal w))))) h.0 ∙ ap (λ (x : List ℕ). word p ++ (k ∷ (v ∷ x))) (sym u.0),
+    back : (l : List ℕ) → Bytes l → (i : Option Signature) → ClauseLead l i → (a : Clause) (n : ℕ) → clause_by i l ≡ found a n → Laid clause_bytes ClauseFormed l a n
+    back l b (Some d) q =
+        also_laid (word d.predicate ++ (d.arity ∷ (d.count ∷ []))) (λ w. clause d.predicate d.count (terms_of w) (first_goal w)) (λ m. read m d.arity 1) l q.0 (parts_exact d.arity 1) b
+        (λ w h. let u = one_goal d.arity w h in (
+          ap (λ (n : ℕ). word d.predicate ++ (n ∷ (d.count ∷ (terms_bytes (terms_of w) ++ goal_bytes (first_goal w))))) h.0 ∙ ap (λ (x : List ℕ). word d.predicate ++ (d.arity ∷ (d.count ∷ x))) (sym u.0),
           (q.1, rw h.0 q.2, q.3, h.2, u.1),
         ))
-    back l b NoPredicate q = λ a n e. unread_found e
+    back l b None q = λ a n e. unread_found e
 
 stacks_bytes : Stacks → List ℕ
 stacks_bytes (stacks u s) = counted ancestor_bytes u ++ counted bet_bytes s

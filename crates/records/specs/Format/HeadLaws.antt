@@ -1,21 +1,18 @@
 -- What a head says of the bytes that it was read from, if they are bytes.
-use Rattle.std.specs.Prelude.{ℕ, zero, suc, ◌<◌, ◌≤◌, ◌/◌, ◌%◌, ◌≡◌, refl, Bool, true, false, List, [], ◌∷◌, ◌++◌, eqb, leb, take, drop, get_or}
+use Rattle.std.specs.Prelude.{ℕ, zero, suc, ◌<◌, ◌≤◌, ◌/◌, ◌%◌, ◌≡◌, refl, Bool, true, false, List, [], ◌∷◌, ◌++◌, eqb, leb, take, drop, get_or, Option, Some, None}
 use Rattle.std.proofs.Common.{arith, Fits, eqb-true, leb-true}
 use Rattle.std.specs.Int.{w8}
 use Rattle.records.specs.Format.Encode.{word}
 use Rattle.records.specs.Format.Heads.{pick, joined, term_head, symbol_head, goal_head, atom_head, ancestor_head, half_head, called_or, is_tag, word_head, bet_head, unifier_head, or_head, definition_head, clause_head, clause_of}
 use Rattle.records.specs.declared.heads.TermHead.{TermHead}
-use Rattle.records.specs.declared.heads.TermHead.TheVariants.{Variable, Symbol, NoTerm}
+use Rattle.records.specs.declared.heads.TermHead.TheVariants.{Variable, Symbol}
 use Rattle.records.specs.declared.heads.GoalHead.{GoalHead}
-use Rattle.records.specs.declared.heads.GoalHead.TheVariants.{Truth, Failure, Equal, Conj, Disj, Atom, NoGoal}
+use Rattle.records.specs.declared.heads.GoalHead.TheVariants.{Truth, Failure, Equal, Conj, Disj, Atom}
 use Rattle.records.specs.declared.heads.AncestorHead.{AncestorHead}
-use Rattle.records.specs.declared.heads.AncestorHead.TheVariants.{Called, InConj, InDisj, NoAncestor}
+use Rattle.records.specs.declared.heads.AncestorHead.TheVariants.{Called, InConj, InDisj}
 use Rattle.records.specs.declared.heads.BetHead.{BetHead}
-use Rattle.records.specs.declared.heads.BetHead.TheVariants.{Unifier, Or, By, NoBet}
-use Rattle.records.specs.declared.heads.Word.{Word}
-use Rattle.records.specs.declared.heads.Word.TheVariants.{Number, Short}
+use Rattle.records.specs.declared.heads.BetHead.TheVariants.{Unifier, Or, By}
 use Rattle.records.specs.declared.heads.Signature.{Signature}
-use Rattle.records.specs.declared.heads.Signature.TheVariants.{Predicate, NoPredicate}
 
 -- every element is a byte
 abbrev pub Bytes : List ℕ → Type 0
@@ -58,46 +55,46 @@ word_joined x y hx hy r =
 pub joined_word : (n : ℕ) → n < 65536 → joined (n / 256 % 256) (n % 256) ≡ n
 joined_word n h = omega arith
 
-abbrev pub TermLead : List ℕ → TermHead → Type 0
-TermLead l (Variable v) = (l ≡ 0x01 ∷ (word v ++ drop 3 l)) × (v < 65536)
-TermLead l (Symbol f k) = (l ≡ 0x02 ∷ (word f ++ (k ∷ drop 4 l))) × (f < 65536) × (k ≤ 16)
-TermLead l NoTerm = Unit {0}
+abbrev pub TermLead : List ℕ → Option TermHead → Type 0
+TermLead l (Some (Variable v)) = (l ≡ 0x01 ∷ (word v ++ drop 3 l)) × (v < 65536)
+TermLead l (Some (Symbol f k)) = (l ≡ 0x02 ∷ (word f ++ (k ∷ drop 4 l))) × (f < 65536) × (k ≤ 16)
+TermLead l None = Unit {0}
 
-abbrev pub GoalLead : List ℕ → GoalHead → Type 0
-GoalLead l Truth = l ≡ 0x10 ∷ drop 1 l
-GoalLead l Failure = l ≡ 0x11 ∷ drop 1 l
-GoalLead l Equal = l ≡ 0x12 ∷ drop 1 l
-GoalLead l Conj = l ≡ 0x13 ∷ drop 1 l
-GoalLead l Disj = l ≡ 0x14 ∷ drop 1 l
-GoalLead l (Atom p k) = (l ≡ 0x15 ∷ (word p ++ (k ∷ drop 4 l))) × (p < 65536) × (k ≤ 16)
-GoalLead l NoGoal = Unit {0}
+abbrev pub GoalLead : List ℕ → Option GoalHead → Type 0
+GoalLead l (Some Truth) = l ≡ 0x10 ∷ drop 1 l
+GoalLead l (Some Failure) = l ≡ 0x11 ∷ drop 1 l
+GoalLead l (Some Equal) = l ≡ 0x12 ∷ drop 1 l
+GoalLead l (Some Conj) = l ≡ 0x13 ∷ drop 1 l
+GoalLead l (Some Disj) = l ≡ 0x14 ∷ drop 1 l
+GoalLead l (Some (Atom p k)) = (l ≡ 0x15 ∷ (word p ++ (k ∷ drop 4 l))) × (p < 65536) × (k ≤ 16)
+GoalLead l None = Unit {0}
 
 abbrev pub IsTag : ℕ → Type 0
 IsTag k = is_tag k ≡ true
 
-abbrev pub AncestorLead : List ℕ → AncestorHead → Type 0
-AncestorLead l (Called p k) = (l ≡ 0x15 ∷ (word p ++ (k ∷ drop 4 l))) × (p < 65536) × (k ≤ 16)
-AncestorLead l (InConj k) = (l ≡ 0x30 ∷ (k ∷ drop 2 l)) × IsTag k
-AncestorLead l (InDisj k) = (l ≡ 0x31 ∷ (k ∷ drop 2 l)) × IsTag k
-AncestorLead l NoAncestor = Unit {0}
+abbrev pub AncestorLead : List ℕ → Option AncestorHead → Type 0
+AncestorLead l (Some (Called p k)) = (l ≡ 0x15 ∷ (word p ++ (k ∷ drop 4 l))) × (p < 65536) × (k ≤ 16)
+AncestorLead l (Some (InConj k)) = (l ≡ 0x30 ∷ (k ∷ drop 2 l)) × IsTag k
+AncestorLead l (Some (InDisj k)) = (l ≡ 0x31 ∷ (k ∷ drop 2 l)) × IsTag k
+AncestorLead l None = Unit {0}
 
-abbrev pub WordLead : List ℕ → Word → Type 0
-WordLead l (Number n) = (l ≡ word n ++ drop 2 l) × (n < 65536)
-WordLead l Short = Unit {0}
+abbrev pub WordLead : List ℕ → Option ℕ → Type 0
+WordLead l (Some n) = (l ≡ word n ++ drop 2 l) × (n < 65536)
+WordLead l None = Unit {0}
 
-abbrev pub BetLead : List ℕ → BetHead → Type 0
-BetLead l (Unifier n) = (l ≡ 0x20 ∷ (word n ++ drop 3 l)) × (n < 65536)
-BetLead l (Or k) = (l ≡ 0x21 ∷ (k ∷ drop 2 l)) × IsTag k
-BetLead l By = l ≡ 0x22 ∷ drop 1 l
-BetLead l NoBet = Unit {0}
+abbrev pub BetLead : List ℕ → Option BetHead → Type 0
+BetLead l (Some (Unifier n)) = (l ≡ 0x20 ∷ (word n ++ drop 3 l)) × (n < 65536)
+BetLead l (Some (Or k)) = (l ≡ 0x21 ∷ (k ∷ drop 2 l)) × IsTag k
+BetLead l (Some By) = l ≡ 0x22 ∷ drop 1 l
+BetLead l None = Unit {0}
 
-abbrev pub DefinitionLead : List ℕ → Signature → Type 0
-DefinitionLead l (Predicate p k n) = (l ≡ word p ++ (k ∷ (n ∷ drop 4 l))) × (p < 65536) × (k ≤ 16) × (n < 256)
-DefinitionLead l NoPredicate = Unit {0}
+abbrev pub DefinitionLead : List ℕ → Option Signature → Type 0
+DefinitionLead l (Some d) = (l ≡ word d.predicate ++ (d.arity ∷ (d.count ∷ drop 4 l))) × (d.predicate < 65536) × (d.arity ≤ 16) × (d.count < 256)
+DefinitionLead l None = Unit {0}
 
-abbrev pub ClauseLead : List ℕ → Signature → Type 0
-ClauseLead l (Predicate p k v) = (l ≡ word p ++ (k ∷ (v ∷ drop 4 l))) × (p < 65536) × (k ≤ 16) × (v ≤ 64)
-ClauseLead l NoPredicate = Unit {0}
+abbrev pub ClauseLead : List ℕ → Option Signature → Type 0
+ClauseLead l (Some d) = (l ≡ word d.predicate ++ (d.arity ∷ (d.count ∷ drop 4 l))) × (d.predicate < 65536) × (d.arity ≤ 16) × (d.count ≤ 64)
+ClauseLead l None = Unit {0}
 
 -- a kind byte that passed its test, before bytes that are known
 kind : (b c : ℕ) (l r : List ℕ) → eqb b c ≡ true → l ≡ r → b ∷ l ≡ c ∷ r
@@ -143,14 +140,14 @@ half_lead (b ∷ k ∷ l) =
     (λ _. by_test (AncestorLead (b ∷ k ∷ l)) (eqb b 0x31) _ _ (λ e. (kind b 0x31 _ _ e refl, q)) (λ _. tt)))
     (λ _. tt)
 
-called_lead : (l : List ℕ) (h : GoalHead) (i : AncestorHead) → GoalLead l h → AncestorLead l i → AncestorLead l (called_or h i)
-called_lead l Truth i p q = q
-called_lead l Failure i p q = q
-called_lead l Equal i p q = q
-called_lead l Conj i p q = q
-called_lead l Disj i p q = q
-called_lead l (Atom f k) i p q = p
-called_lead l NoGoal i p q = q
+called_lead : (l : List ℕ) (h : Option GoalHead) (i : Option AncestorHead) → GoalLead l h → AncestorLead l i → AncestorLead l (called_or h i)
+called_lead l (Some Truth) i p q = q
+called_lead l (Some Failure) i p q = q
+called_lead l (Some Equal) i p q = q
+called_lead l (Some Conj) i p q = q
+called_lead l (Some Disj) i p q = q
+called_lead l (Some (Atom f k)) i p q = p
+called_lead l None i p q = q
 
 pub ancestor_lead : (l : List ℕ) → Bytes l → AncestorLead l (ancestor_head l)
 ancestor_lead l h = called_lead l (goal_head l) (half_head l) (goal_lead l h) (half_lead l)
@@ -160,9 +157,9 @@ word_lead [] h = tt
 word_lead (x ∷ []) h = tt
 word_lead (x ∷ y ∷ l) h = (word_joined x y h.0 h.1.0 l, omega arith)
 
-unifier_lead : (b : ℕ) (l : List ℕ) (w : Word) → WordLead l w → eqb b 0x20 ≡ true → BetLead (b ∷ l) (unifier_head w)
-unifier_lead b l (Number n) q e = (kind b 0x20 _ _ e q.0, q.1)
-unifier_lead b l Short q e = tt
+unifier_lead : (b : ℕ) (l : List ℕ) (w : Option ℕ) → WordLead l w → eqb b 0x20 ≡ true → BetLead (b ∷ l) (unifier_head w)
+unifier_lead b l (Some n) q e = (kind b 0x20 _ _ e q.0, q.1)
+unifier_lead b l None q e = tt
 
 or_lead : (b : ℕ) (l : List ℕ) → eqb b 0x21 ≡ true → BetLead (b ∷ l) (or_head l)
 or_lead b [] e = tt
@@ -184,9 +181,9 @@ definition_lead (x ∷ y ∷ k ∷ n ∷ l) h =
     by_test (DefinitionLead (x ∷ y ∷ k ∷ n ∷ l)) (leb k 16) _ _
     (λ q. (word_joined x y h.0 h.1.0 (k ∷ n ∷ l), omega arith, leb-true k 16 q, h.1.1.1.0)) (λ _. tt)
 
-clause_lead_of : (l : List ℕ) (h : Signature) → DefinitionLead l h → ClauseLead l (clause_of h)
-clause_lead_of l (Predicate p k v) q = by_test (ClauseLead l) (leb v 64) _ _ (λ e. (q.0, q.1, q.2, leb-true v 64 e)) (λ _. tt)
-clause_lead_of l NoPredicate q = tt
+clause_lead_of : (l : List ℕ) (h : Option Signature) → DefinitionLead l h → ClauseLead l (clause_of h)
+clause_lead_of l (Some d) q = by_test (ClauseLead l) (leb d.count 64) _ _ (λ e. (q.0, q.1, q.2, leb-true d.count 64 e)) (λ _. tt)
+clause_lead_of l None q = tt
 
 pub clause_lead : (l : List ℕ) → Bytes l → ClauseLead l (clause_head l)
 clause_lead l h = clause_lead_of l (definition_head l) (definition_lead l h)

@@ -1,7 +1,7 @@
 -- Each reader is exact for its layout: the bytes of what is well formed are read back, and what is read is well formed and has the bytes read.
 use Prim.Native.Nat.{ℕ, zero, suc, ◌+◌}
 use Rattle.std.proofs.Common.{add-zero, arith, sym, ap, ◌∙◌, length-append, drop-drop, drop_at}
-use Rattle.std.specs.Prelude.{◌≡◌, length, drop}
+use Rattle.std.specs.Prelude.{◌≡◌, length, drop, Option, Some, None}
 use Rattle.std.proofs.Math.Path.{refl}
 use mathlib.Core.List.{List, [], ◌∷◌, ◌++◌, append_assoc, append-nil}
 use Rattle.records.specs.Format.Never.{never}
@@ -16,8 +16,6 @@ use Rattle.records.specs.Format.Reader.Read.{unread, found}
 use Rattle.records.specs.Format.Reader.Parts.{parts}
 use Rattle.records.specs.Format.ReaderLaws.{complete_terms, complete_goal, parts_bytes, over_terms, read_done, sound, ReadSound}
 use Rattle.records.specs.Format.Items.{Reader, then_read, made, many, counted_by, read_counted, first_goal, read_goal}
-use Rattle.records.specs.declared.heads.Word.{Word}
-use Rattle.records.specs.declared.heads.Word.TheVariants.{Number, Short}
 
 -- the bytes of a, which is well formed, are the first n of l
 pub record Laid {A : Type 0} (bytes : A → List ℕ) (Formed : A → Type 0) (l : List ℕ) (a : A) (n : ℕ) : Type 0 where
@@ -128,10 +126,10 @@ module _ {A : Type 0} {bytes : A → List ℕ} {Formed : A → Type 0} {r : Read
       whole : (xs : List A) → Counted Formed xs → (s : List ℕ) → read_counted r (counted bytes xs ++ s) ≡ found xs (length (counted bytes xs))
       whole xs h s = rw (joined_word (length xs) h.0, (many_exact (length xs)).complete xs (refl, h.1) s) (ap (found xs) (omega arith))
 
-      back : (l : List ℕ) → Bytes l → (k : Word) → WordLead l k → (xs : List A) (m : ℕ) → counted_by r k l ≡ found xs m → Laid (counted bytes) (Counted Formed) l xs m
-      back l h (Number n) q xs m e =
+      back : (l : List ℕ) → Bytes l → (k : Option ℕ) → WordLead l k → (xs : List A) (m : ℕ) → counted_by r k l ≡ found xs m → Laid (counted bytes) (Counted Formed) l xs m
+      back l h (Some n) q xs m e =
           also_laid (word n) (λ x. x) (many r n) l q.0 (many_exact n) h (λ b v. (ap (λ (k : ℕ). word k ++ each bytes b) v.0, (rw v.0 q.1, v.1))) xs m e
-      back l h Short q xs m e = never cc
+      back l h None q xs m e = never cc
 
 -- one goal
 pub goal_exact : Exact goal_bytes GoalFormed read_goal

@@ -1,5 +1,5 @@
 -- The executable readers of ancestors, pairs, bets, stacks, events, definitions and clauses: a head, and then what it announces.
-use Rattle.std.specs.Prelude.{ℕ, zero, suc, List, [], ◌∷◌, eqb, drop}
+use Rattle.std.specs.Prelude.{ℕ, zero, suc, List, [], ◌∷◌, eqb, drop, Option, Some, None}
 use Rattle.records.specs.Format.Syntax.{Term, Goal, Half, Ancestor, Binding, Bet, Port, Event, Definition, Clause}
 use Rattle.records.specs.Format.Syntax.Term.{var}
 use Rattle.records.specs.Format.Syntax.Terms.{nil, cons}
@@ -17,13 +17,10 @@ use Rattle.records.specs.Format.Reader.{Read, Parts, also, terms_of, read}
 use Rattle.records.specs.Format.Reader.Read.{unread, found}
 use Rattle.records.specs.Format.Reader.Parts.{parts}
 use Rattle.records.specs.declared.heads.AncestorHead.{AncestorHead}
-use Rattle.records.specs.declared.heads.AncestorHead.TheVariants.{Called, InConj, InDisj, NoAncestor}
+use Rattle.records.specs.declared.heads.AncestorHead.TheVariants.{Called, InConj, InDisj}
 use Rattle.records.specs.declared.heads.BetHead.{BetHead}
-use Rattle.records.specs.declared.heads.BetHead.TheVariants.{Unifier, Or, By, NoBet}
-use Rattle.records.specs.declared.heads.Word.{Word}
-use Rattle.records.specs.declared.heads.Word.TheVariants.{Number, Short}
+use Rattle.records.specs.declared.heads.BetHead.TheVariants.{Unifier, Or, By}
 use Rattle.records.specs.declared.heads.Signature.{Signature}
-use Rattle.records.specs.declared.heads.Signature.TheVariants.{Predicate, NoPredicate}
 
 abbrev pub Reader : Type 0 → Type 0
 Reader A = List ℕ → Read A
@@ -44,9 +41,9 @@ many r zero l = found [] 0
 many r (suc n) l = then_read ◌∷◌ (r l) (many r n) l
 
 -- a two-byte count, and so many
-abbrev pub counted_by : {A : Type 0} → Reader A → Word → Reader (List A)
-counted_by r (Number n) l = also (λ x. x) 2 (many r n (drop 2 l))
-counted_by r Short l = unread
+abbrev pub counted_by : {A : Type 0} → Reader A → Option ℕ → Reader (List A)
+counted_by r (Some n) l = also (λ x. x) 2 (many r n (drop 2 l))
+counted_by r None l = unread
 
 unfoldable pub read_counted : {A : Type 0} → Reader A → Reader (List A)
 read_counted r l = counted_by r (word_head l) l
@@ -72,41 +69,41 @@ read_goal l = made first_goal (read l 0 1)
 abbrev pub half_of : ℕ → Half
 half_of k = pick (eqb k 1) first second
 
-abbrev pub ancestor_by : AncestorHead → Reader Ancestor
-ancestor_by (Called p k) l = also (λ q. called p (terms_of q)) 4 (read (drop 4 l) k 0)
-ancestor_by (InConj k) l = also (λ q. in_conj (half_of k) (first_goal q) (second_goal q)) 2 (read (drop 2 l) 0 2)
-ancestor_by (InDisj k) l = also (λ q. in_disj (half_of k) (first_goal q) (second_goal q)) 2 (read (drop 2 l) 0 2)
-ancestor_by NoAncestor l = unread
+abbrev pub ancestor_by : Option AncestorHead → Reader Ancestor
+ancestor_by (Some (Called p k)) l = also (λ q. called p (terms_of q)) 4 (read (drop 4 l) k 0)
+ancestor_by (Some (InConj k)) l = also (λ q. in_conj (half_of k) (first_goal q) (second_goal q)) 2 (read (drop 2 l) 0 2)
+ancestor_by (Some (InDisj k)) l = also (λ q. in_disj (half_of k) (first_goal q) (second_goal q)) 2 (read (drop 2 l) 0 2)
+ancestor_by None l = unread
 
 unfoldable pub read_ancestor : Reader Ancestor
 read_ancestor l = ancestor_by (ancestor_head l) l
 
-abbrev pub binding_by : Word → Reader Binding
-binding_by (Number v) l = also (λ q. bind v (first_term q)) 2 (read (drop 2 l) 1 0)
-binding_by Short l = unread
+abbrev pub binding_by : Option ℕ → Reader Binding
+binding_by (Some v) l = also (λ q. bind v (first_term q)) 2 (read (drop 2 l) 1 0)
+binding_by None l = unread
 
 unfoldable pub read_binding : Reader Binding
 read_binding l = binding_by (word_head l) l
 
-abbrev pub bet_by : BetHead → Reader Bet
-bet_by (Unifier n) l = also unifier 3 (many read_binding n (drop 3 l))
-bet_by (Or k) l = found (or (half_of k)) 2
-bet_by By l = also (λ q. by (first_goal q)) 1 (read (drop 1 l) 0 1)
-bet_by NoBet l = unread
+abbrev pub bet_by : Option BetHead → Reader Bet
+bet_by (Some (Unifier n)) l = also unifier 3 (many read_binding n (drop 3 l))
+bet_by (Some (Or k)) l = found (or (half_of k)) 2
+bet_by (Some By) l = also (λ q. by (first_goal q)) 1 (read (drop 1 l) 0 1)
+bet_by None l = unread
 
 unfoldable pub read_bet : Reader Bet
 read_bet l = bet_by (bet_head l) l
 
-abbrev pub definition_by : Signature → Reader Definition
-definition_by (Predicate p k n) l = also (λ q. definition p k n (first_goal q)) 4 (read (drop 4 l) 0 1)
-definition_by NoPredicate l = unread
+abbrev pub definition_by : Option Signature → Reader Definition
+definition_by (Some d) l = also (λ q. definition d.predicate d.arity d.count (first_goal q)) 4 (read (drop 4 l) 0 1)
+definition_by None l = unread
 
 unfoldable pub read_definition : Reader Definition
 read_definition l = definition_by (definition_head l) l
 
-abbrev pub clause_by : Signature → Reader Clause
-clause_by (Predicate p k v) l = also (λ q. clause p v (terms_of q) (first_goal q)) 4 (read (drop 4 l) k 1)
-clause_by NoPredicate l = unread
+abbrev pub clause_by : Option Signature → Reader Clause
+clause_by (Some d) l = also (λ q. clause d.predicate d.count (terms_of q) (first_goal q)) 4 (read (drop 4 l) d.arity 1)
+clause_by None l = unread
 
 unfoldable pub read_clause : Reader Clause
 read_clause l = clause_by (clause_head l) l

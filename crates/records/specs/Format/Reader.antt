@@ -1,15 +1,15 @@
 -- The executable reader of terms and goals: from bytes, with t terms and then g goals still to come, to those terms and goals and the number of
 -- bytes that they take. It goes down the bytes, so it needs no fuel: a symbol of arity k adds k to the terms to come, a conjunction 2 to the goals.
-use Rattle.std.specs.Prelude.{ℕ, zero, suc, ◌+◌, List, [], ◌∷◌}
+use Rattle.std.specs.Prelude.{ℕ, zero, suc, ◌+◌, List, [], ◌∷◌, Option, Some, None}
 use Rattle.records.specs.Format.Syntax.{Terms, Goal}
 use Rattle.records.specs.Format.Syntax.Term.{var, app}
 use Rattle.records.specs.Format.Syntax.Terms.{nil, cons}
 use Rattle.records.specs.Format.Syntax.Goal.{truth, failure, equal, conj, disj, atom}
 use Rattle.records.specs.Format.Heads.{term_head, goal_head}
 use Rattle.records.specs.declared.heads.TermHead.{TermHead}
-use Rattle.records.specs.declared.heads.TermHead.TheVariants.{Variable, Symbol, NoTerm}
+use Rattle.records.specs.declared.heads.TermHead.TheVariants.{Variable, Symbol}
 use Rattle.records.specs.declared.heads.GoalHead.{GoalHead}
-use Rattle.records.specs.declared.heads.GoalHead.TheVariants.{Truth, Failure, Equal, Conj, Disj, Atom, NoGoal}
+use Rattle.records.specs.declared.heads.GoalHead.TheVariants.{Truth, Failure, Equal, Conj, Disj, Atom}
 
 -- what a reader finds: nothing, or a value and the number of bytes that it takes
 pub data Read (A : Type 0) : Type 0 where
@@ -76,24 +76,24 @@ abbrev pub ReadOn : Type 0
 ReadOn = ℕ → ℕ → Read Parts
 
 -- one node by its heads; r1, r3 and r4 read on after 1, 3 and 4 bytes
-abbrev pub node : ℕ → ℕ → TermHead → GoalHead → ReadOn → ReadOn → ReadOn → Read Parts
+abbrev pub node : ℕ → ℕ → Option TermHead → Option GoalHead → ReadOn → ReadOn → ReadOn → Read Parts
 node zero zero h i r1 r3 r4 = found (parts nil []) 0
-node (suc t) g (Variable v) i r1 r3 r4 = also (over_variable v) 3 (r3 t g)
-node (suc t) g (Symbol f k) i r1 r3 r4 = also (over_symbol f k) 4 (r4 (k + t) g)
-node (suc t) g NoTerm i r1 r3 r4 = unread
-node zero (suc g) h Truth r1 r3 r4 = also (over_goal truth) 1 (r1 zero g)
-node zero (suc g) h Failure r1 r3 r4 = also (over_goal failure) 1 (r1 zero g)
-node zero (suc g) h Equal r1 r3 r4 = also over_equal 1 (r1 2 g)
-node zero (suc g) h Conj r1 r3 r4 = also (over_pair conj) 1 (r1 zero (suc (suc g)))
-node zero (suc g) h Disj r1 r3 r4 = also (over_pair disj) 1 (r1 zero (suc (suc g)))
-node zero (suc g) h (Atom p k) r1 r3 r4 = also (over_atom p k) 4 (r4 k g)
-node zero (suc g) h NoGoal r1 r3 r4 = unread
+node (suc t) g (Some (Variable v)) i r1 r3 r4 = also (over_variable v) 3 (r3 t g)
+node (suc t) g (Some (Symbol f k)) i r1 r3 r4 = also (over_symbol f k) 4 (r4 (k + t) g)
+node (suc t) g None i r1 r3 r4 = unread
+node zero (suc g) h (Some Truth) r1 r3 r4 = also (over_goal truth) 1 (r1 zero g)
+node zero (suc g) h (Some Failure) r1 r3 r4 = also (over_goal failure) 1 (r1 zero g)
+node zero (suc g) h (Some Equal) r1 r3 r4 = also over_equal 1 (r1 2 g)
+node zero (suc g) h (Some Conj) r1 r3 r4 = also (over_pair conj) 1 (r1 zero (suc (suc g)))
+node zero (suc g) h (Some Disj) r1 r3 r4 = also (over_pair disj) 1 (r1 zero (suc (suc g)))
+node zero (suc g) h (Some (Atom p k)) r1 r3 r4 = also (over_atom p k) 4 (r4 k g)
+node zero (suc g) h None r1 r3 r4 = unread
 
 abbrev stop : ReadOn
 stop t g = unread
 
 unfoldable pub read : List ℕ → ℕ → ℕ → Read Parts
-read [] t g = node t g NoTerm NoGoal stop stop stop
+read [] t g = node t g None None stop stop stop
 read (b ∷ []) t g = node t g (term_head (b ∷ [])) (goal_head (b ∷ [])) (read []) (read []) (read [])
 read (b ∷ x ∷ []) t g = node t g (term_head (b ∷ x ∷ [])) (goal_head (b ∷ x ∷ [])) (read (x ∷ [])) (read []) (read [])
 read (b ∷ x ∷ y ∷ []) t g = node t g (term_head (b ∷ x ∷ y ∷ [])) (goal_head (b ∷ x ∷ y ∷ [])) (read (x ∷ y ∷ [])) (read []) (read [])

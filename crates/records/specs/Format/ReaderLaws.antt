@@ -1,6 +1,6 @@
 -- Laws of the reader of terms and goals. `complete`: the bytes of what is well formed are read back. `sound`: what is read is well formed, and
 -- the bytes read are its bytes.
-use Rattle.std.specs.Prelude.{ℕ, zero, suc, ◌+◌, ◌≡◌, refl, List, [], ◌∷◌, ◌++◌, length, drop}
+use Rattle.std.specs.Prelude.{ℕ, zero, suc, ◌+◌, ◌≡◌, refl, List, [], ◌∷◌, ◌++◌, length, drop, Option, Some, None}
 use Rattle.std.proofs.Common.{suc-add, zero-add, add-zero, arith, sym, ap, ◌∙◌, append_assoc, append-nil, length-append, drop-drop, le-leb}
 use Rattle.records.specs.Format.Never.{never}
 use Rattle.records.specs.Format.Syntax.{Term, Terms, Goal, arity}
@@ -15,9 +15,9 @@ use Rattle.records.specs.Format.Reader.{Read, Parts, also, terms_of, goals_of, l
 use Rattle.records.specs.Format.Reader.Read.{unread, found}
 use Rattle.records.specs.Format.Reader.Parts.{parts}
 use Rattle.records.specs.declared.heads.TermHead.{TermHead}
-use Rattle.records.specs.declared.heads.TermHead.TheVariants.{Variable, Symbol, NoTerm}
+use Rattle.records.specs.declared.heads.TermHead.TheVariants.{Variable, Symbol}
 use Rattle.records.specs.declared.heads.GoalHead.{GoalHead}
-use Rattle.records.specs.declared.heads.GoalHead.TheVariants.{Truth, Failure, Equal, Conj, Disj, Atom, NoGoal}
+use Rattle.records.specs.declared.heads.GoalHead.TheVariants.{Truth, Failure, Equal, Conj, Disj, Atom}
 
 -- every reader does one node
 pub read_node : (l : List ℕ) (t g : ℕ) → read l t g ≡ node t g (term_head l) (goal_head l) (read (drop 1 l)) (read (drop 3 l)) (read (drop 4 l))
@@ -210,13 +210,13 @@ pair_sound op c lay form l g (parts ts (x ∷ y ∷ gs)) m h s =
     over (c ∷ []) l zero (suc (suc g)) zero (suc g) (over_pair op) (parts ts (x ∷ y ∷ gs)) m s s.terms (ap suc e) (rw (z, lay x y) (simp append_assoc)) h
     (λ b f. (f.0, (form x y f.1.0 f.1.1.0, f.1.1.1)))
 
-atom_sound : (p k : ℕ) (l : List ℕ) (g : ℕ) (q : Parts) (m : ℕ) → (Bytes l → GoalLead l (Atom p k)) → ReadSound (drop 4 l) k g q m → ReadSound l zero (suc g) (over_atom p k q) (4 + m)
+atom_sound : (p k : ℕ) (l : List ℕ) (g : ℕ) (q : Parts) (m : ℕ) → (Bytes l → GoalLead l (Some (Atom p k))) → ReadSound (drop 4 l) k g q m → ReadSound l zero (suc g) (over_atom p k q) (4 + m)
 atom_sound p k l g (parts ts gs) m h s =
     let w = none_back k ts s.terms in
     over (0x15 ∷ (word p ++ (k ∷ []))) l k g zero (suc g) (over_atom p k) (parts ts gs) m s (ap arity w.1) (ap suc s.goals)
     (rw (w.0, w.1, s.terms) (simp append_assoc)) (λ b. (h b).0) (λ b f. rw (w.0, w.1) (tt, (((h b).1, rw s.terms (h b).2, f.0), f.1)))
 
-symbol_sound : (f k : ℕ) (l : List ℕ) (t g : ℕ) (q : Parts) (m : ℕ) → (Bytes l → TermLead l (Symbol f k)) → ReadSound (drop 4 l) (k + t) g q m → ReadSound l (suc t) g (over_symbol f k q) (4 + m)
+symbol_sound : (f k : ℕ) (l : List ℕ) (t g : ℕ) (q : Parts) (m : ℕ) → (Bytes l → TermLead l (Some (Symbol f k))) → ReadSound (drop 4 l) (k + t) g q m → ReadSound l (suc t) g (over_symbol f k q) (4 + m)
 symbol_sound f k l t g (parts ts gs) m h s =
     let a = front_arity k t ts s.terms in
     over (0x02 ∷ (word f ++ (k ∷ []))) l (k + t) g (suc t) g (over_symbol f k) (parts ts gs) m s (ap suc (back_arity k t ts s.terms)) s.goals
@@ -224,31 +224,31 @@ symbol_sound f k l t g (parts ts gs) m h s =
     ∙ ap (λ (r : List ℕ). 0x02 ∷ (word f ++ (k ∷ (r ++ each goal_bytes gs)))) (sym (bytes_split k ts))) (λ b. (h b).0)
     (λ b w. let v = formed_split k ts w.0 in ((((h b).1, rw a (h b).2, v.0), v.1), w.1))
 
-variable_sound : (v : ℕ) (l : List ℕ) (t g : ℕ) (q : Parts) (m : ℕ) → (Bytes l → TermLead l (Variable v)) → ReadSound (drop 3 l) t g q m → ReadSound l (suc t) g (over_variable v q) (3 + m)
+variable_sound : (v : ℕ) (l : List ℕ) (t g : ℕ) (q : Parts) (m : ℕ) → (Bytes l → TermLead l (Some (Variable v))) → ReadSound (drop 3 l) t g q m → ReadSound l (suc t) g (over_variable v q) (3 + m)
 variable_sound v l t g (parts ts gs) m h s =
     over (0x01 ∷ word v) l t g (suc t) g (over_variable v) (parts ts gs) m s (ap suc s.terms) s.goals refl (λ b. (h b).0) (λ b w. (((h b).1, w.0), w.1))
 
-node_sound : (l : List ℕ) (t g : ℕ) (h : TermHead) (i : GoalHead) (r1 r3 r4 : ReadOn) → (Bytes l → TermLead l h) → (Bytes l → GoalLead l i)
+node_sound : (l : List ℕ) (t g : ℕ) (h : Option TermHead) (i : Option GoalHead) (r1 r3 r4 : ReadOn) → (Bytes l → TermLead l h) → (Bytes l → GoalLead l i)
     → Sounds (drop 1 l) r1 → Sounds (drop 3 l) r3 → Sounds (drop 4 l) r4 → (p : Parts) (n : ℕ) → node t g h i r1 r3 r4 ≡ found p n → ReadSound l t g p n
 node_sound l zero zero h i r1 r3 r4 x y s1 s3 s4 p n = λ e.
     let q : parts nil [] ≡ p = cc in
     let z : 0 ≡ n = cc in
     rw (← q, ← z) (record { terms = refl; goals = refl; size = refl; bytes = λ _. refl; formed = λ _. (tt, tt) })
-node_sound l (suc t) g (Variable v) i r1 r3 r4 x y s1 s3 s4 p n = carried (over_variable v) 3 (r3 t g) l (suc t) g p n (λ q m e. variable_sound v l t g q m x (s3 t g q m e))
-node_sound l (suc t) g (Symbol f k) i r1 r3 r4 x y s1 s3 s4 p n = carried (over_symbol f k) 4 (r4 (k + t) g) l (suc t) g p n (λ q m e. symbol_sound f k l t g q m x (s4 (k + t) g q m e))
-node_sound l (suc t) g NoTerm i r1 r3 r4 x y s1 s3 s4 p n = not_found
-node_sound l zero (suc g) h Truth r1 r3 r4 x y s1 s3 s4 p n = carried (over_goal truth) 1 (r1 zero g) l zero (suc g) p n (λ q m e. goal_sound truth 0x10 refl tt l g q m y (s1 zero g q m e))
-node_sound l zero (suc g) h Failure r1 r3 r4 x y s1 s3 s4 p n = carried (over_goal failure) 1 (r1 zero g) l zero (suc g) p n (λ q m e. goal_sound failure 0x11 refl tt l g q m y (s1 zero g q m e))
-node_sound l zero (suc g) h Equal r1 r3 r4 x y s1 s3 s4 p n = carried over_equal 1 (r1 2 g) l zero (suc g) p n (λ q m e. equal_sound l g q m y (s1 2 g q m e))
-node_sound l zero (suc g) h Conj r1 r3 r4 x y s1 s3 s4 p n =
+node_sound l (suc t) g (Some (Variable v)) i r1 r3 r4 x y s1 s3 s4 p n = carried (over_variable v) 3 (r3 t g) l (suc t) g p n (λ q m e. variable_sound v l t g q m x (s3 t g q m e))
+node_sound l (suc t) g (Some (Symbol f k)) i r1 r3 r4 x y s1 s3 s4 p n = carried (over_symbol f k) 4 (r4 (k + t) g) l (suc t) g p n (λ q m e. symbol_sound f k l t g q m x (s4 (k + t) g q m e))
+node_sound l (suc t) g None i r1 r3 r4 x y s1 s3 s4 p n = not_found
+node_sound l zero (suc g) h (Some Truth) r1 r3 r4 x y s1 s3 s4 p n = carried (over_goal truth) 1 (r1 zero g) l zero (suc g) p n (λ q m e. goal_sound truth 0x10 refl tt l g q m y (s1 zero g q m e))
+node_sound l zero (suc g) h (Some Failure) r1 r3 r4 x y s1 s3 s4 p n = carried (over_goal failure) 1 (r1 zero g) l zero (suc g) p n (λ q m e. goal_sound failure 0x11 refl tt l g q m y (s1 zero g q m e))
+node_sound l zero (suc g) h (Some Equal) r1 r3 r4 x y s1 s3 s4 p n = carried over_equal 1 (r1 2 g) l zero (suc g) p n (λ q m e. equal_sound l g q m y (s1 2 g q m e))
+node_sound l zero (suc g) h (Some Conj) r1 r3 r4 x y s1 s3 s4 p n =
     carried (over_pair conj) 1 (r1 zero (suc (suc g))) l zero (suc g) p n (λ q m e. pair_sound conj 0x13 (λ _ _. refl) (λ _ _ a b. (a, b)) l g q m y (s1 zero (suc (suc g)) q m e))
-node_sound l zero (suc g) h Disj r1 r3 r4 x y s1 s3 s4 p n =
+node_sound l zero (suc g) h (Some Disj) r1 r3 r4 x y s1 s3 s4 p n =
     carried (over_pair disj) 1 (r1 zero (suc (suc g))) l zero (suc g) p n (λ q m e. pair_sound disj 0x14 (λ _ _. refl) (λ _ _ a b. (a, b)) l g q m y (s1 zero (suc (suc g)) q m e))
-node_sound l zero (suc g) h (Atom f k) r1 r3 r4 x y s1 s3 s4 p n = carried (over_atom f k) 4 (r4 k g) l zero (suc g) p n (λ q m e. atom_sound f k l g q m y (s4 k g q m e))
-node_sound l zero (suc g) h NoGoal r1 r3 r4 x y s1 s3 s4 p n = not_found
+node_sound l zero (suc g) h (Some (Atom f k)) r1 r3 r4 x y s1 s3 s4 p n = carried (over_atom f k) 4 (r4 k g) l zero (suc g) p n (λ q m e. atom_sound f k l g q m y (s4 k g q m e))
+node_sound l zero (suc g) h None r1 r3 r4 x y s1 s3 s4 p n = not_found
 
-nothing_sound : (t g : ℕ) (p : Parts) (n : ℕ) → node t g NoTerm NoGoal (λ _ _. unread) (λ _ _. unread) (λ _ _. unread) ≡ found p n → ReadSound [] t g p n
-nothing_sound t g = node_sound [] t g NoTerm NoGoal _ _ _ (λ _. tt) (λ _. tt) (λ _ _ _ _. not_found) (λ _ _ _ _. not_found) (λ _ _ _ _. not_found)
+nothing_sound : (t g : ℕ) (p : Parts) (n : ℕ) → node t g None None (λ _ _. unread) (λ _ _. unread) (λ _ _. unread) ≡ found p n → ReadSound [] t g p n
+nothing_sound t g = node_sound [] t g None None _ _ _ (λ _. tt) (λ _. tt) (λ _ _ _ _. not_found) (λ _ _ _ _. not_found) (λ _ _ _ _. not_found)
 
 pub sound : (l : List ℕ) (t g : ℕ) (p : Parts) (n : ℕ) → read l t g ≡ found p n → ReadSound l t g p n
 unfolding read

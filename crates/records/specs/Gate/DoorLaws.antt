@@ -1,12 +1,16 @@
 -- Laws of the door: each of its outcomes, and what passing it says of the records and the output.
-use Rattle.std.specs.Prelude.{◌≡◌, Bool, true, false, List, ℕ, ◌≤◌, ◌<◌, leb}
+use Rattle.std.specs.Prelude.{◌≡◌, Bool, true, false, List, ℕ, ◌≤◌, ◌<◌, leb, Result, Ok, Err}
 use Rattle.std.proofs.Math.Path.{refl, ap}
-use Rattle.std.proofs.Common.{◌∙◌, le-leb, leb-true}
+use Rattle.std.proofs.Common.{◌∙◌, sym, le-leb, leb-true}
 use Rattle.std.proofs.lemmas.Bool.{lt-leb}
 use Rattle.records.specs.Format.Never.{never}
 use Rattle.records.specs.Gate.Question.{Asked, framing, version, grammar, rules, of_program, of_event, output, question_number}
-use Rattle.records.specs.Gate.Gate.{Reading, tree, read_program, read_event, verdict, program_number, event_number}
-use Rattle.records.specs.Gate.Reply.{Answer, refused, gives, on_yes, through, answer_number}
+use Rattle.records.specs.Gate.Gate.{Reading, Verdict, tree, read_program, read_event, verdict, program_number, event_number}
+use Rattle.records.specs.Gate.OutcomeLaws.{told_refuses, told_gives}
+use Rattle.records.specs.declared.questions.Fault.{Fault}
+use Rattle.records.specs.declared.questions.Refusal.{Refusal}
+use Rattle.records.specs.declared.questions.Refusal.TheVariants.{Program, Event, Output}
+use Rattle.records.specs.Gate.Reply.{Answer, refused, gives, on_yes, through, answer_number, told}
 use Rattle.records.specs.Gate.ReplyLaws.{number_refuses, number_gives, yes_gives, through_gives, through_number}
 use Rattle.records.specs.Gate.Door.{program_door, event_door, Trees, door, BothPassed, with_room, gate}
 
@@ -152,3 +156,63 @@ module _ {A B : Type 0} (p : Reading A) (e : Reading B) {n : ℕ} where
     pub number_open : 32768 ≤ room → 0 ≡ answer_number (gate p e room)
     unfolding gate through answer_number
     number_open h = let w = number_gives (door p e) i z in rw (w.1, room_enough (gives w.0) h)
+
+-- what the door and the gate tell, from what their parts tell
+module _ {A : Type 0} (r : Reading A) {v : Verdict} (is : v ≡ verdict r) where
+  pub program_told : {f : Fault} → v ≡ Err f → Err (Program f) ≡ told (program_door r)
+  unfolding told program_door
+  program_told z = go r (sym is ∙ z)
+    where
+      go : {f : Fault} (b : Reading A) → verdict b ≡ Err f → Err (Program f) ≡ told (program_door b)
+      go (Reading.refused q) h = cc
+      go (tree a) h = never cc
+
+  pub event_told : {f : Fault} → v ≡ Err f → Err (Event f) ≡ told (event_door r)
+  unfolding told event_door
+  event_told z = go r (sym is ∙ z)
+    where
+      go : {f : Fault} (b : Reading A) → verdict b ≡ Err f → Err (Event f) ≡ told (event_door b)
+      go (Reading.refused q) h = cc
+      go (tree a) h = never cc
+
+  pub program_passed : {u : Unit {0}} → v ≡ Ok u → Ok u ≡ told (program_door r)
+  unfolding told program_door
+  program_passed z = go r (sym is ∙ z)
+    where
+      go : {u : Unit {0}} (b : Reading A) → verdict b ≡ Ok u → Ok u ≡ told (program_door b)
+      go (Reading.refused q) h = never cc
+      go (tree a) h = refl
+
+  pub event_passed : {u : Unit {0}} → v ≡ Ok u → Ok u ≡ told (event_door r)
+  unfolding told event_door
+  event_passed z = go r (sym is ∙ z)
+    where
+      go : {u : Unit {0}} (b : Reading A) → verdict b ≡ Ok u → Ok u ≡ told (event_door b)
+      go (Reading.refused q) h = never cc
+      go (tree a) h = refl
+
+module _ {A B : Type 0} (p : Reading A) (e : Reading B) {r : Result (Unit {0}) Refusal} where
+  pub told_program : {f : Refusal} → r ≡ told (program_door p) → r ≡ Err f → Err f ≡ told (door p e)
+  unfolding door through told
+  told_program i z = let w = told_refuses (program_door p) i z in rw w.1 (ap Err (sym w.2))
+
+  pub told_event : {u : Unit {0}} → r ≡ told (program_door p) → r ≡ Ok u → told (event_door e) ≡ told (door p e)
+  unfolding door through told
+  told_event i z = let w = told_gives (program_door p) i z in rw w.1 (go w.0 (event_door e))
+    where
+      go : (x : A) (b : Answer B) → told b ≡ told {A = Trees A B} (through refused b (λ y. gives (record { program = x; event = y })))
+      go x (refused q) = refl
+      go x (gives y) = refl
+
+  module _ (room : ℕ) (i : r ≡ told (door p e)) where
+    pub told_door : {f : Refusal} → r ≡ Err f → Err f ≡ told (gate p e room)
+    unfolding gate through told
+    told_door z = let w = told_refuses (door p e) i z in rw w.1 (ap Err (sym w.2))
+
+    pub told_short : {u : Unit {0}} → r ≡ Ok u → room < 32768 → Err Output ≡ told (gate p e room)
+    unfolding gate through told
+    told_short z h = let w = told_gives (door p e) i z in rw (w.1, room_short (gives w.0) h)
+
+    pub told_open : {u : Unit {0}} → r ≡ Ok u → 32768 ≤ room → Ok u ≡ told (gate p e room)
+    unfolding gate through told
+    told_open z h = let w = told_gives (door p e) i z in rw (w.1, room_enough (gives w.0) h)

@@ -1,15 +1,14 @@
 -- Questions 1 to 4 of the gate, put to the four record kinds: from any bytes to the question that refuses them, or the tree that they say.
-use Rattle.std.specs.Prelude.{ℕ, ◌+◌, ◌-◌, Bool, true, false, ◌&&◌, List, [], ◌∷◌, eqb, leb, length, take, drop}
+use Rattle.std.specs.Prelude.{ℕ, ◌+◌, ◌-◌, Bool, true, false, ◌&&◌, List, [], ◌∷◌, eqb, leb, length, take, drop, Result, Ok, Err}
 use Rattle.records.specs.Format.Syntax.{Goal, Event, Definition, Clause}
 use Rattle.records.specs.Gate.RecordRules.{query_rules, event_rules, program_rules, clauses_rules}
-use Rattle.records.specs.Gate.Question.{Asked}
+use Rattle.records.specs.Gate.Question.{Asked, fault, fault_number}
 use Rattle.records.specs.Gate.Question.Asked.{framing, version, grammar, rules}
 use Rattle.records.specs.Format.Heads.{joined}
 use Rattle.records.specs.Format.Reader.{Read}
 use Rattle.records.specs.Format.Reader.Read.{unread, found}
 use Rattle.records.specs.Format.Items.{Reader, read_goal, read_event_bytes, read_program_bytes, read_clauses_bytes}
-use Rattle.records.specs.declared.gate.Verdict.{Verdict}
-use Rattle.records.specs.declared.gate.Verdict.TheVariants.{Passed, Framing, Version, Grammar, Rules}
+use Rattle.records.specs.declared.questions.Fault.{Fault}
 
 pub data Reading (A : Type 0) : Type 0 where
   refused : Asked → Reading A
@@ -67,27 +66,21 @@ Accepted (refused q) = ⊥
 Accepted (tree a) = Unit {0}
 
 -- the answer of the code: passed, or the question that says no
-abbrev pub asked_verdict : Asked → Verdict
-asked_verdict framing = Framing
-asked_verdict version = Version
-asked_verdict grammar = Grammar
-asked_verdict rules = Rules
+abbrev pub Verdict : Type 0
+Verdict = Result (Unit {0}) Fault
+
+abbrev pub passed : Verdict
+passed = Ok tt
 
 abbrev pub verdict : {A : Type 0} → Reading A → Verdict
-verdict (refused q) = asked_verdict q
-verdict (tree a) = Passed
+verdict (refused q) = Err (fault q)
+verdict (tree a) = passed
 
 -- the number (SPECIFICATION 7.2) of each answer for a program or a clause record; a query's or an event's is 10 more where it is a refusal
 abbrev pub program_number : Verdict → ℕ
-program_number Passed = 0
-program_number Framing = 1
-program_number Version = 2
-program_number Grammar = 3
-program_number Rules = 4
+program_number (Ok u) = 0
+program_number (Err f) = fault_number f
 
 abbrev pub event_number : Verdict → ℕ
-event_number Passed = 0
-event_number Framing = 11
-event_number Version = 12
-event_number Grammar = 13
-event_number Rules = 14
+event_number (Ok u) = 0
+event_number (Err f) = 10 + fault_number f

@@ -1,5 +1,5 @@
 -- Question 4 item by item, over the variables that a traversal meets: what the code for the record rules goes by.
-use Rattle.std.specs.Prelude.{ℕ, ◌+◌, ◌≡◌, Bool, length, drop}
+use Rattle.std.specs.Prelude.{ℕ, ◌+◌, ◌≡◌, Bool, length, drop, Option, Some, None}
 use Rattle.std.proofs.Common.{arith, ◌∙◌}
 use Rattle.std.proofs.Math.Path.{refl, sym, ap}
 use Rattle.std.proofs.Math.Bool.{true}
@@ -26,12 +26,9 @@ use Rattle.records.specs.Ends.Steps.{On, met}
 use Rattle.records.specs.Ends.Above.{above}
 use Rattle.records.specs.Ends.AboveLaws.{every_below}
 use Rattle.records.specs.Gate.Rows.{Ends, holds, kept_at}
-use Rattle.records.specs.declared.heads.Word.{Word}
-use Rattle.records.specs.declared.heads.Word.TheVariants.{Number}
 use Rattle.records.specs.declared.heads.BetHead.{BetHead}
-use Rattle.records.specs.declared.heads.BetHead.TheVariants.{Unifier, Or, By, NoBet}
+use Rattle.records.specs.declared.heads.BetHead.TheVariants.{Unifier, Or, By}
 use Rattle.records.specs.declared.heads.Signature.{Signature}
-use Rattle.records.specs.declared.heads.Signature.TheVariants.{Predicate}
 
 -- the variables among the nodes of a tree are its variables
 pub variables_append : (k l : List Node) → node_variables (k ++ l) ≡ node_variables k ++ node_variables l
@@ -93,30 +90,30 @@ module _ (s : List ℕ) (at : ℕ) where
       go (found p n) e w = let v = sound (drop k (drop at s)) t g p n e in q p v.terms v.goals
 
   -- a definition: only the head's variables and the locals occur
-  pub definition_through : {h : Signature} {p k n : ℕ} → h ≡ definition_head_at s at → h ≡ Predicate p k n → Ends (end_of read_definition s at) → On (traverse s (at + 4) 0 1)
+  pub definition_through : {h : Option Signature} {d : Signature} → h ≡ definition_head_at s at → h ≡ Some d → Ends (end_of read_definition s at) → On (traverse s (at + 4) 0 1)
   unfolding end_of read_definition definition_head_at
-  definition_through {h} {p} {k} {n} is e w = through (λ q. definition p k n (first_goal q)) 4 0 1 (rw (sym is ∙ e) at w)
+  definition_through {h} {d} is e w = through (λ q. definition d.predicate d.arity d.count (first_goal q)) 4 0 1 (rw (sym is ∙ e) at w)
 
-  pub definition_kept : {h : Signature} {p k n : ℕ} → h ≡ definition_head_at s at → h ≡ Predicate p k n → Ends (end_of read_definition s at)
-      → kept_at definition_rules read_definition s at ≡ leb (above (met (traverse s (at + 4) 0 1))) (k + n)
+  pub definition_kept : {h : Option Signature} {d : Signature} → h ≡ definition_head_at s at → h ≡ Some d → Ends (end_of read_definition s at)
+      → kept_at definition_rules read_definition s at ≡ leb (above (met (traverse s (at + 4) 0 1))) (d.arity + d.count)
   unfolding kept_at end_of read_definition definition_head_at
-  definition_kept {h} {p} {k} {n} is e w =
-      let x : definition_head (drop at s) ≡ Predicate p k n = sym is ∙ e in
-      rw x (ruled (λ q. definition p k n (first_goal q)) definition_rules (λ l. leb (above l) (k + n)) 4 0 1
-      (λ q t g. every_below (k + n) (goal_variables (first_goal q)) ∙ ap (λ (l : List ℕ). leb (above l) (k + n)) (sym (one_goal q g ∙ ap (λ (l : List ℕ). l ++ goal_variables (first_goal q)) (no_terms (terms_of q) t))))
+  definition_kept {h} {d} is e w =
+      let x : definition_head (drop at s) ≡ Some d = sym is ∙ e in
+      rw x (ruled (λ q. definition d.predicate d.arity d.count (first_goal q)) definition_rules (λ l. leb (above l) (d.arity + d.count)) 4 0 1
+      (λ q t g. every_below (d.arity + d.count) (goal_variables (first_goal q)) ∙ ap (λ (l : List ℕ). leb (above l) (d.arity + d.count)) (sym (one_goal q g ∙ ap (λ (l : List ℕ). l ++ goal_variables (first_goal q)) (no_terms (terms_of q) t))))
       (rw x at w))
 
   -- a clause: exactly its variables occur
-  pub clause_through : {h : Signature} {p k v : ℕ} → h ≡ clause_head_at s at → h ≡ Predicate p k v → Ends (end_of read_clause s at) → On (traverse s (at + 4) k 1)
+  pub clause_through : {h : Option Signature} {d : Signature} → h ≡ clause_head_at s at → h ≡ Some d → Ends (end_of read_clause s at) → On (traverse s (at + 4) d.arity 1)
   unfolding end_of read_clause clause_head_at
-  clause_through {h} {p} {k} {v} is e w = through (λ q. clause p v (terms_of q) (first_goal q)) 4 k 1 (rw (sym is ∙ e) at w)
+  clause_through {h} {d} is e w = through (λ q. clause d.predicate d.count (terms_of q) (first_goal q)) 4 d.arity 1 (rw (sym is ∙ e) at w)
 
-  pub clause_kept : {h : Signature} {p k v : ℕ} → h ≡ clause_head_at s at → h ≡ Predicate p k v → Ends (end_of read_clause s at)
-      → kept_at clause_rules read_clause s at ≡ exactly v (met (traverse s (at + 4) k 1))
+  pub clause_kept : {h : Option Signature} {d : Signature} → h ≡ clause_head_at s at → h ≡ Some d → Ends (end_of read_clause s at)
+      → kept_at clause_rules read_clause s at ≡ exactly d.count (met (traverse s (at + 4) d.arity 1))
   unfolding kept_at end_of read_clause clause_head_at
-  clause_kept {h} {p} {k} {v} is e w =
-      let x : clause_head (drop at s) ≡ Predicate p k v = sym is ∙ e in
-      rw x (ruled (λ q. clause p v (terms_of q) (first_goal q)) clause_rules (exactly v) 4 k 1 (λ q t g. ap (exactly v) (sym (one_goal q g))) (rw x at w))
+  clause_kept {h} {d} is e w =
+      let x : clause_head (drop at s) ≡ Some d = sym is ∙ e in
+      rw x (ruled (λ q. clause d.predicate d.count (terms_of q) (first_goal q)) clause_rules (exactly d.count) 4 d.arity 1 (λ q t g. ap (exactly d.count) (sym (one_goal q g))) (rw x at w))
 
   -- a pair: its variable, and those of its term
   pub record Pair (v : ℕ) (b : Binding) : Type 0 where
@@ -125,10 +122,10 @@ module _ (s : List ℕ) (at : ℕ) where
     pub through : On (traverse s (at + 2) 1 0)
     pub variables : met (traverse s (at + 2) 1 0) ≡ term_variables term
 
-  pub pair_read : {h : Word} {v n : ℕ} {b : Binding} → h ≡ word_at s at → h ≡ Number v → read_binding (drop at s) ≡ found b n → Pair v b
+  pub pair_read : {h : Option ℕ} {v n : ℕ} {b : Binding} → h ≡ word_at s at → h ≡ Some v → read_binding (drop at s) ≡ found b n → Pair v b
   unfolding read_binding word_at traverse
   pair_read {h} {v} {n} {b} is e q =
-      let x : word_head (drop at s) ≡ Number v = sym is ∙ e in
+      let x : word_head (drop at s) ≡ Some v = sym is ∙ e in
       go (read (drop 2 (drop at s)) 1 0) refl (rw x at q)
     where
       go : (o : Read Parts) → read (drop 2 (drop at s)) 1 0 ≡ o → also (λ p. bind v (first_term p)) 2 o ≡ found b n → Pair v b
@@ -140,7 +137,7 @@ module _ (s : List ℕ) (at : ℕ) where
           record { term = first_term p; is = sym a; through = rw d tt; variables = rw d (one_term p w.terms w.goals) }
 
   -- a bet: a unifier's rules are those of its pairs, and no other bet has any
-  pub unifier_through : {h : BetHead} {n : ℕ} → h ≡ bet_head_at s at → h ≡ Unifier n → Ends (end_of read_bet s at) → Ends (end_of (many read_binding n) s (at + 3))
+  pub unifier_through : {h : Option BetHead} {n : ℕ} → h ≡ bet_head_at s at → h ≡ (Some (Unifier n)) → Ends (end_of read_bet s at) → Ends (end_of (many read_binding n) s (at + 3))
   unfolding end_of read_bet bet_head_at
   unifier_through {h} {n} is e w = rw (← drop-drop 3 at s) (go (many read_binding n (drop 3 (drop at s))) (rw (sym is ∙ e) at w))
     where
@@ -148,17 +145,17 @@ module _ (s : List ℕ) (at : ℕ) where
       go unread z = z
       go (found l m) z = tt
 
-  pub unifier_kept : {h : BetHead} {n : ℕ} → h ≡ bet_head_at s at → h ≡ Unifier n → kept_at bet_rules read_bet s at ≡ kept_at unifier_rules (many read_binding n) s (at + 3)
+  pub unifier_kept : {h : Option BetHead} {n : ℕ} → h ≡ bet_head_at s at → h ≡ (Some (Unifier n)) → kept_at bet_rules read_bet s at ≡ kept_at unifier_rules (many read_binding n) s (at + 3)
   unfolding kept_at read_bet bet_head_at
   unifier_kept {h} {n} is e =
-      let x : bet_head (drop at s) ≡ Unifier n = sym is ∙ e in
+      let x : bet_head (drop at s) ≡ (Some (Unifier n)) = sym is ∙ e in
       rw (x, ← drop-drop 3 at s) (go (many read_binding n (drop 3 (drop at s))))
     where
       go : (o : Read (List Binding)) → holds bet_rules (also Bet.unifier 3 o) ≡ holds unifier_rules o
       go unread = refl
       go (found l m) = refl
 
-  pub other_kept : {h : BetHead} → h ≡ bet_head_at s at → (i : BetHead) → h ≡ i → ((n : ℕ) → i ≡ Unifier n → ⊥) → kept_at bet_rules read_bet s at ≡ true
+  pub other_kept : {h : Option BetHead} → h ≡ bet_head_at s at → (i : Option BetHead) → h ≡ i → ((n : ℕ) → i ≡ (Some (Unifier n)) → ⊥) → kept_at bet_rules read_bet s at ≡ true
   unfolding kept_at read_bet bet_head_at
   other_kept is i e none = rw (sym is ∙ e) (go i none)
     where
@@ -166,8 +163,8 @@ module _ (s : List ℕ) (at : ℕ) where
       by_goal unread = refl
       by_goal (found p m) = refl
 
-      go : (j : BetHead) → ((n : ℕ) → j ≡ Unifier n → ⊥) → holds bet_rules (bet_by j (drop at s)) ≡ true
-      go (Unifier n) h = absurd (h n refl)
-      go (Or k) h = refl
-      go By h = by_goal (read (drop 1 (drop at s)) 0 1)
-      go NoBet h = refl
+      go : (j : Option BetHead) → ((n : ℕ) → j ≡ (Some (Unifier n)) → ⊥) → holds bet_rules (bet_by j (drop at s)) ≡ true
+      go (Some (Unifier n)) h = absurd (h n refl)
+      go (Some (Or k)) h = refl
+      go (Some By) h = by_goal (read (drop 1 (drop at s)) 0 1)
+      go None h = refl

@@ -1,5 +1,9 @@
 -- The questions with their numbers (SPECIFICATION 7.2 to 7.7, and 13.5 of a text). A refusal names its question, so it is never 0.
 use Rattle.std.specs.Prelude.{ℕ, ◌+◌}
+use Rattle.records.specs.declared.questions.Fault.{Fault}
+use Rattle.records.specs.declared.questions.Fault.TheVariants.{Framing, Version, Grammar, Rules}
+use Rattle.records.specs.declared.questions.Refusal.{Refusal}
+use Rattle.records.specs.declared.questions.Refusal.TheVariants.{Program, Event, Output, Possible, Matches, Values, Locals, Fits, Characters, Syntax, Space, Allowed}
 
 -- 1 to 4, put to every record
 pub data Asked : Type 0 where
@@ -57,3 +61,45 @@ question_number allowed = 32
 question_number characters = 20
 question_number syntax = 21
 question_number space = 22
+
+-- the code's word for a question
+abbrev pub fault : Asked → Fault
+fault framing = Framing
+fault version = Version
+fault grammar = Grammar
+fault rules = Rules
+
+abbrev pub refusal : Question → Refusal
+refusal (of_program a) = Program (fault a)
+refusal (of_event a) = Event (fault a)
+refusal output = Output
+refusal possible = Possible
+refusal matches = Matches
+refusal values = Values
+refusal locals = Locals
+refusal fits = Fits
+refusal allowed = Allowed
+refusal characters = Characters
+refusal syntax = Syntax
+refusal space = Space
+
+-- the same numbers, by the code's words
+abbrev pub fault_number : Fault → ℕ
+fault_number Framing = 1
+fault_number Version = 2
+fault_number Grammar = 3
+fault_number Rules = 4
+
+abbrev pub refusal_number : Refusal → ℕ
+refusal_number (Program f) = fault_number f
+refusal_number (Event f) = 10 + fault_number f
+refusal_number Output = 5
+refusal_number Possible = 6
+refusal_number Matches = 7
+refusal_number Values = 8
+refusal_number Locals = 9
+refusal_number Fits = 10
+refusal_number Allowed = 32
+refusal_number Characters = 20
+refusal_number Syntax = 21
+refusal_number Space = 22

@@ -1,7 +1,8 @@
 -- What a service works out, and what it leaves (SPECIFICATION 7.8): the question that refuses, or what is given; then a number, and the output afterwards.
-use Rattle.std.specs.Prelude.{◌≡◌, Bool, true, false, List, ◌++◌, ℕ, length, drop}
-use Rattle.records.specs.Gate.Question.{Question, question_number}
-use Rattle.records.specs.declared.put.Receipt.{Receipt}
+use Rattle.std.specs.Prelude.{◌≡◌, Bool, true, false, List, ◌++◌, ℕ, length, drop, Result, Ok, Err}
+use Rattle.records.specs.Gate.Question.{Question, question_number, refusal, refusal_number}
+use Rattle.records.specs.declared.questions.Refusal.{Refusal}
+use Rattle.records.specs.Gate.Receipt.{Receipt}
 
 pub data Answer (A : Type 0) : Type 0 where
   refused : Question → Answer A
@@ -23,6 +24,16 @@ unfoldable pub answer_number : {A : Type 0} → Answer A → ℕ
 unfolding question_number
 answer_number (refused q) = question_number q
 answer_number (gives a) = 0
+
+-- what code tells of an answer: done, or the question that refuses
+unfoldable pub told : {A : Type 0} → Answer A → Result (Unit {0}) Refusal
+told (refused q) = Err (refusal q)
+told (gives a) = Ok tt
+
+-- the number of what code tells
+abbrev pub outcome_number : {T : Type 0} → Result T Refusal → ℕ
+outcome_number (Ok x) = 0
+outcome_number (Err r) = refusal_number r
 
 -- a service's number, and its output afterwards
 pub record Reply : Type 0 where

@@ -8,7 +8,7 @@ use Rattle.records.specs.Format.Never.{never}
 use Rattle.records.specs.Gate.Question.{Question, of_program, of_event, output, possible, matches, values, locals, fits, allowed, characters, syntax, space, framing, version, grammar, rules, question_number}
 use Rattle.records.specs.Writing.Patched.{Put}
 use Rattle.records.specs.Writing.PatchedLaws.{put_front, patched_front}
-use Rattle.records.specs.declared.put.Receipt.{Receipt}
+use Rattle.records.specs.Gate.Receipt.{Receipt}
 use Rattle.records.specs.Gate.Reply.{Answer, refused, gives, on_yes, through, answer_number, reply_with, Replied, answer_length, Receipted}
 
 -- the question that has a number (where none has it, this is of no account)

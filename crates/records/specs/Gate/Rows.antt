@@ -1,20 +1,18 @@
 -- Question 4 at positions: whether what was read somewhere keeps its rules, and the row of items that was read somewhere.
-use Rattle.std.specs.Prelude.{ℕ, ◌-◌, ◌≡◌, Bool, true, List, [], ◌∷◌, drop}
+use Rattle.std.specs.Prelude.{ℕ, ◌-◌, ◌≡◌, Bool, true, List, [], ◌∷◌, drop, Option, Some, None}
 use Rattle.records.specs.Format.Reader.{Read}
 use Rattle.records.specs.Format.Reader.Read.{unread, found}
 use Rattle.records.specs.Format.Items.{Reader, many}
 use Rattle.records.specs.Ends.Traversal.{end_of}
 use Rattle.records.specs.Ends.ItemEnds.{ItemTree, item_reader}
-use Rattle.records.specs.declared.ends.Found.{Found}
-use Rattle.records.specs.declared.ends.Found.TheVariants.{At, Nothing}
 use Rattle.records.specs.Gate.RecordRules.{every, bet_rules, definition_rules, clause_rules}
 use Rattle.records.specs.declared.ends.Item.{Item}
 use Rattle.records.specs.declared.ends.Item.TheVariants.{Ancestor, Bet, Definition, Clause}
 
 -- it was found
-abbrev pub Ends : Found → Type 0
-Ends (At e) = Unit {0}
-Ends Nothing = ⊥
+abbrev pub Ends : Option ℕ → Type 0
+Ends (Some e) = Unit {0}
+Ends None = ⊥
 
 -- what was found keeps the rules
 abbrev pub holds : {A : Type 0} → (A → Bool) → Read A → Bool

@@ -1,7 +1,7 @@
 -- Laws of rules at positions: of a row by its items, of one thing after another, and of a row behind its count.
 use Prim.Native.Nat.{ℕ, zero, suc, ◌+◌, ◌-◌, ◌<◌}
 use native.Mathlib.Omega.{arith}
-use Rattle.std.specs.Prelude.{◌≡◌, Bool, true, ◌&&◌, drop}
+use Rattle.std.specs.Prelude.{◌≡◌, Bool, true, ◌&&◌, drop, Option, Some, None}
 use Rattle.std.proofs.Math.Path.{refl, sym, ap}
 use Rattle.std.proofs.Common.{◌∙◌, drop-drop}
 use mathlib.Core.List.{List, [], ◌∷◌}
@@ -12,10 +12,6 @@ use Rattle.records.specs.Format.Reader.Read.{unread, found}
 use Rattle.records.specs.Format.Items.{Reader, then_read, many, read_counted}
 use Rattle.records.specs.Ends.Traversal.{place_of, end_of}
 use Rattle.records.specs.Gate.Rows.{Ends, holds, kept_at, row_of, row_at, RowFirst}
-use Rattle.records.specs.declared.ends.Found.{Found}
-use Rattle.records.specs.declared.ends.Found.TheVariants.{At, Nothing}
-use Rattle.records.specs.declared.heads.Word.{Word}
-use Rattle.records.specs.declared.heads.Word.TheVariants.{Number, Short}
 
 -- where there are no rules, they are kept
 pub no_rules : {A : Type 0} (r : Reader A) (s : List ℕ) (at : ℕ) → true ≡ kept_at (λ a. true) r s at
@@ -26,7 +22,7 @@ no_rules {A} r s at = go (r (drop at s))
     go unread = refl
     go (found a n) = refl
 
-pub ends_at : {f : Found} {e : ℕ} → f ≡ At e → Ends f
+pub ends_at : {f : Option ℕ} {e : ℕ} → f ≡ Some e → Ends f
 ends_at q = rw q tt
 
 -- rules on a row, by the row
@@ -66,11 +62,11 @@ module _ {A : Type 0} (r : Reader A) (s : List ℕ) where
         rest = rw (y, d) tt;
       }
 
-  pub row_more : {f : Found} {e : ℕ} (n at : ℕ) → 0 < n → Ends (end_of (many r n) s at) → f ≡ end_of r s at → f ≡ At e → RowFirst r s n at e
+  pub row_more : {f : Option ℕ} {e : ℕ} (n at : ℕ) → 0 < n → Ends (end_of (many r n) s at) → f ≡ end_of r s at → f ≡ Some e → RowFirst r s n at e
   unfolding end_of many
   row_more {f} {e} n at z w is q = go n z w (r (drop at s)) refl (sym is ∙ q)
     where
-      go : (n : ℕ) → 0 < n → Ends (place_of at (many r n (drop at s))) → (o : Read A) → r (drop at s) ≡ o → place_of at o ≡ At e → RowFirst r s n at e
+      go : (n : ℕ) → 0 < n → Ends (place_of at (many r n (drop at s))) → (o : Read A) → r (drop at s) ≡ o → place_of at o ≡ Some e → RowFirst r s n at e
       go zero z w o h x = absurd (omega arith)
       go (suc k) z w unread h x = never cc
       go (suc k) z w (found a m) h x =
@@ -89,7 +85,7 @@ module _ {A : Type 0} (r : Reader A) (s : List ℕ) where
 
 -- one thing and then another one, of which only the second has rules
 pub kept_after : {A B C : Type 0} (f : A → B → C) (ra : Reader A) (rb : Reader B) (kept : C → Bool) (kept_second : B → Bool) (s : List ℕ) (at e : ℕ)
-    → ((a : A) (b : B) → kept (f a b) ≡ kept_second b) → end_of ra s at ≡ At e → kept_at kept (λ l. then_read f (ra l) rb l) s at ≡ kept_at kept_second rb s e
+    → ((a : A) (b : B) → kept (f a b) ≡ kept_second b) → end_of ra s at ≡ Some e → kept_at kept (λ l. then_read f (ra l) rb l) s at ≡ kept_at kept_second rb s e
 unfolding kept_at end_of
 kept_after f ra rb kept second s at e q h = go (ra (drop at s)) h
   where
@@ -97,7 +93,7 @@ kept_after f ra rb kept second s at e q h = go (ra (drop at s)) h
     step a n unread = refl
     step a n (found b m) = q a b
 
-    go : (o : Read _) → place_of at o ≡ At e → holds kept (then_read f o rb (drop at s)) ≡ holds second (rb (drop e s))
+    go : (o : Read _) → place_of at o ≡ Some e → holds kept (then_read f o rb (drop at s)) ≡ holds second (rb (drop e s))
     go unread x = never cc
     go (found a n) x =
         let y : at + n ≡ e = cc in
@@ -107,24 +103,24 @@ kept_after f ra rb kept second s at e q h = go (ra (drop at s)) h
 module _ {A : Type 0} (r : Reader A) (s : List ℕ) (at : ℕ) where
   also_same : (k : ℕ) (o : Read (List A)) → place_of at (also (λ x. x) k o) ≡ place_of (at + k) o
   also_same k unread = refl
-  also_same k (found l n) = ap At (omega arith)
+  also_same k (found l n) = ap Some (omega arith)
 
   holds_same : (kept : List A → Bool) (k : ℕ) (o : Read (List A)) → holds kept (also (λ x. x) k o) ≡ holds kept o
   holds_same kept k unread = refl
   holds_same kept k (found l n) = refl
 
-  pub counted_ends : {w : Word} {n : ℕ} → w ≡ word_at s at → w ≡ Number n → end_of (read_counted r) s at ≡ end_of (many r n) s (at + 2)
+  pub counted_ends : {w : Option ℕ} {n : ℕ} → w ≡ word_at s at → w ≡ Some n → end_of (read_counted r) s at ≡ end_of (many r n) s (at + 2)
   unfolding end_of read_counted word_at
   counted_ends {w} {n} is q =
-      let x : word_head (drop at s) ≡ Number n = sym is ∙ q in
+      let x : word_head (drop at s) ≡ Some n = sym is ∙ q in
       rw x (also_same 2 (many r n (drop 2 (drop at s))) ∙ ap (λ (l : List ℕ). place_of (at + 2) (many r n l)) (drop-drop 2 at s))
 
-  pub counted_never : {w : Word} → w ≡ word_at s at → w ≡ Short → end_of (read_counted r) s at ≡ Nothing
+  pub counted_never : {w : Option ℕ} → w ≡ word_at s at → w ≡ None → end_of (read_counted r) s at ≡ None
   unfolding end_of read_counted word_at
-  counted_never {w} is q = let x : word_head (drop at s) ≡ Short = sym is ∙ q in rw x
+  counted_never {w} is q = let x : word_head (drop at s) ≡ None = sym is ∙ q in rw x
 
-  pub counted_kept : (kept : List A → Bool) {w : Word} {n : ℕ} → w ≡ word_at s at → w ≡ Number n → kept_at kept (read_counted r) s at ≡ kept_at kept (many r n) s (at + 2)
+  pub counted_kept : (kept : List A → Bool) {w : Option ℕ} {n : ℕ} → w ≡ word_at s at → w ≡ Some n → kept_at kept (read_counted r) s at ≡ kept_at kept (many r n) s (at + 2)
   unfolding kept_at read_counted word_at
   counted_kept kept {w} {n} is q =
-      let x : word_head (drop at s) ≡ Number n = sym is ∙ q in
+      let x : word_head (drop at s) ≡ Some n = sym is ∙ q in
       rw x (holds_same kept 2 (many r n (drop 2 (drop at s))) ∙ ap (λ (l : List ℕ). holds kept (many r n l)) (drop-drop 2 at s))

@@ -3,7 +3,7 @@ use Rattle.std.specs.Prelude.{List, ℕ, leb, length}
 use Rattle.records.specs.Gate.Question.Question.{fits}
 use Rattle.records.specs.Gate.Reply.{Answer, gives, on_yes, Receipted}
 use Rattle.records.specs.Gate.Door.{with_room}
-use Rattle.records.specs.declared.put.Receipt.{Receipt}
+use Rattle.records.specs.Gate.Receipt.{Receipt}
 
 -- 5 of an output of `room` bytes, 10 of the record, and then the record
 unfoldable pub emit_answer : (room : ℕ) → (rec : List ℕ) → Answer (List ℕ)

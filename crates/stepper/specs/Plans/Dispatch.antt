@@ -1,6 +1,6 @@
--- What the dispatch finds in an event by the number that `Numbers` gives it: no rule; a rule with a unifier or a body; or a rule whose other side is
+-- What the dispatch finds in an event by the rule that `WhichRule` names for it: no rule; a rule with a unifier or a body; or a rule whose other side is
 -- made of the event's parts. Read back there are more of the second kind, since fail of an equality and of an atom have two sources each.
-use Rattle.std.specs.Prelude.{◌≡◌, Bool, true, false, List, ◌∷◌, ℕ, eqb}
+use Rattle.std.specs.Prelude.{◌≡◌, List, ◌∷◌, ℕ, eqb, Option, Some, None}
 use Rattle.records.specs.Format.Syntax.{Term, Terms, Goal, equal, atom, Ancestor, called, Binding, Bet, unifier, Port, call, exit, fail, Event, event}
 use Rattle.records.specs.Format.Heads.{pick}
 use Rattle.records.specs.Gate.Question.{Question, question_number}
@@ -9,10 +9,12 @@ use Rattle.stepper.specs.Rules.Rules.{rule, candidate}
 use Rattle.stepper.specs.Rules.Listed.{Rule}
 use Rattle.stepper.specs.Rules.Sources.{Source}
 use Rattle.stepper.specs.Plans.View.{event_view}
-use Rattle.stepper.specs.Plans.Numbers.{forward_rule, back_rule}
+use Rattle.stepper.specs.Plans.WhichRule.{forward_rule, back_rule}
 use Rattle.stepper.specs.Plans.RulePlans.{forward_plan, back_plan}
 use Rattle.stepper.specs.Plans.Made.{Plans}
 use Rattle.stepper.specs.Plans.Halves.{Leaves, LeavesBack, Like}
+use Rattle.stepper.specs.declared.rules.Rule.{Rule as Found}
+use Rattle.stepper.specs.declared.rules.Rule.TheVariants.{EqualCall, EqualRedo, AtomCall, AtomFail}
 use Rattle.stepper.specs.declared.view.View.{View}
 
 -- the number of the question that says no where there is no rule: forward 6 from exit and fail, back 6 from call with no bets; else 7
@@ -72,21 +74,17 @@ module _ (M : Machine) (s : List ℕ) where
     pub source : Source M before e
     pub plans : Plans s (back_plan (event_view e) (back_rule (event_view e))) before
 
-  abbrev choice : Bool → Type 0 → Type 0 → Type 0
-  choice true A B = A
-  choice false A B = B
+  -- what the rule that is found for an event tells of it
+  abbrev pub ForwardFound : Event → Option Found → Type 0
+  ForwardFound e None = Unruled (rule M e) (no_rule_number (event_view e))
+  ForwardFound e (Some EqualCall) = EqualityOf call e
+  ForwardFound e (Some AtomCall) = AtomOf call e
+  ForwardFound e (Some r) = (Leaves e → Like s e) → LeadsOn e
 
-  -- what a number tells of the event that has it
-  abbrev pub ForwardFound : Event → ℕ → Type 0
-  ForwardFound e n =
-      choice (eqb n 0) (Unruled (rule M e) (no_rule_number (event_view e)))
-      (choice (eqb n 16) (EqualityOf call e)
-      (choice (eqb n 18) (AtomOf call e) ((Leaves e → Like s e) → LeadsOn e)))
-
-  abbrev pub BackFound : Event → ℕ → Type 0
-  BackFound e n =
-      choice (eqb n 0) (Unruled (candidate M e) (no_source_number (event_view e)))
-      (choice (eqb n 16) (UnifierOf e)
-      (choice (eqb n 17) (EqualityOf fail e)
-      (choice (eqb n 18) (BodyOf e)
-      (choice (eqb n 20) (AtomOf fail e) ((LeavesBack e → Like s e) → ComesFrom e)))))
+  abbrev pub BackFound : Event → Option Found → Type 0
+  BackFound e None = Unruled (candidate M e) (no_source_number (event_view e))
+  BackFound e (Some EqualCall) = UnifierOf e
+  BackFound e (Some EqualRedo) = EqualityOf fail e
+  BackFound e (Some AtomCall) = BodyOf e
+  BackFound e (Some AtomFail) = AtomOf fail e
+  BackFound e (Some r) = (LeavesBack e → Like s e) → ComesFrom e

@@ -1,5 +1,5 @@
--- The dispatch is complete, and its plans are those of the listed rules: what is found by an event's number is there.
-use Rattle.std.specs.Prelude.{◌≡◌, ℕ, length}
+-- The dispatch is complete, and its plans are those of the listed rules: what is found by an event's rule is there.
+use Rattle.std.specs.Prelude.{◌≡◌, ℕ, length, Some}
 use Rattle.std.proofs.Math.Path.{refl}
 use Rattle.std.proofs.Common.{sym, subst, arith, ne_eqb}
 use mathlib.Core.List.{List, [], ◌∷◌}
@@ -10,17 +10,19 @@ use Rattle.stepper.specs.Rules.Rules.{selected, top_unifier, top_or, top_by, fro
 use Rattle.stepper.specs.Rules.Listed.{Rule, conj_call, conj_exit_first, conj_fail_first, conj_exit_second, conj_fail_second, conj_redo, disj_call, disj_fail_first, disj_fail_second, disj_exit_first, disj_exit_second, disj_redo, true_call, true_redo, fail_call, equal_redo, atom_exit, atom_fail, atom_redo}
 use Rattle.stepper.specs.Rules.Sources.{Source}
 use Rattle.stepper.specs.Plans.View.{PartsOf, event_view}
-use Rattle.stepper.specs.Plans.Numbers.{call_rule, exit_rule, fail_rule, redo_rule, forward_rule, call_source, exit_source, fail_source, redo_source, back_rule}
+use Rattle.stepper.specs.Plans.WhichRule.{call_rule, exit_rule, fail_rule, redo_rule, forward_rule, call_source, exit_source, fail_source, redo_source, back_rule}
 use Rattle.stepper.specs.Plans.RulePlans.{forward_plan, back_plan}
 use Rattle.stepper.specs.Plans.Made.{Plans}
 use Rattle.stepper.specs.Plans.LayoutLaws.{kept_plans, bet_dropped_plans, entered_conj_plans, entered_disj_plans, chosen_plans, reached_conj_plans, reached_disj_plans, conj_left_plans, disj_left_plans, left_with_or_plans, atom_left_plans, atom_left_by_plans, body_entered_plans}
 use Rattle.stepper.specs.Plans.Halves.{Leaves, LeavesBack, Like}
 use Rattle.stepper.specs.Plans.HalfLaws.{half_of_conj, half_of_disj}
 use Rattle.stepper.specs.Plans.Dispatch.{no_rule_number, no_source_number, LeadsOn, ComesFrom, ForwardFound, BackFound}
+use Rattle.stepper.specs.declared.rules.Rule.{Rule as Found}
+use Rattle.stepper.specs.declared.rules.Rule.TheVariants.{EqualCall, EqualRedo, AtomCall, AtomFail}
 
--- numbers that are not a given one
-abbrev pub Not : ℕ → ℕ → Type 0
-Not n m = n ≡ m → ⊥
+-- a rule that is not a given one
+abbrev pub Not : Found → Found → Type 0
+Not r q = r ≡ q → ⊥
 
 module _ (M : Machine) (t : List ℕ) where
   leads : {e d : Event} → Rule M e d → Plans t (forward_plan (event_view e) (forward_rule (event_view e))) d → LeadsOn M t e
@@ -110,11 +112,25 @@ module _ (M : Machine) (t : List ℕ) where
   back_found (event redo g (in_disj n a b ∷ u) s) w = λ k. at_half_back redo s ((half_of_disj n a b w).0 (k tt)) (λ w. comes (disj_redo n, tt) (left_with_or_plans redo n w)) w
   back_found (event redo g (called p ts ∷ u) s) w = λ k. comes (atom_redo, tt) (atom_left_by_plans redo w)
 
-  -- where the number is that of a rule made of the event's parts
-  pub forward_led : (e : Event) → PartsOf t e → Not (forward_rule (event_view e)) 0 → Not (forward_rule (event_view e)) 16 → Not (forward_rule (event_view e)) 18
-      → (Leaves e → Like t e) → LeadsOn M t e
-  forward_led e w n0 n16 n18 = rw (ne_eqb _ 0 n0, ne_eqb _ 16 n16, ne_eqb _ 18 n18) at (forward_found e w)
+  -- a rule made of the event's parts
+  led : {e : Event} (r : Found) → Not r EqualCall → Not r AtomCall → ForwardFound M t e (Some r) → (Leaves e → Like t e) → LeadsOn M t e
+  led EqualCall no_equality no_body f = absurd (no_equality refl)
+  led AtomCall no_equality no_body f = absurd (no_body refl)
+  led r no_equality no_body f = f
 
-  pub back_led : (e : Event) → PartsOf t e → Not (back_rule (event_view e)) 0 → Not (back_rule (event_view e)) 16 → Not (back_rule (event_view e)) 17
-      → Not (back_rule (event_view e)) 18 → Not (back_rule (event_view e)) 20 → (LeavesBack e → Like t e) → ComesFrom M t e
-  back_led e w n0 n16 n17 n18 n20 = rw (ne_eqb _ 0 n0, ne_eqb _ 16 n16, ne_eqb _ 17 n17, ne_eqb _ 18 n18, ne_eqb _ 20 n20) at (back_found e w)
+  came : {e : Event} (r : Found) → Not r EqualCall → Not r EqualRedo → Not r AtomCall → Not r AtomFail → BackFound M t e (Some r)
+      → (LeavesBack e → Like t e) → ComesFrom M t e
+  came EqualCall no_unifier no_equality no_body no_atom f = absurd (no_unifier refl)
+  came EqualRedo no_unifier no_equality no_body no_atom f = absurd (no_equality refl)
+  came AtomCall no_unifier no_equality no_body no_atom f = absurd (no_body refl)
+  came AtomFail no_unifier no_equality no_body no_atom f = absurd (no_atom refl)
+  came r no_unifier no_equality no_body no_atom f = f
+
+  pub forward_led : (e : Event) → PartsOf t e → {r : Found} → forward_rule (event_view e) ≡ Some r → Not r EqualCall → Not r AtomCall
+      → (Leaves e → Like t e) → LeadsOn M t e
+  forward_led e w {r} h no_equality no_body = led r no_equality no_body (subst (ForwardFound M t e) h (forward_found e w))
+
+  pub back_led : (e : Event) → PartsOf t e → {r : Found} → back_rule (event_view e) ≡ Some r → Not r EqualCall → Not r EqualRedo → Not r AtomCall
+      → Not r AtomFail → (LeavesBack e → Like t e) → ComesFrom M t e
+  back_led e w {r} h no_unifier no_equality no_body no_atom =
+      came r no_unifier no_equality no_body no_atom (subst (BackFound M t e) h (back_found e w))

@@ -1,5 +1,5 @@
 -- What the bytes of an accepted event tell a rule is what the tree tells.
-use Rattle.std.specs.Prelude.{ℕ, ◌+◌, ◌<◌, ◌≡◌, List, [], ◌∷◌, ◌++◌, length, get_or}
+use Rattle.std.specs.Prelude.{ℕ, ◌+◌, ◌<◌, ◌≡◌, List, [], ◌∷◌, ◌++◌, length, get_or, Some}
 use Rattle.std.proofs.Common.{add-zero, arith, sym, ap, ◌∙◌, get_or-drop, ne_eqb}
 use Rattle.std.proofs.Math.Path.{refl}
 use Rattle.records.specs.Gate.GateLaws.{tree_injective}
@@ -16,7 +16,6 @@ use Rattle.records.specs.Ends.Stands.{Stands}
 use Rattle.records.specs.Ends.StandsLaws.{stands_within, stands_first, stands_second, stands_ends, term_ends}
 use Rattle.records.specs.Ends.Places.{goal_end, row_places, part_ends, event_places}
 use Rattle.records.specs.Ends.PlacesLaws.{event_parts, goal_found}
-use Rattle.records.specs.declared.ends.Found.TheVariants.{At}
 use Rattle.records.specs.declared.places.Places.{Places}
 use Rattle.records.specs.declared.places.PartEnds.{PartEnds}
 use Rattle.terms.specs.Standing.Accepted.{ancestors_at, bets_at}
@@ -40,7 +39,7 @@ second_byte {s} {l} {at} w = sym (get_or-drop at s 1 0) ∙ ap (λ (r : List ℕ
 module _ {s : List ℕ} {at : ℕ} where
   -- where the first of two goals after a head ends
   half_found : {e : ℕ} (head : List ℕ) (a : Goal) (rest : List ℕ) → GoalFormed a → Stands s at (head ++ (goal_bytes a ++ rest)) e
-      → end_at s (at + length head) 0 1 ≡ At (goal_end (at + length head) a)
+      → end_at s (at + length head) 0 1 ≡ Some (goal_end (at + length head) a)
   half_found head a rest f w = goal_found a f (stands_first (goal_bytes a) rest (stands_second head (goal_bytes a ++ rest) w))
 
   pub goal_part_is : (g : Goal) → GoalFormed g → Stands s at (goal_bytes g) (goal_end at g) → goal_part_at s (record { from = at; to = goal_end at g }) ≡ goal_part at g

@@ -1,11 +1,14 @@
 -- The run in code: its order and its answer, its log as numbers, and the contract of a run behind the gate (`RanTo`). And its loop, which nobody
 -- else sees: the present event's record is at the front of a buffer, and the next one is made in another; what holds between two turns is that the
 -- run of as many steps as are taken is held there.
-use Rattle.std.specs.Prelude.{◌≡◌, Bool, true, false, cond, List, [], ◌∷◌, ◌++◌, ℕ, suc, ◌-◌, ◌*◌, ◌/◌, ◌≤◌, eqb, length, take}
+use Rattle.std.specs.Prelude.{◌≡◌, Bool, true, false, cond, List, [], ◌∷◌, ◌++◌, ℕ, suc, ◌-◌, ◌*◌, ◌/◌, ◌≤◌, eqb, length, take, Option as Optional, None, Some, Result, Ok, Err}
 use Rattle.std.proofs.Math.Option.{Option, none, some}
 use Rattle.records.specs.Format.Syntax.{Event, Definition}
 use Rattle.records.specs.Format.Encode.{port_byte, event_record}
 use Rattle.records.specs.Ends.Places.{part_ends}
+use Rattle.records.specs.Gate.Question.{refusal}
+use Rattle.records.specs.Gate.Reply.{outcome_number}
+use Rattle.records.specs.declared.questions.Refusal.{Refusal}
 use Rattle.records.specs.Gate.Gate.{tree, read_event, read_program}
 use Rattle.records.specs.Writing.Patched.{patched}
 use Rattle.stepper.specs.Rules.Machine.{gives}
@@ -46,42 +49,59 @@ port_flag a n = cond (eqb n 1) a.call (cond (eqb n 2) a.exit (cond (eqb n 3) a.f
 abbrev pub aim_of : RunAim → Aim
 aim_of a = record { ports = λ p. port_flag a (port_byte p); ancestors = a.ancestors }
 
+-- the aim that code gives, if it gives one
+abbrev pub aim_told : Optional RunAim → Option Aim
+aim_told (Some a) = some (aim_of a)
+aim_told None = none
+
 -- the room of a slice as a log of three numbers a mark, if it is one
 abbrev pub room_of : (logged : Bool) → (length : ℕ) → Option ℕ
 room_of logged n = cond logged (some (n / 3)) none
 
 -- the order that code gives, lent such a slice
 abbrev pub asked : RunOrder → (log : List ℕ) → Order
-asked o log = record { direction = direction o.back; aim = cond o.aimed (some (aim_of o.aim)) none; room = room_of o.logged (length log) }
+asked o log = record { direction = direction o.back; aim = aim_told o.aim; room = room_of o.logged (length log) }
 
 -- is an event of this mark aimed at?
 abbrev pub aimed_at : RunAim → RunMark → Bool
 aimed_at a m = cond (eqb m.ancestors a.ancestors) (port_flag a m.port) false
 
+-- is it aimed at by an order's aim?
+abbrev pub aimed_by : Optional RunAim → RunMark → Bool
+aimed_by (Some a) m = aimed_at a m
+aimed_by None m = false
+
 -- why a run stops at such an event, which its last step gave
 abbrev pub stop_at : RunOrder → RunMark → RunStop
-stop_at o m = cond (cond o.aimed (aimed_at o.aim m) false) Met Spent
+stop_at o m = cond (aimed_by o.aim m) Met Spent
 
 -- why a run stopped, as code says it
 abbrev pub stop_case : Stop → RunStop
 stop_case spent = Spent
 stop_case met = Met
 stop_case full = Full
-stop_case (by q) = Refused
+stop_case (by q) = Refused (refusal q)
+
+-- done, or the question that stopped the run
+abbrev pub run_outcome : RunStop → Result (Unit {0}) Refusal
+run_outcome Spent = Ok tt
+run_outcome Met = Ok tt
+run_outcome Full = Ok tt
+run_outcome (Refused r) = Err r
 
 -- has a run met its aim?
 abbrev pub met_case : RunStop → Bool
 met_case Spent = false
 met_case Met = true
 met_case Full = false
-met_case Refused = false
+met_case (Refused r) = false
 
 -- has a run stopped before all its steps were taken?
 abbrev pub stopped_case : RunStop → Bool
 stopped_case Spent = false
 stopped_case Met = true
 stopped_case Full = true
-stopped_case Refused = true
+stopped_case (Refused r) = true
 
 -- the numbers of marks, one after the other
 unfoldable pub log_numbers : List Mark → List ℕ
@@ -94,23 +114,23 @@ with_log logged log l = cond logged (patched log 0 (log_numbers l)) log
 
 -- steps alone, in code
 abbrev pub plain_order : (back : Bool) → RunOrder
-plain_order b = record { back = b; aimed = false; aim = record { call = false; exit = false; fail = false; redo = false; ancestors = 0 }; logged = false }
+plain_order b = record { back = b; aim = None; logged = false }
 
 -- a run that has taken no step
 abbrev pub started_run : (length : ℕ) → PartEnds → RunAnswer
-started_run n ends = record { number = 0; stop = Spent; taken = 0; length = n; ends = ends }
+started_run n ends = record { stop = Spent; taken = 0; length = n; ends = ends }
 
 -- the same event, where the run stops
-abbrev pub stopped_run : RunAnswer → RunStop → ℕ → RunAnswer
-stopped_run r s n = record { number = n; stop = s; taken = r.taken; length = r.length; ends = r.ends }
+abbrev pub stopped_run : RunAnswer → RunStop → RunAnswer
+stopped_run r s = record { stop = s; taken = r.taken; length = r.length; ends = r.ends }
 
 -- a run that the gate refuses
-abbrev pub refused_run : ℕ → RunAnswer
-refused_run n = record { number = n; stop = Refused; taken = 0; length = 0; ends = record { goal = 0; ancestors = 0 } }
+abbrev pub refused_run : Refusal → RunAnswer
+refused_run r = record { stop = Refused r; taken = 0; length = 0; ends = record { goal = 0; ancestors = 0 } }
 
 -- an answer tells a run's end
 pub record Tells (end : RunEnd) (r : RunAnswer) : Type 0 where
-  pub number_is : r.number ≡ stop_number end.why
+  pub number_is : outcome_number (run_outcome r.stop) ≡ stop_number end.why
   pub stop_is : r.stop ≡ stop_case end.why
   pub taken_is : r.taken ≡ end.taken
   pub length_is : r.length ≡ length (event_record end.event)

@@ -1,10 +1,9 @@
 -- Laws of the loop of a run: a turn takes the run that is held to the run of one step more, and the loop's end is the run of all steps, or of any
 -- number from there on where it was stopped.
-use Rattle.std.specs.Prelude.{◌≡◌, Bool, true, false, cond, ℕ, suc, ◌+◌, ◌-◌, ◌*◌, ◌/◌, ◌≤◌, ◌<◌, eqb, leb, take, set}
+use Rattle.std.specs.Prelude.{◌≡◌, Bool, true, false, cond, ℕ, suc, ◌+◌, ◌-◌, ◌*◌, ◌/◌, ◌≤◌, ◌<◌, eqb, leb, take, set, Option as Optional, None, Some, Ok, Err}
 use Rattle.std.proofs.Math.Path.{refl, sym, ap}
 use Rattle.std.proofs.Common.{◌∙◌, subst, add-zero, arith, length-take, length-take-le, eq-eqb, ne_eqb, le-leb}
 use mathlib.Core.List.{List, [], ◌∷◌, ◌++◌, append-nil}
-use Rattle.std.proofs.Math.Option.{none, some}
 use Rattle.std.proofs.Math.Decide.{dec_le}
 use Rattle.std.proofs.Math.ListN.{length, drop}
 use Rattle.std.proofs.Math.Seq.{take-append_seam}
@@ -14,12 +13,16 @@ use Rattle.records.specs.Format.Syntax.{Event, event}
 use Rattle.records.specs.Format.Encode.{event_record}
 use Rattle.records.specs.Format.HeadLaws.{Known, bytes_all}
 use Rattle.records.specs.Gate.Gate.{tree, read_event}
-use Rattle.records.specs.Ends.Places.{event_places, EndsOf}
+use Rattle.records.specs.Ends.Places.{event_places, part_ends, EndsOf}
 use Rattle.records.specs.Writing.Patched.{Put}
 use Rattle.records.specs.Writing.PatchedLaws.{put_set, put_then, put_front, put_length, front_put, patched_nil, patched_append, length_patched}
 use Rattle.records.specs.declared.places.Places.{Places}
 use Rattle.records.specs.declared.places.PartEnds.{PartEnds}
-use Rattle.stepper.specs.declared.emit.StepAnswer.{StepAnswer}
+use Rattle.records.specs.Gate.Question.{refusal}
+use Rattle.records.specs.Gate.OutcomeLaws.{refusal_same, refusal_positive}
+use Rattle.records.specs.declared.questions.Refusal.{Refusal}
+use Rattle.stepper.specs.Services.PassedLaws.{question_named}
+use Rattle.stepper.specs.declared.emit.Reached.{Reached}
 use Rattle.stepper.specs.Rules.Machine.{Machine, StepOutcome, refused, gives}
 use Rattle.stepper.specs.Rules.Rules.{step}
 use Rattle.stepper.specs.Services.Services.{Program, machine, reply}
@@ -27,13 +30,14 @@ use Rattle.records.specs.Gate.ReplyLaws.{reply_gives}
 use Rattle.stepper.specs.Services.ServiceLaws.{Recordable, limit_fits, read_recordable, step_recordable}
 use Rattle.stepper.specs.Services.Desk.{layers}
 use Rattle.stepper.specs.Services.DeskLaws.{lawful}
-use Rattle.records.specs.Gate.Reply.{reply_with, answer_length}
+use Rattle.records.specs.Gate.Reply.{reply_with, answer_length, outcome_number}
 use Rattle.stepper.specs.Plans.ViewLaws.{ends_known}
-use Rattle.stepper.specs.Step.Stepped.{Stepped, BothPassed}
+use Rattle.stepper.specs.Step.Stepped.{StepAnswer, reached_length, reached_ends, Stepped, BothPassed}
 use Rattle.stepper.specs.Run.Run.{Mark, mark, meets, Order, is_full, less_room, with_marks, Stop, spent, met, full, by, RunEnd, ended, past, run, stop_number}
-use Rattle.stepper.specs.Run.RunLoop.{direction, told_mark, mark_numbers, with_mark, room_of, aim_of, asked, aimed_at, stop_at, stop_case, met_case, stopped_case, log_numbers, with_log, started_run, Tells, RanTo, RanHere, turns_left, Held, RunStands, run_so_far, RunHolds, Keeps}
+use Rattle.stepper.specs.Run.RunLoop.{direction, told_mark, mark_numbers, with_mark, room_of, aim_told, asked, aimed_at, aimed_by, stop_at, stop_case, met_case, stopped_case, run_outcome, log_numbers, with_log, started_run, Tells, RanTo, RanHere, turns_left, Held, RunStands, run_so_far, RunHolds, Keeps}
 use Rattle.stepper.specs.Run.RunLaws.{then, Course, no_count, no_room, no_step, last_step, one_step, course, course_run, course_then, StopTold, run_log_length, run_told, run_over}
 use Rattle.stepper.specs.Run.RunServiceLaws.{run_recordable}
+use Rattle.stepper.specs.declared.run.RunAim.{RunAim}
 use Rattle.stepper.specs.declared.run.RunOrder.{RunOrder}
 use Rattle.stepper.specs.declared.run.RunMark.{RunMark}
 use Rattle.stepper.specs.declared.run.RunStop.{RunStop}
@@ -91,17 +95,25 @@ log_kept false log l = refl
 -- why a run stops at an event that its last step gave
 stop_told : (o : RunOrder) (log : List ℕ) (m : Mark) → stop_at o (told_mark m) ≡ stop_case (cond (meets (asked o log).aim m) met spent)
 unfolding meets
-stop_told o log m = go o.aimed
+stop_told o log m = go o.aim
   where
     as_case : (b : Bool) → cond b Met Spent ≡ stop_case (cond b met spent)
     as_case true = refl
     as_case false = refl
 
-    go : (b : Bool) → cond (cond b (aimed_at o.aim (told_mark m)) false) Met Spent ≡ stop_case (cond (meets (cond b (some (aim_of o.aim)) none) m) met spent)
-    go true = as_case (aimed_at o.aim (told_mark m))
-    go false = refl
+    go : (a : Optional RunAim) → cond (aimed_by a (told_mark m)) Met Spent ≡ stop_case (cond (meets (aim_told a) m) met spent)
+    go (Some a) = as_case (aimed_at a (told_mark m))
+    go None = refl
 
-no_number : (b : Bool) → 0 ≡ stop_number (cond b met spent)
+-- the number by which code says it
+stop_numbered : (s : Stop) → outcome_number (run_outcome (stop_case s)) ≡ stop_number s
+unfolding stop_number
+stop_numbered spent = refl
+stop_numbered met = refl
+stop_numbered full = refl
+stop_numbered (by q) = refusal_same q
+
+pub no_number : (b : Bool) → 0 ≡ stop_number (cond b met spent)
 unfolding stop_number
 no_number true = refl
 no_number false = refl
@@ -147,14 +159,14 @@ module _ {program : List ℕ} (byte : Known program) {order : RunOrder} {now : R
   lent_room f = ap (λ n. is_full (less_room now.taken (room_of order.logged n))) (sym same_room) ∙ f
 
   -- the run stops where it stands
-  stopped_here : {n : ℕ} (s : Stop) → Course M (with_marks now.taken o) 1 so_far.event (ended so_far.event s) → n ≡ stop_number s
-      → RunHolds g (now.taken + 1) (record { number = n; stop = stop_case s; taken = now.taken; length = now.length; ends = now.ends }) here log
+  stopped_here : (s : Stop) → Course M (with_marks now.taken o) 1 so_far.event (ended so_far.event s)
+      → RunHolds g (now.taken + 1) (record { stop = stop_case s; taken = now.taken; length = now.length; ends = now.ends }) here log
   unfolding then
-  stopped_here s k e =
+  stopped_here s k =
       let h = g.held in
       rw (next k) (record {
         tells = record {
-          number_is = e;
+          number_is = stop_numbered s;
           stop_is = refl;
           taken_is = h.tells.taken_is ∙ sym (add-zero _);
           length_is = h.tells.length_is;
@@ -165,44 +177,51 @@ module _ {program : List ℕ} (byte : Known program) {order : RunOrder} {now : R
         log_is = h.log_is ∙ rw append-nil refl;
       })
 
-  pub turn_full : Room true → RunHolds g (now.taken + 1) (record { number = 0; stop = Full; taken = now.taken; length = now.length; ends = now.ends }) here log
-  unfolding stop_number
-  turn_full f = stopped_here full (no_room (lent_room f)) refl
+  pub turn_full : Room true → RunHolds g (now.taken + 1) (record { stop = Full; taken = now.taken; length = now.length; ends = now.ends }) here log
+  turn_full f = stopped_here full (no_room (lent_room f))
 
   module _ (f : Room false) {there there' : List ℕ} {moved : StepAnswer} (m : Stepped (step M (direction order.back) so_far.event) there moved there') where
-    pub turn_refused : (moved.number ≡ 0 → ⊥) → RunHolds g (now.taken + 1) (record { number = moved.number; stop = Refused; taken = now.taken; length = now.length; ends = now.ends }) here log
-    unfolding reply_with stop_number
-    turn_refused z = go (step M (direction order.back) so_far.event) refl m
+    pub turn_refused : {r : Refusal} → moved ≡ Err r → RunHolds g (now.taken + 1) (record { stop = Refused r; taken = now.taken; length = now.length; ends = now.ends }) here log
+    unfolding reply_with
+    turn_refused {r} z = go (step M (direction order.back) so_far.event) refl m
       where
         go : (a : StepOutcome) → step M (direction order.back) so_far.event ≡ a → Stepped a there moved there'
-            → RunHolds g (now.taken + 1) (record { number = moved.number; stop = Refused; taken = now.taken; length = now.length; ends = now.ends }) here log
-        go (refused q) h w = stopped_here (by q) (no_step q (lent_room f) h) w.number_is
-        go (gives c) h w = absurd (z w.number_is)
+            → RunHolds g (now.taken + 1) (record { stop = Refused r; taken = now.taken; length = now.length; ends = now.ends }) here log
+        go (refused q) h w =
+            let same : refusal q ≡ r = question_named q (sym (ap outcome_number z) ∙ w.number_is) in
+            rw same at (stopped_here (by q) (no_step q (lent_room f) h))
+        go (gives c) h w = absurd (refusal_positive r (sym (ap outcome_number z) ∙ w.number_is))
 
     -- the step gives an event
-    module _ (z : moved.number ≡ 0) where
+    module _ {to : Reached} (z : moved ≡ Ok to) where
       abbrev given : (c : Event) × (step M (direction order.back) so_far.event ≡ gives c)
-      given = reply_gives event_record there _ (sym m.number_is ∙ z)
+      given = reply_gives event_record there _ (sym m.number_is ∙ ap outcome_number z)
 
       given_recordable : Recordable given.0
       given_recordable = step_recordable layers lawful rules (direction order.back) so_far.event given.0 reached given.1
 
-      pub given_short : moved.length ≤ 32768
+      given_size : to.length ≡ length (event_record given.0)
       unfolding answer_length
-      given_short = omega (arith, m.length_is ∙ ap (answer_length event_record) given.1, limit_fits given.0 given_recordable.1)
+      given_size = sym (ap reached_length z) ∙ m.length_is ∙ ap (answer_length event_record) given.1
 
-      given_front : take moved.length there' ≡ event_record given.0
-      unfolding reply_with answer_length
-      given_front = rw (m.length_is ∙ ap (answer_length event_record) given.1, m.output_is ∙ ap (λ x. (reply there x).output) given.1) (take-append_seam _ _)
+      pub given_short : to.length ≤ 32768
+      given_short = omega (arith, given_size, limit_fits given.0 given_recordable.1)
 
-      pub given_room : 32768 ≤ length here → 0 + length (take moved.length there') ≤ length here
-      given_room h = omega (arith, length-take moved.length there', given_short)
+      given_front : take to.length there' ≡ event_record given.0
+      unfolding reply_with
+      given_front = ap (λ n. take n there') given_size ∙ rw (m.output_is ∙ ap (λ x. (reply there x).output) given.1) (take-append_seam _ _)
 
-      pub given_reads : read_event (take moved.length there') ≡ tree given.0
+      pub given_room : 32768 ≤ length here → 0 + length (take to.length there') ≤ length here
+      given_room h = omega (arith, length-take to.length there', given_short)
+
+      pub given_reads : read_event (take to.length there') ≡ tree given.0
       given_reads = rw given_front (lawful.event_back given.0 given_recordable.0 (limit_fits given.0 given_recordable.1))
 
-      pub given_ends : EndsOf (take moved.length there') moved.ends
-      given_ends = ends_known (take moved.length there') given_reads (m.ends_are given.0 given.1)
+      given_ends_are : to.ends ≡ part_ends given.0
+      given_ends_are = sym (ap reached_ends z) ∙ m.ends_are given.0 given.1
+
+      pub given_ends : EndsOf (take to.length there') to.ends
+      given_ends = ends_known (take to.length there') given_reads given_ends_are
 
       turned : Course M (with_marks now.taken o) 1 so_far.event (past (mark given.0) (ended given.0 (cond (meets o.aim (mark given.0)) met spent)))
       turned = go (meets o.aim (mark given.0)) refl
@@ -213,25 +232,26 @@ module _ {program : List ℕ} (byte : Known program) {order : RunOrder} {now : R
           go false h = one_step given.0 (lent_room f) given.1 h no_count
 
       pub turn_given : {here' log' : List ℕ} {at : ℕ} {k : RunMark} {s : RunStop} → 32768 ≤ length here → k ≡ told_mark (mark given.0)
-          → Put here 0 (take moved.length there') here' at → log' ≡ with_mark order.logged log now.taken k → s ≡ stop_at order k
-          → RunHolds g (now.taken + 1) (record { number = 0; stop = s; taken = now.taken + 1; length = moved.length; ends = moved.ends }) here' log'
-      unfolding then past answer_length
-      turn_given {here'} room marked p logged stops =
+          → Put here 0 (take to.length there') here' at → log' ≡ with_mark order.logged log now.taken k → s ≡ stop_at order k
+          → RunHolds g (now.taken + 1) (record { stop = s; taken = now.taken + 1; length = to.length; ends = to.ends }) here' log'
+      unfolding then past
+      turn_given {here'} {s = s} room marked p logged stops =
           let c = given.0 in
           let h = g.held in
-          let size : moved.length ≡ length (event_record c) = m.length_is ∙ ap (answer_length event_record) given.1 in
+          let size = given_size in
           let short = given_short in
+          let told : s ≡ stop_case (cond (meets o.aim (mark c)) met spent) = stops ∙ rw marked (stop_told order g.before (mark c)) in
           let whole : here' ≡ event_record c ++ drop (length (event_record c)) here = rw given_front at (put_front p (rw given_front (omega arith))) in
           let count : now.taken ≡ length so_far.log = h.tells.taken_is ∙ sym (run_log_length M o now.taken g.start) in
           rw (next turned) (record {
             tells = record {
-              number_is = no_number (meets o.aim (mark c));
-              stop_is = stops ∙ rw marked (stop_told order g.before (mark c));
+              number_is = ap (λ x. outcome_number (run_outcome x)) told ∙ stop_numbered (cond (meets o.aim (mark c)) met spent);
+              stop_is = told;
               taken_is = ap (λ n. n + 1) h.tells.taken_is;
               length_is = size;
-              ends_are = m.ends_are c given.1;
+              ends_are = given_ends_are;
             };
-            front = rw (size, whole) (take-append_seam _ _);
+            front = ap (λ n. take n here') size ∙ rw whole (take-append_seam _ _);
             inside = omega (arith, put_length p);
             log_is = logged ∙ rw (marked, h.log_is) (log_more order.logged g.before so_far.log (mark c) now.taken count);
           })
@@ -266,8 +286,8 @@ module _ {program : List ℕ} {order : RunOrder} {first : RunAnswer} {here₀ lo
   keeps_all {r} {here} {log} steps k e = subst (λ n. RunHolds g n r here log) e k.1
 
 -- a slice that is too short for a mark is as good as none
-asked_alike : (o : RunOrder) (log : List ℕ) → length log ≡ 1 → asked o log ≡ asked o []
-asked_alike o log h = ap (λ n. record { direction = direction o.back; aim = cond o.aimed (some (aim_of o.aim)) none; room = n }) (ap (room_of o.logged) h ∙ go o.logged)
+pub asked_alike : (o : RunOrder) (log : List ℕ) → length log ≡ 1 → asked o log ≡ asked o []
+asked_alike o log h = ap (λ n. record { direction = direction o.back; aim = aim_told o.aim; room = n }) (ap (room_of o.logged) h ∙ go o.logged)
   where
     go : (b : Bool) → room_of b 1 ≡ room_of b 0
     go true = refl
@@ -347,9 +367,9 @@ module _ {program s here log log' : List ℕ} (byte : Known program) (known : Kn
       }
 
   -- or it is left where it is, and there is no log
-  pub ran_held : {before : List ℕ} → length log ≡ 1 → length here ≡ length before → RanHere (run (machine layers w.definitions) (asked order []) steps w.event) r before here
-  ran_held {before} short same =
-      subst (λ o. RanHere (run (machine layers w.definitions) o steps w.event) r before here) (asked_alike order log short)
+  pub ran_held : {before : List ℕ} → log ≡ [] → length here ≡ length before → RanHere (run (machine layers w.definitions) (asked order []) steps w.event) r before here
+  ran_held {before} empty same =
+      subst (λ o. RanHere (run (machine layers w.definitions) o steps w.event) r before here) (ap (asked order) empty)
       (record { tells = h.tells; front = h.front; reads = rw h.front end_reads; inside = h.inside; same_length = same })
 
 -- what an answer tells of a run that met its aim, and of one that did not

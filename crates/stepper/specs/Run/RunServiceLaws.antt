@@ -1,6 +1,6 @@
 -- Laws of the run service on bytes: it does what that many single steps do, its number is that of the step that stopped it, and its output
 -- keeps its length; and what code replies for it.
-use Rattle.std.specs.Prelude.{◌≡◌, List, ℕ, ◌≤◌, drop, replicate, false}
+use Rattle.std.specs.Prelude.{◌≡◌, List, ℕ, ◌≤◌, drop, replicate, false, Result, Err}
 use Rattle.std.proofs.Math.Path.{refl, sym, ap}
 use Rattle.std.proofs.Common.{◌∙◌, zero-add, arith}
 use Rattle.std.proofs.Math.Option.{none-ne-some}
@@ -8,10 +8,10 @@ use Rattle.std.proofs.Math.ListN.{length}
 use Rattle.records.specs.Format.Never.{never}
 use Rattle.records.specs.Format.Syntax.{Event}
 use Rattle.records.specs.Format.Encode.{event_record}
-use Rattle.records.specs.Gate.Question.{Question}
+use Rattle.records.specs.Gate.Question.{Question, refusal_number}
 use Rattle.records.specs.Format.HeadLaws.{Bytes}
 use Rattle.records.specs.Gate.Gate.{tree, front_record, read_program, read_event}
-use Rattle.records.specs.Gate.Reply.{through, reply_with}
+use Rattle.records.specs.Gate.Reply.{through, reply_with, told, outcome_number}
 use Rattle.stepper.specs.Services.Layers.{Layers, Lawful}
 use Rattle.stepper.specs.Rules.Machine.{Machine, refused, gives}
 use Rattle.stepper.specs.Rules.Rules.{step, accepted, Lent}
@@ -24,9 +24,11 @@ use Rattle.stepper.specs.Walks.ReachedLaws.{steps_attempt}
 use Rattle.stepper.specs.Services.Services.{reply, step_answer, step_record, Move, serve, Program, rules_of, machine}
 use Rattle.stepper.specs.Services.ServiceLaws.{Recordable, limit_fits, front_event, read_recordable, step_recordable, step_of_record, lent, served_from}
 use Rattle.stepper.specs.Services.Desk.{layers}
-use Rattle.stepper.specs.Step.Stepped.{BothPassed, gate_number}
-use Rattle.stepper.specs.Run.RunLoop.{RanTo}
-use Rattle.records.specs.Gate.ReplyLaws.{number_positive, gives_injective, through_gives, reply_length, number_refuses}
+use Rattle.stepper.specs.Step.Stepped.{BothPassed}
+use Rattle.stepper.specs.Run.RunLoop.{run_outcome, RanTo}
+use Rattle.records.specs.Gate.ReplyLaws.{number_positive, gives_injective, through_gives, reply_length}
+use Rattle.records.specs.Gate.OutcomeLaws.{told_refuses, refusal_same}
+use Rattle.records.specs.declared.questions.Refusal.{Refusal}
 use Rattle.records.specs.Gate.Door.{gate}
 use Rattle.records.specs.Gate.DoorLaws.{gate_both, gate_gives}
 use Rattle.stepper.specs.declared.run.RunAnswer.{RunAnswer}
@@ -140,15 +142,17 @@ run_output_length L laws d n program s out b i = reply_length (λ r. event_recor
         rw (← gives_injective w.2) (omega (arith, limit_fits _ f.1, passed.2))
 
 -- in code: the gate says no,
-pub gated_refused : (begun : Machine → Event → RunEnd) (program s out : List ℕ) {n : ℕ} → n ≡ gate_number program s (length out) → (n ≡ 0 → ⊥)
-    → RunReplied (run_reply out (gated layers begun program s (length out))) n 0 out
+pub gated_refused : (begun : Machine → Event → RunEnd) (program s out : List ℕ) {outcome : Result (Unit {0}) Refusal} {r : Refusal}
+    → outcome ≡ told (gate (read_program program) (read_event s) (length out)) → outcome ≡ Err r
+    → RunReplied (run_reply out (gated layers begun program s (length out))) (refusal_number r) 0 out
 unfolding run_reply gated through reply_with
 gated_refused begun program s out e z =
-    let w = number_refuses (gate (read_program program) (read_event s) (length out)) e z in
-    rw w.refuses (record { number_is = w.number_is; taken_is = refl; output_is = refl })
+    let w = told_refuses (gate (read_program program) (read_event s) (length out)) e z in
+    rw w.1 (record { number_is = ap refusal_number (sym w.2) ∙ refusal_same w.0; taken_is = refl; output_is = refl })
 
-pub run_gate_refused : (d : Direction) (steps : ℕ) (program s out : List ℕ) {n : ℕ} → n ≡ gate_number program s (length out) → (n ≡ 0 → ⊥)
-    → RunReplied (run_record layers d steps program s out) n 0 out
+pub run_gate_refused : (d : Direction) (steps : ℕ) (program s out : List ℕ) {outcome : Result (Unit {0}) Refusal} {r : Refusal}
+    → outcome ≡ told (gate (read_program program) (read_event s) (length out)) → outcome ≡ Err r
+    → RunReplied (run_record layers d steps program s out) (refusal_number r) 0 out
 unfolding run_record run_answer
 run_gate_refused d steps program s out e z = gated_refused (λ M. run M (plain d) steps) program s out e z
 
@@ -163,6 +167,6 @@ gated_replied {program} {s} out begun w room x y z =
 
 pub run_replied : {program s out log log' out' : List ℕ} {r : RunAnswer} (d : Direction) (steps : ℕ) (w : BothPassed program s) → 32768 ≤ length out
     → RanTo (run (machine layers w.definitions) (plain d) steps w.event) false log out r log' out'
-    → RunReplied (run_record layers d steps program s out) r.number r.taken out'
+    → RunReplied (run_record layers d steps program s out) (outcome_number (run_outcome r.stop)) r.taken out'
 unfolding run_record run_answer
 run_replied {out = out} d steps w room h = gated_replied out (λ M. run M (plain d) steps) w room h.tells.number_is h.tells.taken_is h.output_is

@@ -1,6 +1,6 @@
 -- Laws of the lookup: its part lies in the program and holds the bytes of the definition found, it is empty exactly when none is, and what the gate
 -- answers, the goal's head and the search for a definition tell is this part.
-use Rattle.std.specs.Prelude.{◌≡◌, ◌↔◌, Bool, true, false, cond, List, [], ◌∷◌, ◌++◌, ℕ, ◌+◌, ◌-◌, ◌≤◌, drop}
+use Rattle.std.specs.Prelude.{◌≡◌, ◌↔◌, Bool, true, false, cond, List, [], ◌∷◌, ◌++◌, ℕ, ◌+◌, ◌-◌, ◌≤◌, drop, Some, None, Option as Optional, Result, Err}
 use Rattle.std.proofs.Math.Path.{refl, ap}
 use Rattle.std.proofs.Common.{sym, ◌∙◌, append_assoc, arith, length-append, take_at, drop_at}
 use Rattle.std.proofs.Math.Option.{Option, none, some, none-ne-some}
@@ -14,20 +14,19 @@ use Rattle.records.specs.Format.Heads.{goal_head_at}
 use Rattle.records.specs.Ends.Stands.{head_of_goal}
 use Rattle.records.specs.Ends.Places.{event_places}
 use Rattle.records.specs.Gate.Gate.{Reading, tree, Accepted, read_program, read_event}
-use Rattle.records.specs.Gate.Reply.{Answer, refused, gives, through, answer_number}
-use Rattle.records.specs.Gate.ReplyLaws.{number_refuses}
+use Rattle.records.specs.Gate.Reply.{Answer, refused, gives, through, told}
+use Rattle.records.specs.Gate.OutcomeLaws.{told_refuses}
+use Rattle.records.specs.declared.questions.Refusal.{Refusal}
 use Rattle.records.specs.Gate.Door.{Trees, door, BothPassed}
 use Rattle.records.specs.Gate.DoorLaws.{door_gives, door_both}
 use Rattle.records.specs.Gate.GateLaws.{program_tree}
 use Rattle.records.specs.declared.heads.GoalHead.{GoalHead}
-use Rattle.records.specs.declared.heads.GoalHead.TheVariants.{Truth, Failure, Equal, Conj, Disj, Atom, NoGoal}
+use Rattle.records.specs.declared.heads.GoalHead.TheVariants.{Truth, Failure, Equal, Conj, Disj, Atom}
 use Rattle.records.specs.declared.places.Places.{Places}
 use Rattle.records.specs.declared.put.Range.{Range}
 use Rattle.terms.specs.Standing.AcceptedLaws.{goal_told, accepted_program}
 use Rattle.terms.specs.Body.Body.{defines, definition_of}
-use Rattle.terms.specs.Body.Definitions.{ProgramAt, definition_place, find_definition}
-use Rattle.terms.specs.declared.definitions.Lookup.{Lookup}
-use Rattle.terms.specs.declared.definitions.Lookup.TheVariants.{Absent, Present}
+use Rattle.terms.specs.Body.Definitions.{ProgramAt, Lookup, definition_place, find_definition}
 use Rattle.stepper.specs.Services.Lookup.{ProgramPart, empty, part_of, named, found, definition_part, lookup, range_of, named_part, LookedUp}
 
 -- the bytes of a definition, if there is one
@@ -102,19 +101,19 @@ has_definitions s known h = go (read_program s) refl h
 
 -- the place that the search for a definition finds, as a range
 abbrev pub place_range : Lookup → Range
-place_range Absent = range_of empty
-place_range (Present a) = record { from = a.start; to = a.end }
+place_range None = range_of empty
+place_range (Some a) = record { from = a.start; to = a.end }
 
 searched_range : (at i : ℕ) (ds : List Definition) (p k : ℕ) → place_range (find_definition at i ds p k) ≡ range_of (definition_part at ds p k)
 unfolding find_definition definition_part
 searched_range at i [] p k = refl
 searched_range at i (d ∷ ds) p k = go (defines p k d) (searched_range (at + length (definition_bytes d)) (i + 1) ds p k)
   where
-    placed : (x : Definition) → place_range (Present (definition_place at i x)) ≡ range_of (record { at = at; size = length (definition_bytes x) })
+    placed : (x : Definition) → place_range (Some (definition_place at i x)) ≡ range_of (record { at = at; size = length (definition_bytes x) })
     placed (definition q m l g) = refl
 
     go : (b : Bool) → place_range (find_definition (at + length (definition_bytes d)) (i + 1) ds p k) ≡ range_of (definition_part (at + length (definition_bytes d)) ds p k)
-        → place_range (cond b (Present (definition_place at i d)) (find_definition (at + length (definition_bytes d)) (i + 1) ds p k))
+        → place_range (cond b (Some (definition_place at i d)) (find_definition (at + length (definition_bytes d)) (i + 1) ds p k))
         ≡ range_of (cond b (record { at = at; size = length (definition_bytes d) }) (definition_part (at + length (definition_bytes d)) ds p k))
     go true h = placed d
     go false h = h
@@ -125,14 +124,14 @@ pub range_found : (s : List ℕ) → Known s → (p k : ℕ) {found : Lookup} �
 range_found s known p k is i q w ds e = w ∙ ap place_range (sym q ∙ is (accepted_program s known ds e)) ∙ searched_range 5 0 ds p k
 
 -- what a goal's head names: nothing if it is no atom's
-abbrev head_named : {A : Type 0} → A → (ℕ → ℕ → A) → GoalHead → A
-head_named z f Truth = z
-head_named z f Failure = z
-head_named z f Equal = z
-head_named z f Conj = z
-head_named z f Disj = z
-head_named z f (Atom p k) = f p k
-head_named z f NoGoal = z
+abbrev head_named : {A : Type 0} → A → (ℕ → ℕ → A) → Optional GoalHead → A
+head_named z f (Some Truth) = z
+head_named z f (Some Failure) = z
+head_named z f (Some Equal) = z
+head_named z f (Some Conj) = z
+head_named z f (Some Disj) = z
+head_named z f (Some (Atom p k)) = f p k
+head_named z f None = z
 
 named_head : {A : Type 0} (z : A) (f : ℕ → ℕ → A) (p : Port) (g : Goal) (u : List Ancestor) (b : List Bet) → named z f (event p g u b) ≡ head_named z f (head_of_goal g)
 unfolding named
@@ -143,37 +142,38 @@ named_head z f p (conj x y) u b = refl
 named_head z f p (disj x y) u b = refl
 named_head z f p (atom q ts) u b = refl
 
-unnamed_head : {A : Type 0} (z : A) (f : ℕ → ℕ → A) (h : GoalHead) → ((p k : ℕ) → h ≡ Atom p k → ⊥) → head_named z f h ≡ z
-unnamed_head z f Truth n = refl
-unnamed_head z f Failure n = refl
-unnamed_head z f Equal n = refl
-unnamed_head z f Conj n = refl
-unnamed_head z f Disj n = refl
-unnamed_head z f (Atom p k) n = absurd (n p k refl)
-unnamed_head z f NoGoal n = refl
+unnamed_head : {A : Type 0} (z : A) (f : ℕ → ℕ → A) (h : Optional GoalHead) → ((p k : ℕ) → h ≡ (Some (Atom p k)) → ⊥) → head_named z f h ≡ z
+unnamed_head z f (Some Truth) n = refl
+unnamed_head z f (Some Failure) n = refl
+unnamed_head z f (Some Equal) n = refl
+unnamed_head z f (Some Conj) n = refl
+unnamed_head z f (Some Disj) n = refl
+unnamed_head z f (Some (Atom p k)) n = absurd (n p k refl)
+unnamed_head z f None n = refl
 
 -- for code that has the head h of an accepted event's goal
 module _ (program : List ℕ) (s : List ℕ) (known : Known s) {places : Places} (are : (e : Event) → read_event s ≡ tree e → places ≡ event_places e)
-    {h : GoalHead} (is : h ≡ goal_head_at s places.goal.from) where
+    {h : Optional GoalHead} (is : h ≡ goal_head_at s places.goal.from) where
   goal_names : (ds : List Definition) (e : Event) → read_event s ≡ tree e → named_part ds e ≡ head_named empty (definition_part 5 ds) h
   unfolding named_part event_places
   goal_names ds (event p g u b) q =
       let w : h ≡ head_of_goal g = is ∙ rw (are (event p g u b) q) (goal_told s known p g u b q) in
       named_head empty (definition_part 5 ds) p g u b ∙ ap (head_named empty (definition_part 5 ds)) (sym w)
 
-  pub atom_named : {p k : ℕ} {r : Range} → h ≡ Atom p k → ((ds : List Definition) → read_program program ≡ tree ds → r ≡ range_of (definition_part 5 ds p k))
+  pub atom_named : {p k : ℕ} {r : Range} → h ≡ (Some (Atom p k)) → ((ds : List Definition) → read_program program ≡ tree ds → r ≡ range_of (definition_part 5 ds p k))
       → (ds : List Definition) (e : Event) → read_program program ≡ tree ds → read_event s ≡ tree e → r ≡ range_of (named_part ds e)
   atom_named {p} {k} q w ds e x y = w ds x ∙ ap range_of (sym (goal_names ds e y ∙ ap (head_named empty (definition_part 5 ds)) q))
 
-  pub none_named : {r : Range} → ((p k : ℕ) → h ≡ Atom p k → ⊥) → r ≡ range_of empty
+  pub none_named : {r : Range} → ((p k : ℕ) → h ≡ (Some (Atom p k)) → ⊥) → r ≡ range_of empty
       → (ds : List Definition) (e : Event) → read_program program ≡ tree ds → read_event s ≡ tree e → r ≡ range_of (named_part ds e)
   none_named n w ds e x y = w ∙ ap range_of (sym (goal_names ds e y ∙ unnamed_head empty (definition_part 5 ds) h n))
 
 module _ (program event : List ℕ) {r : Range} where
   -- a record is refused
-  pub no_record : {n : ℕ} → n ≡ answer_number (door (read_program program) (read_event event)) → (n ≡ 0 → ⊥) → r ≡ range_of empty → r ≡ range_of (lookup program event)
+  pub no_record : {outcome : Result (Unit {0}) Refusal} {e : Refusal} → outcome ≡ told (door (read_program program) (read_event event)) → outcome ≡ Err e
+      → r ≡ range_of empty → r ≡ range_of (lookup program event)
   unfolding lookup through
-  no_record is z w = let p = number_refuses (door (read_program program) (read_event event)) is z in w ∙ rw p.refuses
+  no_record is z w = let p = told_refuses (door (read_program program) (read_event event)) is z in w ∙ rw p.1
 
   -- both are accepted
   pub both_accepted : (w : BothPassed program event)

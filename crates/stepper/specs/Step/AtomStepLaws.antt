@@ -1,5 +1,5 @@
 -- An atom in bytes: where it stands with its stacks, what each answer for its body makes of the step, and that this is the step.
-use Rattle.std.specs.Prelude.{◌≡◌, refl, false, List, ◌∷◌, ℕ, ◌+◌, ◌≤◌, ◌<◌}
+use Rattle.std.specs.Prelude.{◌≡◌, refl, false, List, ◌∷◌, ℕ, ◌+◌, ◌≤◌, ◌<◌, Ok, Err}
 use Rattle.std.proofs.Math.Path.{ap}
 use Rattle.std.proofs.Common.{◌∙◌, subst, arith}
 use Rattle.std.proofs.Math.Option.{none}
@@ -19,10 +19,14 @@ use Rattle.terms.specs.Body.Body.{Body, too_many, undefined, body}
 use Rattle.terms.specs.Body.BodyBytes.{AtomAt}
 use Rattle.terms.specs.Standing.Accepted.{frame_of, atom_moved}
 use Rattle.terms.specs.Standing.AcceptedLaws.{accepted_atom}
+use Rattle.terms.specs.declared.body.BodyRefusal.{BodyRefusal}
+use Rattle.terms.specs.declared.body.BodyRefusal.TheVariants.{TooMany, TooLong}
 use Rattle.terms.specs.Unifier.Told.{BodyHere, BodyLong, BodyTold}
+use Rattle.terms.specs.declared.body.BodyRefusal.{BodyRefusal}
+use Rattle.terms.specs.declared.body.BodyRefusal.TheVariants.{TooMany, TooLong}
 use Rattle.terms.specs.Unifier.ToldLaws.{body_told}
-use Rattle.terms.specs.declared.body.BodyAnswer.{BodyAnswer}
-use Rattle.stepper.specs.declared.emit.StepAnswer.{StepAnswer}
+use Rattle.records.specs.declared.questions.Refusal.TheVariants.{Locals, Fits}
+use Rattle.stepper.specs.declared.emit.Reached.{Reached}
 use Rattle.stepper.specs.Rules.Machine.{StepOutcome, gives}
 use Rattle.stepper.specs.Rules.Rules.{by_body, limited_by, from_call, rule, step_forward, into_fail, candidate, step_back}
 use Rattle.stepper.specs.Services.Services.{record_limit, machine}
@@ -30,7 +34,7 @@ use Rattle.stepper.specs.Plans.View.{event_view}
 use Rattle.stepper.specs.Plans.Layouts.{kept}
 use Rattle.stepper.specs.Plans.Made.{Plans}
 use Rattle.stepper.specs.Plans.LayoutLaws.{kept_within, kept_plans}
-use Rattle.stepper.specs.Step.Stepped.{Stepped, refusal_of, BothPassed}
+use Rattle.stepper.specs.Step.Stepped.{StepAnswer, Stepped, BothPassed}
 use Rattle.stepper.specs.Step.SteppedLaws.{stepped_refused, long_refused, event_short, event_limited}
 use Rattle.stepper.specs.Step.Completed.{Gap, lent_part, handed_back, InOrder, body_front, body_back, body_ends, Completed}
 use Rattle.stepper.specs.Step.CompletedLaws.{lent_room, lent_fits, lent_put, stepped_completed, in_order, body_place, body_record, body_record_length, body_ends_are}
@@ -42,7 +46,7 @@ use Rattle.stepper.specs.Services.ServiceLaws.{machine_limits}
 use Rattle.stepper.specs.Rules.Listed.{Rule, atom_undefined, atom_fail}
 use Rattle.stepper.specs.Services.Desk.{layers}
 use Rattle.stepper.specs.Plans.Dispatch.{AtomOf}
-use Rattle.terms.specs.Body.BodyBytes.{BodyAnswered}
+use Rattle.terms.specs.Body.BodyBytes.{BodyAnswer, BodyAnswered, as_refusal}
 
 -- what an answer tells, where the code matched on it
 pub body_told_as : {before after : List ℕ} {b : Body} {r x : BodyAnswer} → BodyAnswered before after b r → r ≡ x
@@ -74,7 +78,7 @@ module _ {s : List ℕ} {v : View} (known : Known s) (w : AtomViewed s v) (p q :
     its_answer = settled_atom P p q w.predicate w.terms w.ancestors w.bets
 
     module _ {before after : List ℕ} where
-      pub atom_beyond : its_body ≡ too_many → after ≡ before → Stepped its_answer before (refusal_of 9) after
+      pub atom_beyond : its_body ≡ too_many → after ≡ before → Stepped its_answer before (Err Locals) after
       unfolding settled_atom limited_by by_body question_number
       atom_beyond h k = rw (h, k) (stepped_refused locals refl)
 
@@ -85,8 +89,8 @@ module _ {s : List ℕ} {v : View} (known : Known s) (w : AtomViewed s v) (p q :
 
     -- the body is written into the part that was lent, and the record is completed around it
     module _ {r : Range} (gap : Gap v.goal.from (length s) r) (before : List ℕ) (l : 32768 ≤ length before) where
-      pub atom_defined : {part after : List ℕ} {n : ℕ} {answer : StepAnswer} → BodyHere its_body (lent_part before r) part n
-          → Completed (handed_back before r part) (body_front s defined_port n) n (body_back s v) (body_ends v n) answer after → Stepped its_answer before answer after
+      pub atom_defined : {part after : List ℕ} {n : ℕ} {reached : Reached} → BodyHere its_body (lent_part before r) part n
+          → Completed (handed_back before r part) (body_front s defined_port n) n (body_back s v) (body_ends v n) reached after → Stepped its_answer before (Ok reached) after
       unfolding settled_atom limited_by by_body
       atom_defined {n = n} h c =
           let g = h.goal in
@@ -99,10 +103,15 @@ module _ {s : List ℕ} {v : View} (known : Known s) (w : AtomViewed s v) (p q :
           (rw (w.same, ← dp) (body_place e q g m)) m (rw (w.same, ← dp) (body_record e q g m)) (rw w.same (body_ends_are e q g m))
           (lent_put gap before l (goal_bytes g) z h.room h.put) c)
 
-      pub atom_long : {after : List ℕ} → BodyLong its_body (length (lent_part before r)) → after ≡ before → Stepped its_answer before (refusal_of 10) after
+      pub atom_long : {after : List ℕ} → BodyLong its_body (length (lent_part before r)) → after ≡ before → Stepped its_answer before (Err Fits) after
       unfolding settled_atom limited_by by_body
       atom_long h k =
           let e = body_record_length atom_parts q h.goal in rw (h.is, k) (long_refused _ (omega (arith, h.long, lent_room gap before l, goal_long h.goal)))
+
+      pub atom_refused : {part after : List ℕ} (x : BodyRefusal) → BodyTold (lent_part before r) part its_body (Err x) → (part ≡ lent_part before r → after ≡ before)
+          → Stepped its_answer before (Err (as_refusal x)) after
+      atom_refused TooMany h k = atom_beyond h.0 (k h.1)
+      atom_refused TooLong h k = atom_long h.0 (k h.1)
 
 -- a body that was written into the part has room in the record
 pub body_room : {at others : ℕ} {r : Range} (gap : Gap at others r) (before : List ℕ) → 32768 ≤ length before → {b : Body} {part : List ℕ} {n : ℕ}

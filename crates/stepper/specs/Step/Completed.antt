@@ -6,8 +6,7 @@ use Rattle.records.specs.Writing.Patched.{Around}
 use Rattle.records.specs.Ends.Range.{cut}
 use Rattle.records.specs.declared.put.Range.{Range}
 use Rattle.records.specs.declared.places.PartEnds.{PartEnds}
-use Rattle.stepper.specs.declared.emit.StepAnswer.{StepAnswer}
-use Rattle.stepper.specs.Step.Stepped.{accepted_of}
+use Rattle.stepper.specs.declared.emit.Reached.{Reached}
 use Rattle.stepper.specs.declared.view.View.{View}
 
 -- the part of an output for what starts at a place of a record that has so many other bytes
@@ -62,6 +61,6 @@ abbrev pub body_ends : View → ℕ → PartEnds
 body_ends v n = record { goal = v.goal.from + n; ancestors = v.ancestors.to + n }
 
 -- an event is completed around n bytes
-pub record Completed (before front : List ℕ) (n : ℕ) (back : List ℕ) (ends : PartEnds) (answer : StepAnswer) (after : List ℕ) : Type 0 where
-  pub around : Around before front n back after answer.length
-  pub is : answer ≡ accepted_of answer.length ends
+pub record Completed (before front : List ℕ) (n : ℕ) (back : List ℕ) (ends : PartEnds) (reached : Reached) (after : List ℕ) : Type 0 where
+  pub around : Around before front n back after reached.length
+  pub ends_are : reached.ends ≡ ends

@@ -1,5 +1,5 @@
 -- Laws of the records that are completed around a part: the part that is lent, the event whose record it is, and the step that this makes.
-use Rattle.std.specs.Prelude.{◌≡◌, false, ℕ, ◌+◌, ◌-◌, ◌≤◌, ◌<◌}
+use Rattle.std.specs.Prelude.{◌≡◌, false, ℕ, ◌+◌, ◌-◌, ◌≤◌, ◌<◌, Ok}
 use Rattle.std.proofs.Math.Path.{refl, sym}
 use Rattle.std.proofs.Common.{ap, subst, ◌∙◌, zero-add, length-take, length-drop, take-append-drop}
 use mathlib.Core.List.{List, [], ◌∷◌, ◌++◌, append_assoc}
@@ -27,9 +27,9 @@ use Rattle.stepper.specs.Services.Services.{record_limit}
 use Rattle.stepper.specs.Services.ServiceLaws.{fits_limit}
 use Rattle.stepper.specs.Plans.View.{event_view}
 use Rattle.stepper.specs.Plans.LayoutLaws.{goal_starts, goal_ends}
-use Rattle.stepper.specs.Step.Stepped.{Stepped, accepted_of}
+use Rattle.stepper.specs.Step.Stepped.{Stepped}
 use Rattle.stepper.specs.Step.Completed.{Gap, lent_part, handed_back, InOrder, unifier_front, unifier_back, unifier_ends, body_front, body_back, body_ends, Completed}
-use Rattle.stepper.specs.declared.emit.StepAnswer.{StepAnswer}
+use Rattle.stepper.specs.declared.emit.Reached.{Reached}
 use Rattle.stepper.specs.declared.view.View.{View}
 
 -- a part that was lent and handed back
@@ -57,9 +57,9 @@ module _ {at others : ℕ} {r : Range} (g : Gap at others r) (before : List ℕ)
         (put_part {before = before} {at = r.from} {k = r.to - r.from} (omega (arith, lent_room, g.room)) p)
 
 -- two writes around n bytes
-pub completed : {before front between back after : List ℕ} {n place end : ℕ} {ends : PartEnds} {answer : StepAnswer} → answer ≡ accepted_of end ends
-    → Put before 0 front between place → Put between (place + n) back after end → Completed before front n back ends answer after
-completed {between = between} {place = place} e p q = rw e (record { around = record { between = between; place = place; ahead = p; behind = q }; is = refl })
+pub completed : {before front between back after : List ℕ} {n place end : ℕ} {ends : PartEnds}
+    → Put before 0 front between place → Put between (place + n) back after end → Completed before front n back ends (record { length = end; ends = ends }) after
+completed {between = between} {place = place} p q = record { around = record { between = between; place = place; ahead = p; behind = q }; ends_are = refl }
 
 -- the ranges that are copied lie in the event
 module _ {s : List ℕ} {v : View} (o : InOrder s v) where
@@ -76,19 +76,19 @@ module _ {s : List ℕ} {v : View} (o : InOrder s v) where
   stacks_inside = record { order = omega arith; stop = omega arith }
 
 -- a record that is completed around what was put in its midst is the step to its event
-pub stepped_completed : (e : Event) {before within after front middle back : List ℕ} {at next n : ℕ} {ends : PartEnds} {answer : StepAnswer} → 32768 ≤ length before
+pub stepped_completed : (e : Event) {before within after front middle back : List ℕ} {at next n : ℕ} {ends : PartEnds} {reached : Reached} → 32768 ≤ length before
     → length (event_record e) ≤ 32768 → at ≡ length front → n ≡ length middle → front ++ (middle ++ back) ≡ event_record e → ends ≡ part_ends e
-    → Put before at middle within next → Completed within front n back ends answer after → Stepped (limited_by record_limit false (gives e)) before answer after
+    → Put before at middle within next → Completed within front n back ends reached after → Stepped (limited_by record_limit false (gives e)) before (Ok reached) after
 unfolding limited_by reply_with answer_length
-stepped_completed e {before} {after = after} {answer = answer} h l a m is ends put c =
+stepped_completed e {before} {after = after} {reached = reached} h l a m is ends put c =
     rw (fits_limit e l, fitting_none) (record {
-      number_is = ap (λ x. x.number) c.is;
+      number_is = refl;
       length_is = whole.place ∙ zero-add _;
-      ends_are = λ d k. ap (λ x. x.ends) c.is ∙ ends ∙ ap part_ends (gives_injective k);
+      ends_are = λ d k. c.ends_are ∙ ends ∙ ap part_ends (gives_injective k);
       output_is = put_front whole (omega arith);
     })
   where
-    whole : Put before 0 (event_record e) after answer.length
+    whole : Put before 0 (event_record e) after reached.length
     whole = rw is at (put_around a m put c.around)
 
 regrouped : (a b c d : List ℕ) → ((a ++ b) ++ c) ++ d ≡ a ++ (b ++ (c ++ d))

@@ -1,5 +1,5 @@
 -- An equality in bytes: where its terms and the bets stand, what each answer for its unifier makes of the step, and that this is the step.
-use Rattle.std.specs.Prelude.{◌≡◌, false, List, ◌∷◌, ℕ, ◌+◌, ◌≤◌}
+use Rattle.std.specs.Prelude.{◌≡◌, false, List, ◌∷◌, ℕ, ◌+◌, ◌≤◌, Ok, Err}
 use Rattle.std.proofs.Math.Path.{refl, ap}
 use Rattle.std.proofs.Common.{◌∙◌, subst, ⊎_elim, arith}
 use Rattle.std.proofs.Math.Option.{none}
@@ -19,11 +19,13 @@ use Rattle.terms.specs.Standing.BetRow.{RuledBets}
 use Rattle.terms.specs.Values.Applied.{TermAt}
 use Rattle.terms.specs.Standing.Accepted.{bets_at, bets_moved, term_moved}
 use Rattle.terms.specs.Standing.AcceptedLaws.{accepted_bets, left_side, right_side}
-use Rattle.terms.specs.Unifier.Equality.{unifier_bytes, UnifierAnswered}
+use Rattle.terms.specs.Unifier.Equality.{unifier_bytes, UnifierAnswer, UnifierAnswered, as_refusal}
 use Rattle.terms.specs.Unifier.Told.{UnifierHere, UnifierLong, Told}
 use Rattle.terms.specs.Unifier.ToldLaws.{told}
-use Rattle.terms.specs.declared.equality.UnifierAnswer.{UnifierAnswer}
-use Rattle.stepper.specs.declared.emit.StepAnswer.{StepAnswer}
+use Rattle.terms.specs.declared.equality.UnifierRefusal.{UnifierRefusal}
+use Rattle.terms.specs.declared.equality.UnifierRefusal.TheVariants.{TooLarge, TooLong}
+use Rattle.records.specs.declared.questions.Refusal.TheVariants.{Values, Fits}
+use Rattle.stepper.specs.declared.emit.Reached.{Reached}
 use Rattle.stepper.specs.Rules.Machine.{StepOutcome, gives}
 use Rattle.stepper.specs.Rules.Rules.{by_unifier, limited_by, from_call, rule, step_forward, into_fail, candidate, step_back}
 use Rattle.stepper.specs.Services.Services.{record_limit, machine}
@@ -31,7 +33,7 @@ use Rattle.stepper.specs.Plans.View.{event_view}
 use Rattle.stepper.specs.Plans.Layouts.{kept}
 use Rattle.stepper.specs.Plans.Made.{Plans}
 use Rattle.stepper.specs.Plans.LayoutLaws.{kept_within, kept_plans}
-use Rattle.stepper.specs.Step.Stepped.{Stepped, refusal_of, BothPassed}
+use Rattle.stepper.specs.Step.Stepped.{StepAnswer, Stepped, BothPassed}
 use Rattle.stepper.specs.Step.SteppedLaws.{stepped_refused, long_refused, event_short, event_limited}
 use Rattle.stepper.specs.Step.Completed.{Gap, lent_part, handed_back, InOrder, unifier_front, unifier_back, unifier_ends, Completed}
 use Rattle.stepper.specs.Step.CompletedLaws.{lent_room, lent_fits, lent_put, stepped_completed, in_order, unifier_place, unifier_record, unifier_record_length, unifier_ends_are}
@@ -92,7 +94,7 @@ module _ {s : List ℕ} {v : View} (known : Known s) (w : EqualityViewed s v) (p
   its_answer = settled_equality p q w.left w.right w.ancestors w.bets
 
   module _ {before after : List ℕ} where
-    pub equality_large : its_unifier ≡ too_large → after ≡ before → Stepped its_answer before (refusal_of 8) after
+    equality_large : its_unifier ≡ too_large → after ≡ before → Stepped its_answer before (Err Values) after
     unfolding settled_equality limited_by by_unifier question_number
     equality_large h k = rw (h, k) (stepped_refused values refl)
 
@@ -103,8 +105,8 @@ module _ {s : List ℕ} {v : View} (known : Known s) (w : EqualityViewed s v) (p
 
   -- the unifier is written into the part that was lent, and the record is completed around it
   module _ {r : Range} (gap : Gap (v.bets.from + 1) (length s + 1) r) (before : List ℕ) (l : 32768 ≤ length before) where
-    pub equality_found : {part after : List ℕ} {n : ℕ} {answer : StepAnswer} → UnifierHere its_unifier (lent_part before r) part n
-        → Completed (handed_back before r part) (unifier_front s v found_port n) n (unifier_back s v) (unifier_ends v) answer after → Stepped its_answer before answer after
+    pub equality_found : {part after : List ℕ} {n : ℕ} {reached : Reached} → UnifierHere its_unifier (lent_part before r) part n
+        → Completed (handed_back before r part) (unifier_front s v found_port n) n (unifier_back s v) (unifier_ends v) reached after → Stepped its_answer before (Ok reached) after
     unfolding settled_equality limited_by by_unifier
     equality_found {n = n} h c =
         let σ = h.bindings in
@@ -116,11 +118,16 @@ module _ {s : List ℕ} {v : View} (known : Known s) (w : EqualityViewed s v) (p
         (rw (w.same, ← fp) (unifier_place e q σ m)) m (rw (w.same, ← fp) (unifier_record e q σ m)) (rw w.same (unifier_ends_are e q σ))
         (lent_put gap before l (unifier_bytes σ) (omega arith) h.room h.put) c)
 
-    pub equality_long : {after : List ℕ} → UnifierLong its_unifier (length (lent_part before r)) → after ≡ before → Stepped its_answer before (refusal_of 10) after
+    equality_long : {after : List ℕ} → UnifierLong its_unifier (length (lent_part before r)) → after ≡ before → Stepped its_answer before (Err Fits) after
     unfolding settled_equality limited_by by_unifier
     equality_long h k =
         let e = unifier_record_length equality_parts q h.bindings refl in
         rw (h.is, k) (long_refused _ (⊎_elim (λ i. omega arith) (λ i. omega (arith, lent_room gap before l)) h.long))
+
+    pub equality_refused : {part after : List ℕ} (x : UnifierRefusal) → Told (lent_part before r) part its_unifier (Err x) → (part ≡ lent_part before r → after ≡ before)
+        → Stepped its_answer before (Err (as_refusal x)) after
+    equality_refused TooLarge h k = equality_large h.0 (k h.1)
+    equality_refused TooLong h k = equality_long h.0 (k h.1)
 
 -- a unifier that was written into the part has room in the record
 pub unifier_room : {at others : ℕ} {r : Range} (gap : Gap at others r) (before : List ℕ) → 32768 ≤ length before → {u : Unified} {part : List ℕ} {n : ℕ}

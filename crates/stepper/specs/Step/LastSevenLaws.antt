@@ -1,5 +1,5 @@
 -- The last question 7 where it is a comparison: equal bytes are the same unifier, and the same body; and the number determines the step.
-use Rattle.std.specs.Prelude.{◌≡◌, Bool, true, false, ℕ, ◌+◌, ◌≤◌, ◌<◌}
+use Rattle.std.specs.Prelude.{◌≡◌, Bool, true, false, ℕ, ◌+◌, ◌≤◌, ◌<◌, Some}
 use Rattle.std.proofs.Math.Path.{refl, ap}
 use Rattle.std.proofs.Common.{sym, ◌∙◌}
 use mathlib.Core.List.{List, [], ◌∷◌}
@@ -47,6 +47,7 @@ use Rattle.stepper.specs.Rules.AdmittedLaws.{back_refuses}
 use Rattle.stepper.specs.Step.AtomStep.{ProgramRead}
 use Rattle.stepper.specs.Step.LastSeven.{compared_number, unifier_number, body_number, UnifierViewed, BodyViewed, ancestor_frame}
 use Rattle.stepper.specs.Step.SteppedLaws.{event_limited}
+use Rattle.stepper.specs.declared.rules.Rule.TheVariants.{EqualCall, AtomCall}
 use Rattle.stepper.specs.declared.view.View.{View}
 use Rattle.stepper.specs.Rules.Rules.{by_unifier, by_body, limited_by, fitting, matching, top_unifier, ununifiable, into_call, into_exit, candidate, step_back}
 use Rattle.stepper.specs.Services.Services.{record_limit, machine}
@@ -327,21 +328,21 @@ module _ {program s : List ℕ} (known : Known s) (w : BothPassed program s) {v 
   }
 
   -- the plans of the two rules that a comparison decides
-  exit_plans : (f : UnifierOf w.event) → Plans s (back_plan v 16) (event call (equal f.left f.right) f.ancestors f.bets)
+  exit_plans : (f : UnifierOf w.event) → Plans s (back_plan v (Some EqualCall)) (event call (equal f.left f.right) f.ancestors f.bets)
   unfolding back_plan
   exit_plans f = rw (same ∙ ap event_view f.is) (bet_dropped_plans call (event_parts s known _ _ _ _ (w.reads ∙ ap tree f.is)))
 
-  called_plans : (f : BodyOf w.event) → Plans s (back_plan v 18) (event call (atom f.predicate f.terms) f.ancestors f.bets)
+  called_plans : (f : BodyOf w.event) → Plans s (back_plan v (Some AtomCall)) (event call (atom f.predicate f.terms) f.ancestors f.bets)
   unfolding back_plan
   called_plans f = rw (same ∙ ap event_view f.is) (atom_left_plans call (event_parts s known _ _ _ _ (w.reads ∙ ap tree f.is)))
 
   module _ {k : ℕ} where
     pub back_exit : (f : UnifierOf w.event) → k ≡ unifier_number (unified_under f.bets f.left f.right) f.bindings
-        → Determines k (back_plan v 16) s (step_back (machine layers w.definitions) w.event)
+        → Determines k (back_plan v (Some EqualCall)) s (step_back (machine layers w.definitions) w.event)
     back_exit f i =
         rw f.is (exit_equality w.definitions f.left f.right f.ancestors f.bindings f.bets (event_limited s known _ (w.reads ∙ ap tree f.is)) i (exit_plans f))
 
     pub back_called : (f : BodyOf w.event) → k ≡ body_number (body w.definitions f.predicate f.terms f.ancestors f.bets) f.goal
-        → Determines k (back_plan v 18) s (step_back (machine layers w.definitions) w.event)
+        → Determines k (back_plan v (Some AtomCall)) s (step_back (machine layers w.definitions) w.event)
     back_called f i =
         rw f.is (call_body w.definitions f.goal f.predicate f.terms f.ancestors f.bets (event_limited s known _ (w.reads ∙ ap tree f.is)) i (called_plans f))

@@ -1,35 +1,41 @@
 -- A step inside a run, and the gate before it: what the code of a step answers, where the records are accepted and the output passes question 5.
--- A field of the answer is told in `Stepped`, and made in `refusal_of` and `accepted_of`.
-use Rattle.std.specs.Prelude.{◌≡◌, false, List, ℕ}
+use Rattle.std.specs.Prelude.{◌≡◌, false, List, ℕ, Result, Ok, Err}
 use Rattle.records.specs.Format.Syntax.{Event}
 use Rattle.records.specs.Format.Encode.{event_record}
 use Rattle.records.specs.Gate.Question.{Question, question_number}
-use Rattle.records.specs.Gate.Reply.{answer_number, answer_length}
+use Rattle.records.specs.Gate.Reply.{answer_number, answer_length, outcome_number}
 use Rattle.records.specs.Gate.Door.{gate}
 pub use Rattle.records.specs.Gate.Door.{BothPassed}
 use Rattle.records.specs.Gate.Gate.{read_program, read_event}
 use Rattle.records.specs.Ends.Places.{part_ends}
 use Rattle.records.specs.declared.plan.Plan.{Plan}
 use Rattle.records.specs.declared.places.PartEnds.{PartEnds}
-use Rattle.stepper.specs.declared.emit.StepAnswer.{StepAnswer}
+use Rattle.records.specs.declared.questions.Refusal.{Refusal}
+use Rattle.stepper.specs.declared.emit.Reached.{Reached}
 use Rattle.stepper.specs.Rules.Machine.{StepOutcome, refused, gives}
 use Rattle.stepper.specs.Rules.Rules.{limited_by}
 use Rattle.stepper.specs.Services.Services.{record_limit, reply}
 use Rattle.stepper.specs.Plans.Made.{Plans}
 
+-- code tells the record that was written, or the question that refuses
+abbrev pub StepAnswer : Type 0
+StepAnswer = Result Reached Refusal
+
+-- how long that record is, and where its parts end; a refusal writes nothing
+abbrev pub reached_length : StepAnswer → ℕ
+reached_length (Ok r) = r.length
+reached_length (Err e) = 0
+
+abbrev pub reached_ends : StepAnswer → PartEnds
+reached_ends (Ok r) = r.ends
+reached_ends (Err e) = record { goal = 0; ancestors = 0 }
+
 -- the number, the length of the record that was written, where its parts end, and the output afterwards are the answer's
 pub record Stepped (a : StepOutcome) (before : List ℕ) (answer : StepAnswer) (after : List ℕ) : Type 0 where
-  pub number_is : answer.number ≡ (reply before a).number
-  pub length_is : answer.length ≡ answer_length event_record a
-  pub ends_are : (e : Event) → a ≡ gives e → answer.ends ≡ part_ends e
+  pub number_is : outcome_number answer ≡ (reply before a).number
+  pub length_is : reached_length answer ≡ answer_length event_record a
+  pub ends_are : (e : Event) → a ≡ gives e → reached_ends answer ≡ part_ends e
   pub output_is : after ≡ (reply before a).output
-
--- the answer of a step that is refused by this number, and of one that gives a record of this length, whose parts end there
-abbrev pub refusal_of : ℕ → StepAnswer
-refusal_of n = record { number = n; length = 0; ends = record { goal = 0; ancestors = 0 } }
-
-abbrev pub accepted_of : ℕ → PartEnds → StepAnswer
-accepted_of n ends = record { number = 0; length = n; ends = ends }
 
 -- the number of a question and a plan over s determine a step's answer: the question refuses, or the plan's event is given under question 10
 pub data Determines (n : ℕ) (p : Plan) (s : List ℕ) (a : StepOutcome) : Type 0 where

@@ -1,5 +1,5 @@
 -- The answer for an atom's body, by what the code found: its definition, question 9, the body's length, and what was written.
-use Rattle.std.specs.Prelude.{◌≡◌, refl, List, [], ◌∷◌, ◌++◌, Bool, true, false, ℕ, ◌+◌, ◌≤◌, ◌<◌, min, length, take}
+use Rattle.std.specs.Prelude.{◌≡◌, refl, List, [], ◌∷◌, ◌++◌, Bool, true, false, ℕ, ◌+◌, ◌≤◌, ◌<◌, min, length, take, Some, None, Option, Ok, Err}
 use Rattle.std.proofs.Math.Path.{sym}
 use Rattle.std.proofs.Common.{ap, ◌∙◌, arith, le-leb}
 use Rattle.std.proofs.lemmas.Bool.{lt-leb}
@@ -18,36 +18,33 @@ use Rattle.records.specs.declared.heads.GoalHead.TheVariants.{Atom}
 use Rattle.terms.specs.Body.Body.{too_many, undefined, defined, locals_beyond, next_variable, definition_of, body}
 use Rattle.terms.specs.Body.BodyLaws.{next_variable_formed}
 use Rattle.terms.specs.Standing.Frames.{GoalAt}
-use Rattle.terms.specs.Body.Definitions.{ProgramAt, find_definition}
+use Rattle.terms.specs.Body.Definitions.{ProgramAt, Lookup, find_definition}
 use Rattle.terms.specs.Body.DefinitionLaws.{absent_none, found_in}
 use Rattle.terms.specs.Body.Arguments.{ArgumentsAt, ArgumentTable, term_places}
-use Rattle.terms.specs.Body.BodyBytes.{AtomAt, numbered_goal, body_with, body_given, BodyAnswered}
+use Rattle.terms.specs.Body.BodyBytes.{BodyAnswer, of_length, AtomAt, numbered_goal, body_with, body_given, BodyAnswered}
 use Rattle.terms.specs.declared.variables.Frame.{Frame}
 use Rattle.terms.specs.declared.definitions.Place.{Place}
-use Rattle.terms.specs.declared.definitions.Lookup.{Lookup}
-use Rattle.terms.specs.declared.definitions.Lookup.TheVariants.{Absent, Present}
-use Rattle.terms.specs.declared.body.BodyAnswer.{BodyAnswer}
-use Rattle.terms.specs.declared.body.BodyAnswer.TheVariants.{TooMany, Undefined, Defined, TooLong}
+use Rattle.terms.specs.declared.body.BodyRefusal.TheVariants.{TooMany, TooLong}
 
 -- a body that fits, and one that does not, by the length that was measured
 pub written_answer : {before after : List ℕ} (g : Goal) {n to : ℕ} → n ≡ min (length before + 1) (length (goal_bytes g)) → n ≤ length before
-    → Put before 0 (goal_bytes g) after to → BodyAnswered before after (defined g) (Defined n)
+    → Put before 0 (goal_bytes g) after to → BodyAnswered before after (defined g) (of_length n)
 unfolding body_given on_yes reply_with
 written_answer {before} g {n} is h p =
     let e : n ≡ length (goal_bytes g) = omega arith in
     let l = le-leb (length (goal_bytes g)) (length before) (omega arith) in
-    record { is = rw l (ap Defined e); output_is = rw l (put_front p (omega arith)) }
+    record { is = rw l (ap of_length e); output_is = rw l (put_front p (omega arith)) }
 
-pub long_answer : {before : List ℕ} (g : Goal) {n : ℕ} → n ≡ min (length before + 1) (length (goal_bytes g)) → length before < n → BodyAnswered before before (defined g) TooLong
+pub long_answer : {before : List ℕ} (g : Goal) {n : ℕ} → n ≡ min (length before + 1) (length (goal_bytes g)) → length before < n → BodyAnswered before before (defined g) (Err TooLong)
 unfolding body_given on_yes reply_with
 long_answer {before} g is h = let l = lt-leb (length (goal_bytes g)) (length before) (omega arith) in record { is = rw l; output_is = rw l }
 
 -- nothing was written
-too_many_answer : (out : List ℕ) → BodyAnswered out out too_many TooMany
+too_many_answer : (out : List ℕ) → BodyAnswered out out too_many (Err TooMany)
 unfolding body_given reply_with
 too_many_answer out = record { is = refl; output_is = refl }
 
-undefined_answer : (out : List ℕ) → BodyAnswered out out undefined Undefined
+undefined_answer : (out : List ℕ) → BodyAnswered out out undefined (Ok None)
 unfolding body_given reply_with
 undefined_answer out = record { is = refl; output_is = refl }
 
@@ -83,11 +80,14 @@ module _ {s : List ℕ} {f : Frame} (a : AtomAt s f) where
   atom_room = omega (arith, stands_within atom_here (omega arith), atom_here.end)
 
   -- the head that was read is the atom's
-  pub atom_is : {h : GoalHead} → h ≡ goal_head_at s f.goal → h ≡ Atom a.predicate (arity a.terms)
+  pub atom_is : {h : Option GoalHead} → h ≡ goal_head_at s f.goal → h ≡ (Some (Atom a.predicate (arity a.terms)))
   atom_is is = is ∙ goal_stands (atom a.predicate a.terms) atom_formed atom_here
 
-  pub atom_head : {h : GoalHead} {p k : ℕ} → h ≡ goal_head_at s f.goal → h ≡ Atom p k → (a.predicate ≡ p) × (arity a.terms ≡ k)
-  atom_head {h} {p} {k} is e = let q : Atom a.predicate (arity a.terms) ≡ Atom p k = sym (atom_is is) ∙ e in (cc, cc)
+  pub atom_inner : {h : Option GoalHead} {g : GoalHead} → h ≡ goal_head_at s f.goal → h ≡ Some g → g ≡ Atom a.predicate (arity a.terms)
+  atom_inner {h} {g} is e = let q : Some g ≡ Some (Atom a.predicate (arity a.terms)) = sym e ∙ atom_is is in cc
+
+  pub atom_head : {h : Option GoalHead} {p k : ℕ} → h ≡ goal_head_at s f.goal → h ≡ (Some (Atom p k)) → (a.predicate ≡ p) × (arity a.terms ≡ k)
+  atom_head {h} {p} {k} is e = let q : (Some (Atom a.predicate (arity a.terms))) ≡ (Some (Atom p k)) = sym (atom_is is) ∙ e in (cc, cc)
 
   -- the first new variable
   abbrev pub first_new : ℕ
@@ -97,7 +97,7 @@ module _ {s : List ℕ} {f : Frame} (a : AtomAt s f) where
   first_new_small e = rw e (next_variable_formed a.frame.goal.item a.frame.ancestors.items a.frame.bets.items a.frame.goal.formed a.frame.ancestors.formed a.frame.bets.formed)
 
   module _ {m : ℕ} (new : m ≡ first_new) {b : Bool} (l : ℕ) (test : b ≡ locals_beyond m l) where
-    pub body_too_many : (out : List ℕ) (g : Goal) → b ≡ true → BodyAnswered out out (body_with l g a.terms first_new) TooMany
+    pub body_too_many : (out : List ℕ) (g : Goal) → b ≡ true → BodyAnswered out out (body_with l g a.terms first_new) (Err TooMany)
     unfolding body_with
     body_too_many out g e = rw (← new, sym test ∙ e) (too_many_answer out)
 
@@ -109,19 +109,19 @@ module _ {s : List ℕ} {f : Frame} (a : AtomAt s f) where
     body_answered g q e t h = rw (← new, sym test ∙ e) (h g (atom_table q t))
 
   -- the body by what was found of a definition
-  module _ {program : List ℕ} (d : ProgramAt program) {h : GoalHead} {p k : ℕ} (is : h ≡ goal_head_at s f.goal) (e : h ≡ Atom p k) where
+  module _ {program : List ℕ} (d : ProgramAt program) {h : Option GoalHead} {p k : ℕ} (is : h ≡ goal_head_at s f.goal) (e : h ≡ (Some (Atom p k))) where
     found_as : definition_of d.definitions a.predicate (arity a.terms) ≡ definition_of d.definitions p k
     found_as = let q = atom_head is e in rw (q.0, q.1)
 
-    pub body_undefined : {r : Lookup} (out : List ℕ) → r ≡ find_definition 5 0 d.definitions p k → r ≡ Absent
-        → BodyAnswered out out (body d.definitions a.predicate a.terms a.frame.ancestors.items a.frame.bets.items) Undefined
+    pub body_undefined : {r : Lookup} (out : List ℕ) → r ≡ find_definition 5 0 d.definitions p k → r ≡ None
+        → BodyAnswered out out (body d.definitions a.predicate a.terms a.frame.ancestors.items a.frame.bets.items) (Ok None)
     unfolding body
     body_undefined out w q = rw (found_as ∙ absent_none 5 0 d.definitions p k (sym w ∙ q)) (undefined_answer out)
 
-    pub place_goal : {r : Lookup} {c : Place} → r ≡ find_definition 5 0 d.definitions p k → r ≡ Present c → GoalAt program c.goal × (c.locals < 256)
+    pub place_goal : {r : Lookup} {c : Place} → r ≡ find_definition 5 0 d.definitions p k → r ≡ Some c → GoalAt program c.goal × (c.locals < 256)
     place_goal w q = let z = found_in d (sym w ∙ q) in (z.goal, z.few)
 
-    pub body_defined : {r : Lookup} {c : Place} {before after : List ℕ} {o : BodyAnswer} → r ≡ find_definition 5 0 d.definitions p k → r ≡ Present c
+    pub body_defined : {r : Lookup} {c : Place} {before after : List ℕ} {o : BodyAnswer} → r ≡ find_definition 5 0 d.definitions p k → r ≡ Some c
         → ((g : GoalAt program c.goal) (x : AtomAt s f) → arity x.terms ≡ k → BodyAnswered before after (body_with c.locals g.item x.terms (next_variable x.frame.goal.item x.frame.ancestors.items x.frame.bets.items)) o)
         → BodyAnswered before after (body d.definitions a.predicate a.terms a.frame.ancestors.items a.frame.bets.items) o
     unfolding body body_with

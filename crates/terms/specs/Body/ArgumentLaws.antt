@@ -1,7 +1,7 @@
 -- Laws of an atom's arguments: the table of their places as it is filled, what stands between two of its entries, and what the variables behind the
 -- head's become.
-use Rattle.std.specs.Prelude.{◌≡◌, refl, List, ◌++◌, ℕ, zero, suc, ◌+◌, ◌-◌, ◌≤◌, ◌<◌, set, get_or}
-use Rattle.std.proofs.Common.{sym, ◌∙◌, append_assoc, add-one, length-take, get_or-take}
+use Rattle.std.specs.Prelude.{◌≡◌, refl, List, ◌++◌, ℕ, zero, suc, ◌+◌, ◌-◌, ◌≤◌, ◌<◌, set, get_or, Option}
+use Rattle.std.proofs.Common.{sym, ◌∙◌, append_assoc, add-one, length-take, take-take, get_or-take}
 use Rattle.std.proofs.Math.Path.{ap}
 use native.Mathlib.Omega.{arith}
 use Rattle.std.proofs.Math.ListN.{length, take}
@@ -16,7 +16,6 @@ use Rattle.records.specs.Ends.Range.{cut, Inside}
 use Rattle.records.specs.Ends.Stands.{Stands}
 use Rattle.records.specs.Ends.StandsLaws.{stands_first, stands_second, stands_within, stands_cut, stands_inside, term_ends}
 use Rattle.records.specs.Ends.Traversal.{position, end_at}
-use Rattle.records.specs.declared.ends.Found.{Found}
 use Rattle.records.specs.declared.put.Range.{Range}
 use Rattle.terms.specs.Body.Arguments.{ArgumentsAt, TermTable, ArgumentTable, term_places, argument_range}
 use Rattle.terms.specs.Body.Body.{numbered}
@@ -36,7 +35,7 @@ arguments_start a = record { left = a.terms; formed = a.formed; many = omega (ar
 
 module _ {s places : List ℕ} {k : ℕ} {table : List ℕ} {pos i : ℕ} (u : ArgumentsListing s places k table pos i) (room : k < length table) where
   -- the place of one more term
-  pub listing_next : i < k → {o : Found} {next : ℕ} → o ≡ end_at s pos 1 0 → next ≡ position o → ArgumentsListing s places k (set table i pos) next (i + 1)
+  pub listing_next : i < k → {o : Option ℕ} {next : ℕ} → o ≡ end_at s pos 1 0 → next ≡ position o → ArgumentsListing s places k (set table i pos) next (i + 1)
   unfolding term_places
   listing_next h {o} {next} is e = go u.left u.formed u.many u.stands u.whole
     where
@@ -113,6 +112,21 @@ module _ {k : ℕ} {table : List ℕ} (t : TermTable k table) where
       go nil i h = ap var (omega arith)
       go (cons x ts) zero h = absurd (omega arith)
       go (cons x ts) (suc i) h = go ts i (omega arith) ∙ ap var (omega arith)
+
+-- the table cut off behind its last entry
+module _ {s : List ℕ} {k : ℕ} {table : List ℕ} (a : ArgumentTable s k table) where
+  pub cut_length : length (take (k + 1) table) - 1 ≡ k
+  cut_length = omega (arith, ap length a.listed.places, places_many a.listed.at a.listed.terms, a.listed.many)
+
+  pub cut_places : take (length (take (k + 1) table) - 1 + 1) (take (k + 1) table) ≡ term_places a.listed.at a.listed.terms
+  cut_places = rw cut_length (take-take (k + 1) (k + 1) table (omega arith) ∙ a.listed.places)
+
+  abbrev pub arguments_cut : ArgumentTable s (length (take (k + 1) table) - 1) (take (k + 1) table)
+  arguments_cut = record {
+    listed = record { terms = a.listed.terms; many = a.listed.many ∙ sym cut_length; at = a.listed.at; places = cut_places };
+    end = a.end;
+    stands = a.stands;
+  }
 
 -- an argument stands where the table says, and is what the range there cuts out
 module _ {s : List ℕ} {k : ℕ} {table : List ℕ} (a : ArgumentTable s k table) (m i : ℕ) (h : i < k) {r : Range} (is : r ≡ argument_range table i) where

@@ -1,5 +1,5 @@
 -- The arguments of an atom: a list of terms that stands somewhere, and the table of where each of them starts and the last one ends.
-use Rattle.std.specs.Prelude.{◌≡◌, List, [], ◌∷◌, ℕ, ◌+◌, length, take, get_or}
+use Rattle.std.specs.Prelude.{◌≡◌, List, [], ◌∷◌, ℕ, ◌+◌, ◌-◌, length, take, get_or}
 use Rattle.records.specs.Format.Syntax.{Terms, arity}
 use Rattle.records.specs.Format.Syntax.Terms.{nil, cons}
 use Rattle.records.specs.Format.Encode.{term_bytes, terms_bytes}
@@ -31,6 +31,10 @@ pub record TermTable (k : ℕ) (table : List ℕ) : Type 0 where
   pub many : arity terms ≡ k
   pub at : ℕ
   pub places : take (k + 1) table ≡ term_places at terms
+
+-- a table of the places of as many terms as it has entries, but for the last one
+abbrev pub TermsOf : List ℕ → Type 0
+TermsOf table = TermTable (length table - 1) table
 
 -- the terms stand at these places
 pub record ArgumentTable (s : List ℕ) (k : ℕ) (table : List ℕ) : Type 0 where

@@ -1,5 +1,5 @@
 -- The body of an atom in bytes: what stands where the code looks for it, what it writes, and what its answer means.
-use Rattle.std.specs.Prelude.{◌≡◌, List, [], cond, ℕ, leb, length}
+use Rattle.std.specs.Prelude.{◌≡◌, List, [], cond, ℕ, leb, length, Option, Some, None, Result, Ok, Err}
 use Rattle.records.specs.Format.Syntax.{Terms, Goal}
 use Rattle.records.specs.Format.Syntax.Goal.{atom}
 use Rattle.records.specs.Format.Encode.{goal_bytes}
@@ -8,8 +8,10 @@ use Rattle.records.specs.Gate.Reply.{Answer, refused, gives, on_yes, reply_with}
 use Rattle.terms.specs.Body.Body.{Body, too_many, undefined, defined, numbered, substitute_goal, locals_beyond}
 use Rattle.terms.specs.Standing.Frames.{FrameAt}
 use Rattle.terms.specs.declared.variables.Frame.{Frame}
-use Rattle.terms.specs.declared.body.BodyAnswer.{BodyAnswer}
-use Rattle.terms.specs.declared.body.BodyAnswer.TheVariants.{TooMany, Undefined, Defined, TooLong}
+use Rattle.records.specs.declared.questions.Refusal.{Refusal}
+use Rattle.records.specs.declared.questions.Refusal.TheVariants.{Locals, Fits}
+use Rattle.terms.specs.declared.body.BodyRefusal.{BodyRefusal}
+use Rattle.terms.specs.declared.body.BodyRefusal.TheVariants.{TooMany, TooLong}
 
 -- a frame whose goal is an atom
 pub record AtomAt (s : List ℕ) (f : Frame) : Type 0 where
@@ -26,18 +28,28 @@ numbered_goal ts m g = substitute_goal (numbered ts m) g
 unfoldable pub body_with : ℕ → Goal → Terms → ℕ → Body
 body_with l g ts m = cond (locals_beyond m l) too_many (defined (substitute_goal (numbered ts m) g))
 
+-- how many bytes a body has, none where there is no definition, or what refuses it
+abbrev pub BodyAnswer : Type 0
+BodyAnswer = Result (Option ℕ) BodyRefusal
+
+abbrev pub of_length : ℕ → BodyAnswer
+of_length n = Ok (Some n)
+
 -- the answer for a body, where the output has so many bytes
 abbrev pub body_answer : ℕ → Body → BodyAnswer
-body_answer room too_many = TooMany
-body_answer room undefined = Undefined
-body_answer room (defined g) = cond (leb (length (goal_bytes g)) room) (Defined (length (goal_bytes g))) TooLong
+body_answer room too_many = Err TooMany
+body_answer room undefined = Ok None
+body_answer room (defined g) = cond (leb (length (goal_bytes g)) room) (of_length (length (goal_bytes g))) (Err TooLong)
 
--- the number (SPECIFICATION 7.6) for an answer: question 9 or 10 says no, else 0
-abbrev pub body_refusal : BodyAnswer → ℕ
+-- the number (SPECIFICATION 7.6) of the question that says no
+abbrev pub body_refusal : BodyRefusal → ℕ
 body_refusal TooMany = 9
-body_refusal Undefined = 0
-body_refusal (Defined n) = 0
 body_refusal TooLong = 10
+
+-- the question by the name that all services have for it
+abbrev pub as_refusal : BodyRefusal → Refusal
+as_refusal TooMany = Locals
+as_refusal TooLong = Fits
 
 -- what is written for a body into an output of so many bytes: questions 9 and 10, and then its bytes; of no body there are none
 unfoldable pub body_given : (room : ℕ) → Body → Answer (List ℕ)

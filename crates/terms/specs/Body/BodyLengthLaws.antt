@@ -1,5 +1,5 @@
 -- A numbered body as it is measured: what of it is behind the cursor, and what the traversal over the definition's goal has ahead.
-use Rattle.std.specs.Prelude.{◌≡◌, List, [], ◌++◌, ℕ, ◌+◌, ◌-◌, ◌≤◌, ◌<◌, min, length}
+use Rattle.std.specs.Prelude.{◌≡◌, List, [], ◌++◌, ℕ, ◌+◌, ◌-◌, ◌≤◌, ◌<◌, min, length, Option, Some, None}
 use Rattle.std.proofs.Common.{sym, ◌∙◌, arith, length-append}
 use Rattle.std.proofs.Math.Path.{ap}
 use Rattle.records.specs.Format.Syntax.{Terms}
@@ -12,7 +12,7 @@ use Rattle.records.specs.Ends.Steps.{end_place, next_step}
 use Rattle.records.specs.Ends.StandsLaws.{traverse_goal}
 use Rattle.records.specs.declared.traverse.Cursor.{Cursor}
 use Rattle.records.specs.declared.traverse.NodeStep.{NodeStep}
-use Rattle.records.specs.declared.traverse.NodeStep.TheVariants.{Variable, Other, Done}
+use Rattle.records.specs.declared.traverse.NodeStep.TheVariants.{Variable, Other}
 use Rattle.terms.specs.Theory.Substitution.{Substitution}
 use Rattle.terms.specs.Body.Body.{numbered}
 use Rattle.terms.specs.Standing.Frames.{GoalAt}
@@ -40,7 +40,7 @@ module _ {s : List ℕ} {goal : ℕ} (g : GoalAt s goal) (ts : Terms) (m : ℕ) 
   counting_start = record { done = []; long = omega arith; end = end_place (traverse s goal 0 1); ahead = rw (← numbered_bytes) (ahead_start (numbered ts m) s (record { pos = goal; terms = 0; goals = 1 }) (goal_on g)) }
 
 -- a node that is no variable stands from the cursor to the next one
-module _ {θ : Substitution} {s whole done : List ℕ} {c : Cursor} {end : ℕ} (a : Ahead θ s whole done c end) (known : Known s) {r : NodeStep} (is : r ≡ next_step s c.pos c.terms c.goals) {d : Cursor} (e : r ≡ Other d) where
+module _ {θ : Substitution} {s whole done : List ℕ} {c : Cursor} {end : ℕ} (a : Ahead θ s whole done c end) (known : Known s) {r : Option NodeStep} (is : r ≡ next_step s c.pos c.terms c.goals) {d : Cursor} (e : r ≡ (Some (Other d))) where
   pub node_inside : Inside (record { from = c.pos; to = d.pos }) s
   node_inside = let y = ahead_less_other a known is e in record { order = omega arith; stop = y.1 }
 
@@ -57,14 +57,14 @@ module _ {θ : Substitution} {s whole : List ℕ} {room : ℕ} {c : Cursor} {n :
   pub counting_full : room < n → n ≡ min (room + 1) (length whole)
   counting_full h = omega (arith, u.long, ahead_room u.ahead)
 
-  module _ (known : Known s) {r : NodeStep} (is : r ≡ next_step s c.pos c.terms c.goals) (h : n ≤ room) where
-    pub counting_variable : {v : ℕ} {d : Cursor} → r ≡ Variable v d → {k to : ℕ} → k ≡ length (term_bytes (θ v)) → to ≡ min (room + 1) (n + k)
+  module _ (known : Known s) {r : Option NodeStep} (is : r ≡ next_step s c.pos c.terms c.goals) (h : n ≤ room) where
+    pub counting_variable : {v : ℕ} {d : Cursor} → r ≡ (Some (Variable v d)) → {k to : ℕ} → k ≡ length (term_bytes (θ v)) → to ≡ min (room + 1) (n + k)
         → Counting θ s whole room d to
     counting_variable {v} e p q = counting_more (term_bytes (θ v)) p h q (ahead_variable u.ahead known is e)
 
-    pub counting_other : {d : Cursor} → r ≡ Other d → {to : ℕ} → to ≡ min (room + 1) (n + (d.pos - c.pos)) → Counting θ s whole room d to
+    pub counting_other : {d : Cursor} → r ≡ (Some (Other d)) → {to : ℕ} → to ≡ min (room + 1) (n + (d.pos - c.pos)) → Counting θ s whole room d to
     counting_other {d} e q =
         counting_more (cut s (record { from = c.pos; to = d.pos })) (sym (node_length u.ahead known is e)) h q (ahead_other u.ahead known is e)
 
-    pub counting_done : r ≡ Done → n ≡ min (room + 1) (length whole)
+    pub counting_done : r ≡ None → n ≡ min (room + 1) (length whole)
     counting_done e = u.long ∙ ap (λ (x : List ℕ). min (room + 1) (length x)) (sym (ahead_done u.ahead known is e).0)

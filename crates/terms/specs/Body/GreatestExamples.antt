@@ -1,5 +1,5 @@
 -- SPECIFICATION 11.20 by evaluation: the part that holds the greatest variable, of events and of one event's record.
-use Rattle.std.specs.Prelude.{◌≡◌, refl, List, [], ◌∷◌, ℕ}
+use Rattle.std.specs.Prelude.{◌≡◌, refl, List, [], ◌∷◌, ℕ, None}
 use Rattle.records.specs.Format.Syntax.{Goal}
 use Rattle.records.specs.Format.Syntax.Term.{var, app}
 use Rattle.records.specs.Format.Syntax.Terms.{nil, cons}
@@ -15,51 +15,51 @@ use Rattle.records.specs.Gate.Gate.{framed, of_version, read_record}
 use Rattle.records.specs.Gate.Question.{question_number}
 use Rattle.records.specs.Gate.Reply.{through}
 use Rattle.records.specs.Gate.Door.{event_door}
-use Rattle.terms.specs.Body.Greatest.{greatest_of, greatest_variable}
+use Rattle.terms.specs.Body.Greatest.{in_part, greatest_of, greatest_variable}
 use Rattle.terms.specs.Body.GreatestService.{greatest_record}
-use Rattle.terms.specs.declared.greatest.Greatest.TheVariants.{Nowhere, InBets, InGoal, InAncestors}
+use Rattle.terms.specs.declared.greatest.Part.TheVariants.{Bets as InBets, Goal as InGoal, Ancestors as InAncestors}
 
 abbrev p : ℕ → Goal
 p v = atom 7 (cons (var v) nil)
 
 -- none at all
-nothing_held : greatest_variable truth (called 7 nil ∷ []) (or first ∷ unifier [] ∷ by truth ∷ []) ≡ Nowhere
+nothing_held : greatest_variable truth (called 7 nil ∷ []) (or first ∷ unifier [] ∷ by truth ∷ []) ≡ None
 unfolding greatest_of
 nothing_held = refl
 
 -- each part alone
-bets_alone : greatest_variable truth [] (by (p 9) ∷ []) ≡ InBets 9
+bets_alone : greatest_variable truth [] (by (p 9) ∷ []) ≡ in_part InBets 9
 unfolding greatest_of
 bets_alone = refl
 
-goal_alone : greatest_variable (p 9) (called 7 nil ∷ []) (or first ∷ []) ≡ InGoal 9
+goal_alone : greatest_variable (p 9) (called 7 nil ∷ []) (or first ∷ []) ≡ in_part InGoal 9
 unfolding greatest_of
 goal_alone = refl
 
-ancestors_alone : greatest_variable truth (called 7 nil ∷ called 7 (cons (var 9) nil) ∷ []) [] ≡ InAncestors 9
+ancestors_alone : greatest_variable truth (called 7 nil ∷ called 7 (cons (var 9) nil) ∷ []) [] ≡ in_part InAncestors 9
 unfolding greatest_of
 ancestors_alone = refl
 
 -- a part that is searched later holds more
-goal_above_bets : greatest_variable (p 9) (called 7 (cons (var 4) nil) ∷ []) (unifier (bind 8 (app 1 nil) ∷ []) ∷ []) ≡ InGoal 9
+goal_above_bets : greatest_variable (p 9) (called 7 (cons (var 4) nil) ∷ []) (unifier (bind 8 (app 1 nil) ∷ []) ∷ []) ≡ in_part InGoal 9
 unfolding greatest_of
 goal_above_bets = refl
 
-ancestors_above_both : greatest_variable (p 4) (called 7 (cons (var 9) nil) ∷ []) (by (p 8) ∷ []) ≡ InAncestors 9
+ancestors_above_both : greatest_variable (p 4) (called 7 (cons (var 9) nil) ∷ []) (by (p 8) ∷ []) ≡ in_part InAncestors 9
 unfolding greatest_of
 ancestors_above_both = refl
 
 -- equal ones: the first part is named
-bets_and_goal : greatest_variable (p 9) [] (unifier (bind 3 (var 9) ∷ []) ∷ []) ≡ InBets 9
+bets_and_goal : greatest_variable (p 9) [] (unifier (bind 3 (var 9) ∷ []) ∷ []) ≡ in_part InBets 9
 unfolding greatest_of
 bets_and_goal = refl
 
-goal_and_ancestors : greatest_variable (p 9) (called 7 (cons (var 9) nil) ∷ []) (by (p 8) ∷ []) ≡ InGoal 9
+goal_and_ancestors : greatest_variable (p 9) (called 7 (cons (var 9) nil) ∷ []) (by (p 8) ∷ []) ≡ in_part InGoal 9
 unfolding greatest_of
 goal_and_ancestors = refl
 
 -- one of several bets
-lowest_bet : greatest_variable (p 8) [] (by (p 3) ∷ or first ∷ unifier (bind 0 (var 8) ∷ bind 9 (app 1 nil) ∷ []) ∷ []) ≡ InBets 9
+lowest_bet : greatest_variable (p 8) [] (by (p 3) ∷ or first ∷ unifier (bind 0 (var 8) ∷ bind 9 (app 1 nil) ∷ []) ∷ []) ≡ in_part InBets 9
 unfolding greatest_of
 lowest_bet = refl
 

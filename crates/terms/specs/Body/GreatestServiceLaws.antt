@@ -1,5 +1,5 @@
 -- Laws of the service of the greatest variable: an event that is refused, the frame of an accepted one, what is told of it, and that it fits two bytes.
-use Rattle.std.specs.Prelude.{◌≡◌, refl, List, ℕ, ◌≤◌, ◌<◌}
+use Rattle.std.specs.Prelude.{◌≡◌, refl, List, ℕ, ◌≤◌, ◌<◌, Option, Some, None}
 use Rattle.std.proofs.Common.{ap, arith}
 use Rattle.records.specs.Format.Syntax.{Event}
 use Rattle.records.specs.Format.Syntax.Event.{event}
@@ -20,7 +20,6 @@ use Rattle.terms.specs.Body.GreatestLaws.{next_after_formed}
 use Rattle.terms.specs.Body.GreatestService.{greatest_told, greatest_in, greatest_record}
 use Rattle.terms.specs.declared.variables.Frame.{Frame}
 use Rattle.terms.specs.declared.greatest.Greatest.{Greatest}
-use Rattle.terms.specs.declared.greatest.Greatest.TheVariants.{Nowhere, InBets, InGoal, InAncestors}
 
 pub part_refused : (s : List ℕ) {k : ℕ} → k ≡ answer_number (event_door (read_event s)) → (k ≡ 0 → ⊥)
     → record { number = k; part = 0; variable = 0 } ≡ greatest_record s
@@ -37,16 +36,14 @@ pub frame_found : (s : List ℕ) → Known s → (e : Event) → read_event s �
     → {f : Frame} → f ≡ event_frame places → FrameOf s e f
 frame_found s known (event p g u b) q i j = rw (frame_told (event p g u b) i j) (record { frame = parts_frame (event_parts s known p g u b q); holds = refl })
 
-pub part_told : (s : List ℕ) (e : Event) → read_event s ≡ tree e → {m : Greatest} → m ≡ greatest_in e → greatest_told m ≡ greatest_record s
+pub part_told : (s : List ℕ) (e : Event) → read_event s ≡ tree e → {m : Option Greatest} → m ≡ greatest_in e → greatest_told m ≡ greatest_record s
 unfolding greatest_record through event_door
 part_told s e q i = rw (q, i) refl
 
 -- the variable fits two bytes
-below_next : (m : Greatest) → next_after m ≤ 65536 → (greatest_told m).variable < 65536
-below_next Nowhere h = omega arith
-below_next (InBets v) h = omega arith
-below_next (InGoal v) h = omega arith
-below_next (InAncestors v) h = omega arith
+below_next : (m : Option Greatest) → next_after m ≤ 65536 → (greatest_told m).variable < 65536
+below_next None h = omega arith
+below_next (Some g) h = omega arith
 
 pub greatest_small : (s : List ℕ) → Known s → (greatest_record s).variable < 65536
 unfolding greatest_record through event_door

@@ -1,15 +1,13 @@
 -- The variables of the members of an event's stacks, and what code tells of them: one more than the greatest, and where a member ends.
-use Rattle.std.specs.Prelude.{◌≡◌, List, ℕ, ◌<◌, max}
+use Rattle.std.specs.Prelude.{◌≡◌, List, ℕ}
 use Rattle.records.specs.Format.Syntax.{Ancestor, Bet}
 use Rattle.records.specs.Format.Encode.{each, ancestor_bytes, bet_bytes}
 use Rattle.records.specs.Format.Formed.{AncestorFormed, BetFormed}
 use Rattle.records.specs.Gate.RecordRules.{ancestor_variables}
 use Rattle.records.specs.declared.traverse.Top.{Top}
 use Rattle.records.specs.Ends.Above.{above}
-use Rattle.terms.specs.Body.Body.{pair_variables, bet_variables}
+use Rattle.terms.specs.Body.Body.{bet_variables}
 use Rattle.terms.specs.Standing.Rows.{StandingItem, StandingRow}
-use Rattle.terms.specs.Standing.Frames.{PairsAt}
-use Rattle.terms.specs.declared.variables.MemberTop.{MemberTop}
 use Rattle.terms.specs.declared.variables.StackKind.{StackKind}
 use Rattle.terms.specs.declared.variables.StackKind.TheVariants.{Ancestors, Bets}
 
@@ -44,10 +42,3 @@ StackAt k s at n = StandingRow (member_bytes k) (MemberFormed k) s at n
 pub record TopOf (variables : List ℕ) (e : ℕ) (r : Top) : Type 0 where
   pub top : r.top ≡ above variables
   pub end : r.end ≡ e
-
--- the same, where some of them stand in pairs that are still to come
-pub record PieceOf (s : List ℕ) (variables : List ℕ) (e : ℕ) (r : MemberTop) : Type 0 where
-  pub few : r.pairs < 65536
-  pub pairs : PairsAt s r.end r.pairs
-  pub end : pairs.end ≡ e
-  pub top : above variables ≡ max r.top (above (each pair_variables pairs.items))

@@ -1,11 +1,11 @@
 -- The first classes: the nodes of one variable are one class, and then s and t are put into one.
 use Rattle.std.specs.Prelude.{◌≡◌, refl, List, ℕ, ◌+◌, ◌≤◌, ◌<◌, length, set}
 use Rattle.std.proofs.Common.{sym, ◌∙◌, ap, subst, arith, below_more, length-set, get_or-set_same, get_or-set_other}
-use Rattle.std.proofs.Math.Decide.{ℕ_discrete}
 use Rattle.records.specs.Format.Syntax.Term.{var}
 use Rattle.terms.specs.Theory.Substitution.{substitute}
 use Rattle.terms.specs.Theory.Unify.{less, same, more, compare}
-use Rattle.terms.specs.Classes.Nodes.{at, Nodes, count, In, node_number, IsVariable, Table}
+use Rattle.terms.specs.Classes.Nodes.{at, Nodes, count, In, node_number, IsVariable}
+use Rattle.terms.specs.Classes.NodesLaws.{not_both, variable?}
 use Rattle.terms.specs.Classes.ClassesLaws.{variable_term}
 use Rattle.terms.specs.Classes.ClassState.{Better, Partition, State, Unitable, United, FirstOfVariable, Firsts}
 use Rattle.terms.specs.Classes.CloseLaws.{united_unites, unitable}
@@ -68,21 +68,21 @@ module _ (n : Nodes) (s t : ℕ) (rep : List ℕ) (s_in : In n s) (t_in : In n t
     root = λ i k.
         let h = f.each i k in
         let z = h.low in
-        elim (ℕ_discrete (at n.kinds i) 1) [
+        elim (variable? n i) [
           | yes a ↦ first_shared n (at rep i) i (at rep (at rep i)) (at rep i) (h.variables a) a h.numbers (f.each (at rep i) (omega arith)) h
           | no a ↦ ap (at rep) (h.other a)
         ];
     better = λ i k.
         let h = f.each i k in
-        elim (ℕ_discrete (at n.kinds i) 1) [
-          | yes a ↦ record { symbols = λ b. absurd (omega arith); variables = λ b c. omega (arith, h.numbers) }
+        elim (variable? n i) [
+          | yes a ↦ record { symbols = λ b. absurd (not_both n i a b); variables = λ b c. omega (arith, h.numbers) }
           | no a ↦ subst (λ x. Better n x i) (sym (h.other a)) (record { symbols = λ b. b; variables = λ b c. omega arith })
         ];
     shared = λ i j k m a b e. first_shared n i j (at rep i) (at rep j) a b e (f.each i k) (f.each j m);
     sound = λ i k children term g θ u.
         let h = f.each i k in
         let z = h.low in
-        elim (ℕ_discrete (at n.kinds i) 1) [
+        elim (variable? n i) [
           | yes a ↦
               ap (substitute θ)
               (variable_term n children term g.node (at rep i) (omega arith) (h.variables a) ∙ ap var h.numbers
@@ -100,5 +100,5 @@ module _ (n : Nodes) (s t : ℕ) (rep : List ℕ) (s_in : In n s) (t_in : In n t
       let z = united_unites n s t rep new firsts_partition s t s_in t_in h (λ children term g θ k. k) u in
       record { partition = z.partition; joined = z.one }
 
-  pub begin_unitable : Table n → Unitable n.kinds n.numbers rep s t
-  begin_unitable table = unitable n s t rep table firsts_partition s t s_in t_in
+  pub begin_unitable : Unitable n rep s t
+  begin_unitable = unitable n s t rep firsts_partition s t s_in t_in

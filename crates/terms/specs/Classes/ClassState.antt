@@ -9,7 +9,7 @@ use Rattle.terms.specs.declared.classes.Turn.{Turn}
 use Rattle.terms.specs.declared.classes.Turn.TheVariants.{Fine, Joined, Stuck}
 use Rattle.terms.specs.Theory.Substitution.{Substitution, substitute}
 use Rattle.terms.specs.Theory.Mgu.{Unifies}
-use Rattle.terms.specs.Classes.Nodes.{at, Nodes, count, In, node_number, IsVariable, IsSymbol, Children, Nested, Graph}
+use Rattle.terms.specs.Classes.Nodes.{at, Nodes, count, In, node_number, IsVariable, IsSymbol, Children, Table, Graph}
 use Rattle.terms.specs.Classes.Classes.{Paired}
 
 -- no substitution makes the terms at s and t equal, whatever terms the table holds
@@ -58,12 +58,11 @@ Preferred n a b true = Better n a b
 Preferred n a b false = Better n b a
 
 -- what uniting the classes of p and q rests on
-pub record Unitable (kinds numbers rep : List ℕ) (p q : ℕ) : Type 0 where
+pub record Unitable (n : Nodes) (rep : List ℕ) (p q : ℕ) : Type 0 where
   pub p_in : p < length rep
   pub q_in : q < length rep
-  pub p_rep : at rep p < length kinds
-  pub q_rep : at rep q < length kinds
-  pub numbers_long : length numbers ≡ length kinds
+  pub p_rep : In n (at rep p)
+  pub q_rep : In n (at rep q)
 
 -- the classes of p and q have become one
 pub record United (n : Nodes) (p q : ℕ) (old new : List ℕ) : Type 0 where
@@ -74,27 +73,26 @@ pub record United (n : Nodes) (p q : ℕ) (old new : List ℕ) : Type 0 where
   pub labels : Relabelled kept gone old new
 
 -- what comparing the symbols i and r rests on
-pub record Comparable (numbers nexts rep : List ℕ) (i r : ℕ) : Type 0 where
-  pub nested : Nested nexts
-  pub i_in : i < length nexts
-  pub r_in : r < length nexts
-  pub numbers_long : length numbers ≡ length nexts
-  pub rep_long : length rep ≡ length nexts
+pub record Comparable (n : Nodes) (rep : List ℕ) (i r : ℕ) : Type 0 where
+  pub table : Table n
+  pub i_in : i < count n
+  pub r_in : r < count n
+  pub rep_long : length rep ≡ count n
 
 -- two symbols: the same number and children of the same classes; or another number or other counts of children; or children p and q at one
 -- place whose classes differ
-unfoldable pub NodesCompared : List ℕ → List ℕ → List ℕ → ℕ → ℕ → Comparison → Type 0
-NodesCompared numbers nexts rep i r Same =
-    (at numbers i ≡ at numbers r) × ((cs ds : List ℕ) → Children nexts i cs → Children nexts r ds → map (at rep) cs ≡ map (at rep) ds)
-NodesCompared numbers nexts rep i r Clash =
-    (at numbers i ≡ at numbers r → ⊥) ⊎ ((cs ds : List ℕ) → Children nexts i cs → Children nexts r ds → length cs ≡ length ds → ⊥)
-NodesCompared numbers nexts rep i r (Differ p q) =
-    (p < length nexts) × (q < length nexts) × (at rep p ≡ at rep q → ⊥)
-    × ((cs ds : List ℕ) → Children nexts i cs → Children nexts r ds → Paired p q cs ds)
+unfoldable pub NodesCompared : Nodes → List ℕ → ℕ → ℕ → Comparison → Type 0
+NodesCompared n rep i r Same =
+    (node_number n i ≡ node_number n r) × ((cs ds : List ℕ) → Children n i cs → Children n r ds → map (at rep) cs ≡ map (at rep) ds)
+NodesCompared n rep i r Clash =
+    (node_number n i ≡ node_number n r → ⊥) ⊎ ((cs ds : List ℕ) → Children n i cs → Children n r ds → length cs ≡ length ds → ⊥)
+NodesCompared n rep i r (Differ p q) =
+    (p < count n) × (q < count n) × (at rep p ≡ at rep q → ⊥)
+    × ((cs ds : List ℕ) → Children n i cs → Children n r ds → Paired p q cs ds)
 
 -- node i agrees with its representative
 abbrev pub AgreesWithRepresentative : Nodes → List ℕ → ℕ → Type 0
-AgreesWithRepresentative n rep i = IsSymbol n i → NodesCompared n.numbers n.nexts rep i (at rep i) Same
+AgreesWithRepresentative n rep i = IsSymbol n i → NodesCompared n rep i (at rep i) Same
 
 -- how many nodes from k on represent themselves
 abbrev pub roots : ℕ → List ℕ → ℕ

@@ -13,6 +13,7 @@ use Rattle.terms.specs.Theory.Variables.{Among}
 use Rattle.terms.specs.Theory.TestLaws.{all_among}
 use Rattle.terms.specs.Theory.MostGeneral.{MostGeneral}
 use Rattle.terms.specs.Classes.Nodes.{Nodes, node_number, IsVariable, IsSymbol, In, terms_at, TableNode, variable, symbol}
+use Rattle.terms.specs.Classes.NodesLaws.{not_both}
 use Rattle.terms.specs.Classes.Classes.{Respects, ClassesSound, Closed, Expands, Reads, Paired}
 
 -- children of equal terms are as many, and equal
@@ -44,7 +45,7 @@ child_length term θ c (d ∷ ds) (inr o) =
 module _ (n : Nodes) (children : ℕ → List ℕ) (term : ℕ → Term) (node : (i : ℕ) → In n i → TableNode n children term i) where
   -- what stands at a variable's node
   pub variable_term : (i : ℕ) → In n i → IsVariable n i → term i ≡ var (node_number n i)
-  variable_term i l a = elim (node i l) [ variable b q ↦ q | symbol b q k ↦ absurd (omega arith) ]
+  variable_term i l a = elim (node i l) [ variable b q ↦ q | symbol b q k ↦ never cc ]
 
   module _ (s t : ℕ) (rep : ℕ → ℕ) (expansion : ℕ → Term) (σ : Substitution)
       (c : Closed n children s t rep) (e : Expands n children rep expansion) (r : Reads n rep expansion σ) where
@@ -58,7 +59,7 @@ module _ (n : Nodes) (children : ℕ → List ℕ) (term : ℕ → Term) (node :
       becomes (app f us) i l p = elim (node i l) [
         | variable a b ↦ (never cc)
         | symbol a b k ↦
-            (let g = (c.agrees i l).symbols (omega arith) in
+            (let g = (c.agrees i l).symbols (_, a) in
             let h : substitute_all σ us ≡ terms_at expansion (map rep (children i)) = become us (children i) k (cc) in
             let q = e.symbols i l g.0 in
             let w : f ≡ node_number n i = cc in
@@ -81,12 +82,12 @@ module _ (n : Nodes) (children : ℕ → List ℕ) (term : ℕ → Term) (node :
               let z : x ≡ node_number n (rep i) = cc in
               let y : substitute θ (term (rep i)) ≡ θ (node_number n (rep i)) = ap (substitute θ) b in
               ap θ z ∙ sym y ∙ h i l)
-          | symbol a b k ↦ (let q = e.symbols i l (omega arith) in never cc)
+          | symbol a b k ↦ (let q = e.symbols i l (_, a) in never cc)
         ]
         expansion_equal (app f us) i l p = elim (node (rep i) (c.inside i l)) [
           | variable a b ↦ (let q = e.variables i l a in never cc)
           | symbol a b k ↦
-              (let q = e.symbols i l (omega arith) in
+              (let q = e.symbols i l (_, a) in
               let z : f ≡ node_number n (rep i) = cc in
               let y : substitute θ (term (rep i)) ≡ app (node_number n (rep i)) (substitute_all θ (terms_at term (children (rep i)))) =
               ap (substitute θ) b in
@@ -104,7 +105,7 @@ module _ (n : Nodes) (children : ℕ → List ℕ) (term : ℕ → Term) (node :
     lower_class : (i w : ℕ) → In n i → IsVariable n i → expansion (rep i) ≡ var w → w ≤ node_number n i
     lower_class i w l a p = elim (node (rep i) (c.inside i l)) [
       | variable b q ↦ (let k = (c.agrees i l).variables a b in let z : w ≡ node_number n (rep i) = cc (e.variables i l b) in omega arith)
-      | symbol b q k ↦ never (cc (e.symbols i l (omega arith)))
+      | symbol b q k ↦ never (cc (e.symbols i l (_, b)))
     ]
 
     -- the theorem
@@ -133,8 +134,8 @@ module _ (n : Nodes) (children : ℕ → List ℕ) (term : ℕ → Term) (node :
       where
         go : TableNode n children term i → TableNode n children term (rep i)
             → (node_number n (rep i) ≡ node_number n i) × (substitute_all θ (terms_at term (children (rep i))) ≡ substitute_all θ (terms_at term (children i)))
-        go (variable p q) y = absurd (omega arith)
-        go (symbol p q k) (variable p' q') = absurd (omega arith)
+        go (variable p q) y = absurd (not_both n i p a)
+        go (symbol p q k) (variable p' q') = absurd (not_both n (rep i) p' b)
         go (symbol p q k) (symbol p' q' k') =
             let z : app (node_number n (rep i)) (substitute_all θ (terms_at term (children (rep i)))) ≡ app (node_number n i) (substitute_all θ (terms_at term (children i))) =
             sym (ap (substitute θ) q') ∙ h i l ∙ ap (substitute θ) q in
@@ -144,7 +145,7 @@ module _ (n : Nodes) (children : ℕ → List ℕ) (term : ℕ → Term) (node :
     child_shorter : (r : ℕ) → In n r → IsSymbol n r → (d : ℕ) → Among d (children r)
         → In n d × (term_length (substitute θ (term d)) < term_length (substitute θ (term r)))
     child_shorter r l a d o = elim (node r l) [
-      | variable b q ↦ absurd (omega arith)
+      | variable b q ↦ absurd (not_both n r b a)
       | symbol b q k ↦
           (let z : term_length (substitute θ (term r)) ≡ term_length (app (node_number n r) (substitute_all θ (terms_at term (children r)))) =
           ap (λ u. term_length (substitute θ u)) q in

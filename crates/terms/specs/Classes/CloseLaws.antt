@@ -12,7 +12,8 @@ use Rattle.terms.specs.declared.classes.Turn.{Turn}
 use Rattle.terms.specs.declared.classes.Turn.TheVariants.{Fine, Joined, Stuck}
 use Rattle.terms.specs.Theory.Substitution.{Substitution, substitute_all}
 use Rattle.terms.specs.Theory.Mgu.{Unifies}
-use Rattle.terms.specs.Classes.Nodes.{at, Nodes, count, In, node_number, IsSymbol, Children, Table, terms_at, Graph}
+use Rattle.terms.specs.Classes.Nodes.{at, Nodes, count, In, node_number, IsVariable, IsSymbol, Children, Table, terms_at, Graph}
+use Rattle.terms.specs.Classes.NodesLaws.{not_both}
 use Rattle.terms.specs.Classes.Classes.{Respects}
 use Rattle.terms.specs.Classes.ClassesLaws.{same_children, paired_equal, same_class}
 use Rattle.terms.specs.Classes.ClassState.{
@@ -34,15 +35,15 @@ use Rattle.terms.specs.Classes.ClassState.{
 }
 use Rattle.terms.specs.Classes.RelabelLaws.{relabelled_fewer, relabelled_one, relabelled_joined, relabelled_partition}
 
--- of two nodes that are no symbols the one with the lower number is preferred
-pub preferred_lower : (n : Nodes) (a b : ℕ) → (IsSymbol n a → ⊥) → (IsSymbol n b → ⊥) → Preferred n a b (leb (node_number n a) (node_number n b))
+-- of two variables the one with the lower number is preferred
+pub preferred_lower : (n : Nodes) (a b : ℕ) → IsVariable n a → IsVariable n b → Preferred n a b (leb (node_number n a) (node_number n b))
 unfolding Preferred
-preferred_lower n a b na nb = go (leb (node_number n a) (node_number n b)) refl
+preferred_lower n a b va vb = go (leb (node_number n a) (node_number n b)) refl
   where
     go : (d : Bool) → leb (node_number n a) (node_number n b) ≡ d → Preferred n a b d
-    go true e = record { symbols = λ h. absurd (nb h); variables = λ h k. leb-true (node_number n a) (node_number n b) e }
+    go true e = record { symbols = λ h. absurd (not_both n b vb h); variables = λ h k. leb-true (node_number n a) (node_number n b) e }
     go false e = record {
-      symbols = λ h. absurd (na h);
+      symbols = λ h. absurd (not_both n a va h);
       variables = λ h k. let z = leb-false (node_number n a) (node_number n b) e in omega arith;
     }
 
@@ -107,17 +108,16 @@ module _ (n : Nodes) (s t : ℕ) (old new : List ℕ) (part : Partition n s t ol
           record { partition = z.partition; still = z.still; one = sym z.one; fewer = z.fewer }
 
 -- two nodes of a partition may be united
-pub unitable : (n : Nodes) (s t : ℕ) (rep : List ℕ) → Table n → Partition n s t rep → (p q : ℕ) → In n p → In n q
-    → Unitable n.kinds n.numbers rep p q
-unitable n s t rep table part p q lp lq =
+pub unitable : (n : Nodes) (s t : ℕ) (rep : List ℕ) → Partition n s t rep → (p q : ℕ) → In n p → In n q
+    → Unitable n rep p q
+unitable n s t rep part p q lp lq =
     let x = part.inside p lp in
     let y = part.inside q lq in
     record {
       p_in = omega (arith, part.long);
       q_in = omega (arith, part.long);
-      p_rep = omega (arith, table.kinds_long);
-      q_rep = omega (arith, table.kinds_long);
-      numbers_long = table.numbers_long ∙ sym table.kinds_long;
+      p_rep = x;
+      q_rep = y;
     }
 
 -- what the comparison of node i with its representative tells
@@ -139,38 +139,37 @@ module _ (n : Nodes) (s t : ℕ) (rep : List ℕ) (st : State n s t rep) where
     alike children term g θ u =
         same_class n children term g.node θ (at rep) (state_respects children term g θ u) i l rep_in a rep_symbol
 
-    clash_apart : NodesCompared n.numbers n.nexts rep i (at rep i) Clash → Apart n s t
+    clash_apart : NodesCompared n rep i (at rep i) Clash → Apart n s t
     unfolding NodesCompared
     clash_apart c children term g θ u = go c (alike children term g θ u)
       where
         go : (node_number n i ≡ node_number n (at rep i) → ⊥)
-            ⊎ ((cs ds : List ℕ) → Children n.nexts i cs → Children n.nexts (at rep i) ds → length cs ≡ length ds → ⊥)
+            ⊎ ((cs ds : List ℕ) → Children n i cs → Children n (at rep i) ds → length cs ≡ length ds → ⊥)
             → (node_number n (at rep i) ≡ node_number n i)
             × (substitute_all θ (terms_at term (children (at rep i))) ≡ substitute_all θ (terms_at term (children i))) → ⊥
         go (inl h) z = h (sym z.0)
         go (inr f) z = f (children i) (children (at rep i)) (g.path i l a) (g.path (at rep i) rep_in rep_symbol)
             (same_children term θ (children i) (children (at rep i)) (sym z.1))
 
-    differ_forced : (p q : ℕ) → NodesCompared n.numbers n.nexts rep i (at rep i) (Differ p q) → Forced n s t p q
+    differ_forced : (p q : ℕ) → NodesCompared n rep i (at rep i) (Differ p q) → Forced n s t p q
     unfolding NodesCompared
     differ_forced p q c children term g θ u =
         paired_equal term θ p q (children i) (children (at rep i)) (sym (alike children term g θ u).1)
         (c.3 (children i) (children (at rep i)) (g.path i l a) (g.path (at rep i) rep_in rep_symbol))
 
     -- the symbol i may be compared with its representative
-    pub state_comparable : Table n → Comparable n.numbers n.nexts rep i (at rep i)
+    pub state_comparable : Table n → Comparable n rep i (at rep i)
     state_comparable table = record {
-      nested = table.nested;
+      table = table;
       i_in = l;
       r_in = rep_in;
-      numbers_long = table.numbers_long;
       rep_long = st.partition.long;
     }
 
     -- the turn at the symbol i, by the comparison
-    module _ (o : Comparison) (c : NodesCompared n.numbers n.nexts rep i (at rep i) o) where
-      compared : (r : Comparison) → o ≡ r → NodesCompared n.numbers n.nexts rep i (at rep i) r
-      compared r e = subst (NodesCompared n.numbers n.nexts rep i (at rep i)) e c
+    module _ (o : Comparison) (c : NodesCompared n rep i (at rep i) o) where
+      compared : (r : Comparison) → o ≡ r → NodesCompared n rep i (at rep i) r
+      compared r e = subst (NodesCompared n rep i (at rep i)) e c
 
       pub turned_stuck : o ≡ Clash → (new : List ℕ) → Visited n s t i rep new Stuck
       unfolding Visited
@@ -185,8 +184,8 @@ module _ (n : Nodes) (s t : ℕ) (rep : List ℕ) (st : State n s t rep) where
         unfolding NodesCompared
         pair = let d = compared (Differ p q) e in ((d.0, d.1), (d.2, differ_forced p q d))
 
-        pub differ_unitable : Table n → Unitable n.kinds n.numbers rep p q
-        differ_unitable table = unitable n s t rep table st.partition p q pair.0.0 pair.0.1
+        pub differ_unitable : Unitable n rep p q
+        differ_unitable = unitable n s t rep st.partition p q pair.0.0 pair.0.1
 
         pub turned_joined : (new : List ℕ) → United n p q rep new → Visited n s t i rep new Joined
         unfolding Visited
@@ -195,9 +194,9 @@ module _ (n : Nodes) (s t : ℕ) (rep : List ℕ) (st : State n s t rep) where
             (record { partition = z.partition; joined = z.still st.joined }, z.fewer)
 
 -- a variable's node has nothing to agree in
-pub turned_variable : (n : Nodes) (s t i : ℕ) (rep : List ℕ) → (IsSymbol n i → ⊥) → Visited n s t i rep rep Fine
+pub turned_variable : (n : Nodes) (s t i : ℕ) (rep : List ℕ) → IsVariable n i → Visited n s t i rep rep Fine
 unfolding Visited
-turned_variable n s t i rep h = (refl, (λ a. absurd (h a)))
+turned_variable n s t i rep h = (refl, (λ a. absurd (not_both n i h a)))
 
 -- the loop: the nodes below i agree with their representatives
 pub record Closing (n : Nodes) (s t : ℕ) (rep : List ℕ) (i : ℕ) : Type 0 where

@@ -1,8 +1,10 @@
 -- A forest in pre-order: the terms of an argument list, node by node. It is how two terms are laid into one table.
-use Rattle.std.specs.Prelude.{List, [], ◌∷◌, ◌++◌, ℕ, zero, suc, ◌+◌}
+use Rattle.std.specs.Prelude.{ℕ, zero, suc, ◌+◌}
 use Rattle.records.specs.Format.Syntax.{Term, Terms, arity}
 use Rattle.records.specs.Format.Syntax.Term.{var, app}
 use Rattle.records.specs.Format.Syntax.Terms.{nil, cons}
+use Rattle.terms.specs.declared.nodes.NodeKind.{NodeKind}
+use Rattle.terms.specs.declared.nodes.NodeKind.TheVariants.{Variable, Symbol}
 
 -- one argument list after another
 abbrev pub joined_forest : Terms → Terms → Terms
@@ -19,20 +21,10 @@ abbrev mutual
   nodes_count nil = 0
   nodes_count (cons t ts) = node_count t + nodes_count ts
 
--- a number of each node, in pre-order
-abbrev mutual
-  pub row : (Term → ℕ) → Term → List ℕ
-  row f (var v) = f (var v) ∷ []
-  row f (app g ts) = f (app g ts) ∷ rows f ts
-
-  pub rows : (Term → ℕ) → Terms → List ℕ
-  rows f nil = []
-  rows f (cons t ts) = row f t ++ rows f ts
-
--- a node's kind: 1 for a variable, 2 + arity for a symbol
-abbrev pub term_kind : Term → ℕ
-term_kind (var v) = 1
-term_kind (app f ts) = 2 + arity ts
+-- the kind of a term's first node
+abbrev pub term_kind : Term → NodeKind
+term_kind (var v) = Variable
+term_kind (app f ts) = Symbol (arity ts)
 
 -- the number of its variable or symbol
 abbrev pub term_number : Term → ℕ

@@ -1,13 +1,12 @@
--- Laws of forests in pre-order: what is left behind the first nodes, and the rows of numbers, node by node.
+-- Laws of forests in pre-order: what is left behind the first nodes, and the term at each node.
 use Rattle.std.specs.Prelude.{◌≡◌, refl, ◌++◌, ℕ, zero, suc, ◌+◌, ◌*◌, ◌≤◌, ◌<◌, length}
-use Rattle.std.proofs.Common.{sym, ◌∙◌, ap, ap₂, append_assoc, suc-add, zero-add, arith, length-append}
+use Rattle.std.proofs.Common.{sym, ◌∙◌, ap, append_assoc, suc-add, zero-add, arith, length-append}
 use Rattle.records.specs.Format.Syntax.{Term, Terms}
 use Rattle.records.specs.Format.Syntax.Term.{var, app}
 use Rattle.records.specs.Format.Syntax.Terms.{nil, cons}
 use Rattle.records.specs.Format.Encode.{term_bytes, terms_bytes}
 use Rattle.records.specs.Format.Formed.{TermFormed, TermsFormed}
-use Rattle.terms.specs.Classes.Nodes.{at}
-use Rattle.terms.specs.Classes.Forest.{joined_forest, node_count, nodes_count, row, rows, forest_after, term_at}
+use Rattle.terms.specs.Classes.Forest.{joined_forest, node_count, nodes_count, forest_after, forest_first, term_at}
 
 -- joining
 pub joined_nil : (ts : Terms) → joined_forest ts nil ≡ ts
@@ -26,23 +25,9 @@ pub joined_forest_bytes : (ts us : Terms) → terms_bytes (joined_forest ts us) 
 joined_forest_bytes nil us = refl
 joined_forest_bytes (cons t ts) us = ap (λ l. term_bytes t ++ l) (joined_forest_bytes ts us) ∙ sym (append_assoc (term_bytes t) (terms_bytes ts) (terms_bytes us))
 
-pub joined_rows : (f : Term → ℕ) (ts us : Terms) → rows f (joined_forest ts us) ≡ rows f ts ++ rows f us
-joined_rows f nil us = refl
-joined_rows f (cons t ts) us = ap (λ l. row f t ++ l) (joined_rows f ts us) ∙ sym (append_assoc (row f t) (rows f ts) (rows f us))
-
 pub joined_formed : (ts us : Terms) → TermsFormed ts → TermsFormed us → TermsFormed (joined_forest ts us)
 joined_formed nil us h k = k
 joined_formed (cons t ts) us h k = (h.0, joined_formed ts us h.1 k)
-
--- a row has as many numbers as there are nodes
-mutual
-  pub row_length : (f : Term → ℕ) (t : Term) → length (row f t) ≡ node_count t
-  row_length f (var v) = refl
-  row_length f (app g ts) = ap suc (rows_length f ts)
-
-  pub rows_length : (f : Term → ℕ) (ts : Terms) → length (rows f ts) ≡ nodes_count ts
-  rows_length f nil = refl
-  rows_length f (cons t ts) = length-append (row f t) (rows f ts) ∙ ap₂ ◌+◌ (row_length f t) (rows_length f ts)
 
 -- a node takes three bytes or more
 mutual
@@ -108,16 +93,14 @@ split (suc j) (cons (app f vs) us) h =
       total = omega (arith, s.total);
     }
 
--- the number of each node
-pub rows_at : (f : Term → ℕ) (i : ℕ) (ts : Terms) → i < nodes_count ts → at (rows f ts) i ≡ f (term_at ts i)
-rows_at f zero nil h = absurd (omega arith)
-rows_at f zero (cons (var v) ts) h = refl
-rows_at f zero (cons (app g us) ts) h = refl
-rows_at f (suc i) nil h = absurd (omega arith)
-rows_at f (suc i) (cons (var v) ts) h = rows_at f i ts (omega arith)
-rows_at f (suc i) (cons (app g us) ts) h =
-    let k = joined_count us ts in
-    ap (λ l. at l i) (sym (joined_rows f us ts)) ∙ rows_at f i (joined_forest us ts) (omega arith)
+-- of one term and then another: the nodes of the first, and those of the second
+pub pair_first : (s : Term) (ts : Terms) (i : ℕ) → i < node_count s → term_at (cons s ts) i ≡ term_at (cons s nil) i
+pair_first s ts i h =
+    let k = split i (cons s nil) (omega arith) in
+    ap forest_first (k.here ts) ∙ sym (ap forest_first (k.here nil))
+
+pub pair_second : (s : Term) (ts : Terms) (i : ℕ) → term_at (cons s ts) (node_count s + i) ≡ term_at ts i
+pair_second s ts i = ap forest_first (after_add (node_count s) i (cons s ts) ∙ ap (forest_after i) (after_term s ts))
 
 -- the terms at the nodes of well-formed terms are well formed
 pub formed_at : (i : ℕ) (ts : Terms) → i < nodes_count ts → TermsFormed ts → TermFormed (term_at ts i)

@@ -7,11 +7,14 @@ use Rattle.records.specs.Format.Syntax.{Term, Terms, arity}
 use Rattle.records.specs.Format.Syntax.Term.{var, app}
 use Rattle.records.specs.Format.Syntax.Terms.{nil, cons}
 use Rattle.records.specs.Format.Formed.{TermFormed, All}
-use Rattle.terms.specs.Classes.Nodes.{at, Nodes, count, In, kind, node_number, IsSymbol, Path, Children, Nested, Table, terms_at, TableNode, variable, symbol, Graph}
+use Rattle.terms.specs.Classes.Nodes.{Nodes, count, In, blank, kind, node_number, node_next, IsSymbol, Path, Children, Table, terms_at, TableNode, variable, symbol, Graph}
+use Rattle.records.specs.Format.Never.{never}
+use Rattle.terms.specs.declared.nodes.NodeKind.TheVariants.{Symbol}
+use Rattle.terms.specs.Classes.NodesLaws.{not_both}
 use Rattle.terms.specs.Classes.Forest.{joined_forest, node_count, nodes_count, term_kind, term_number, forest_after, forest_first, term_at}
-use Rattle.terms.specs.Classes.ForestLaws.{rows_length, rows_at, after_add, after_term, count_positive, split, formed_at}
+use Rattle.terms.specs.Classes.ForestLaws.{after_add, after_term, count_positive, split, formed_at}
 use Rattle.terms.specs.Classes.LinkLaws.{NodeSplit, node_split}
-use Rattle.terms.specs.Classes.Laid.{pair, TermsLaid, SmallNodes}
+use Rattle.terms.specs.Classes.Laid.{pair, TermsLaid, SmallKind, SmallNodes}
 
 -- the arguments of a term
 abbrev arguments : Term → Terms
@@ -39,18 +42,18 @@ module _ (n : Nodes) (s t : Term) (m : ℕ) (laid : TermsLaid n s t m) where
   inside i l = omega (arith, laid.long)
 
   kind_is : (i : ℕ) → In n i → kind n i ≡ term_kind (term_of i)
-  kind_is i l = ap (λ k. at k i) laid.kinds ∙ rows_at term_kind i (pair s t) (inside i l)
+  kind_is i l = (laid.heads i l).kind_is
 
   number_is : (i : ℕ) → In n i → node_number n i ≡ term_number (term_of i)
-  number_is i l = ap (λ k. at k i) laid.numbers ∙ rows_at term_number i (pair s t) (inside i l)
+  number_is i l = (laid.heads i l).number_is
 
-  next_is : (i : ℕ) → In n i → at n.nexts i ≡ i + node_count (term_of i)
+  next_is : (i : ℕ) → In n i → node_next n i ≡ i + node_count (term_of i)
   next_is i l = laid.linked i (omega arith) (inside i l)
 
   whole : (i : ℕ) → In n i → NodeSplit (pair s t) i (term_of i)
   whole i l = node_split (pair s t) i (inside i l)
 
-  next_within : (i : ℕ) → In n i → at n.nexts i ≤ count n
+  next_within : (i : ℕ) → In n i → node_next n i ≤ count n
   next_within i l = omega (arith, next_is i l, (whole i l).total, laid.long)
 
   -- the nodes of a list of terms
@@ -67,35 +70,35 @@ module _ (n : Nodes) (s t : Term) (m : ℕ) (laid : TermsLaid n s t m) where
     starts_in (cons u us) p l = let z = count_positive u in (omega arith, starts_in us (p + node_count u) (omega arith))
 
     starts_path : (us : Terms) (p : ℕ) → forest_after p (pair s t) ≡ joined_forest us rest → p + nodes_count us ≤ count n
-        → Path n.nexts p (p + nodes_count us) (starts us p)
+        → Path n p (p + nodes_count us) (starts us p)
     starts_path nil p h l = omega arith
     starts_path (cons u us) p h l =
         let z = count_positive u in
-        let e : at n.nexts p ≡ p + node_count u = next_is p (omega arith) ∙ ap (λ x. p + node_count (forest_first x)) h in
+        let e : node_next n p ≡ p + node_count u = next_is p (omega arith) ∙ ap (λ x. p + node_count (forest_first x)) h in
         let k = starts_path us (p + node_count u) (next_list u us p h) (omega arith) in
         let d : p + node_count u + nodes_count us ≡ p + (node_count u + nodes_count us) = omega arith in (
           refl,
           omega arith,
-          subst (λ q. Path n.nexts q (p + (node_count u + nodes_count us)) (starts us (p + node_count u))) (sym e)
-              (subst (λ q. Path n.nexts (p + node_count u) q (starts us (p + node_count u))) d k),
+          subst (λ q. Path n q (p + (node_count u + nodes_count us)) (starts us (p + node_count u))) (sym e)
+              (subst (λ q. Path n (p + node_count u) q (starts us (p + node_count u))) d k),
         )
 
   node_of : (i : ℕ) → In n i → (u : Term) → term_of i ≡ u → NodeSplit (pair s t) i u
-      → TableNode n children_of term_of i × (IsSymbol n i → Children n.nexts i (children_of i))
+      → TableNode n children_of term_of i × (IsSymbol n i → Children n i (children_of i))
   node_of i l (var v) e h = (
     variable (kind_is i l ∙ ap term_kind e) (e ∙ ap var (sym (number_is i l ∙ ap term_number e))),
-    (λ a. absurd (omega (arith, kind_is i l, ap term_kind e))),
+    (λ a. absurd (not_both n i (kind_is i l ∙ ap term_kind e) a)),
   )
   node_of i l (app f us) e h =
       let b : forest_after (i + 1) (pair s t) ≡ joined_forest us h.rest = after_add i 1 (pair s t) ∙ ap (forest_after 1) h.here in
       let r : i + 1 + nodes_count us ≤ count n = omega (arith, h.total, laid.long) in
       let k : children_of i ≡ starts us (i + 1) = ap (λ u. starts (arguments u) (i + 1)) e in
-      let x : at n.nexts i ≡ i + 1 + nodes_count us = next_is i l ∙ ap (λ u. i + node_count u) e ∙ omega arith in (
-        symbol (kind_is i l ∙ ap term_kind e ∙ ap (λ a. 2 + a) (sym (ap length k ∙ starts_length us (i + 1))))
+      let x : node_next n i ≡ i + 1 + nodes_count us = next_is i l ∙ ap (λ u. i + node_count u) e ∙ omega arith in (
+        symbol (kind_is i l ∙ ap term_kind e ∙ ap Symbol (sym (ap length k ∙ starts_length us (i + 1))))
             (e ∙ ap₂ app (sym (number_is i l ∙ ap term_number e)) (sym (ap (terms_at term_of) k ∙ starts_terms h.rest us (i + 1) b)))
             (subst (All (In n)) (sym k) (starts_in h.rest us (i + 1) r)),
-        (λ a. subst (Children n.nexts i) (sym k)
-            (subst (λ q. Path n.nexts (i + 1) q (starts us (i + 1))) (sym x) (starts_path h.rest us (i + 1) b r))),
+        (λ a. subst (Children n i) (sym k)
+            (subst (λ q. Path n (i + 1) q (starts us (i + 1))) (sym x) (starts_path h.rest us (i + 1) b r))),
       )
 
   pub laid_graph : Graph n children_of term_of
@@ -105,7 +108,7 @@ module _ (n : Nodes) (s t : Term) (m : ℕ) (laid : TermsLaid n s t m) where
   }
 
   -- the nodes inside a subtree end within it
-  inner_by : (i p : ℕ) → In n i → i < p → (u : Term) → term_of i ≡ u → NodeSplit (pair s t) i u → p < i + node_count u → at n.nexts p ≤ i + node_count u
+  inner_by : (i p : ℕ) → In n i → i < p → (u : Term) → term_of i ≡ u → NodeSplit (pair s t) i u → p < i + node_count u → node_next n p ≤ i + node_count u
   inner_by i p l a (var v) e h b = absurd (omega arith)
   inner_by i p l a (app f us) e h b =
       let j = p - (i + 1) in
@@ -117,23 +120,16 @@ module _ (n : Nodes) (s t : Term) (m : ℕ) (laid : TermsLaid n s t m) where
       let z : term_of p ≡ k.term = ap forest_first q in
       omega (arith, next_is p (omega (arith, h.total, laid.long)), ap node_count z, k.total)
 
-  laid_nested : Nested n.nexts
-  laid_nested = record {
+  pub laid_table : Table n
+  laid_table = record {
     behind = λ i l. omega (arith, next_is i l, count_positive (term_of i));
     within = next_within;
     inner = λ i p a b. go i p a b (dec_lt i (count n));
   }
     where
-      go : (i p : ℕ) → i < p → p < at n.nexts i → Dec (In n i) → at n.nexts p ≤ at n.nexts i
+      go : (i p : ℕ) → i < p → p < node_next n i → Dec (In n i) → node_next n p ≤ node_next n i
       go i p a b (yes l) = let e = next_is i l in rw e (inner_by i p l a (term_of i) refl (whole i l) (omega arith))
-      go i p a b (no l) = let z : at n.nexts i ≡ 0 = get_or-eq_default n.nexts 0 (omega arith) in absurd (omega arith)
-
-  pub laid_table : Table n
-  laid_table = record {
-    kinds_long = ap length laid.kinds ∙ rows_length term_kind (pair s t) ∙ sym laid.long;
-    numbers_long = ap length laid.numbers ∙ rows_length term_number (pair s t) ∙ sym laid.long;
-    nested = laid_nested;
-  }
+      go i p a b (no l) = let z : node_next n i ≡ 0 = ap (λ x. x.next) (get_or-eq_default n blank (omega arith)) in absurd (omega arith)
 
   pub laid_second : term_of m ≡ t
   laid_second = ap (λ i. term_at (pair s t) i) laid.middle ∙ ap forest_first (after_term s (cons t nil))
@@ -147,11 +143,11 @@ module _ (n : Nodes) (s t : Term) (m : ℕ) (laid : TermsLaid n s t m) where
   pub laid_small : TermFormed s → TermFormed t → SmallNodes n
   laid_small f g = record { kinds = λ i l. (here i l).0; numbers = λ i l. (here i l).1 }
     where
-      by : (u : Term) → TermFormed u → (term_kind u ≤ 18) × (term_number u < 65536)
-      by (var v) h = (omega arith, h)
-      by (app k us) h = (omega (arith, h.1), h.0)
+      by : (u : Term) → TermFormed u → SmallKind (term_kind u) × (term_number u < 65536)
+      by (var v) h = ((λ a e. never cc), h)
+      by (app k us) h = ((λ a e. let z : arity us ≡ a = cc in omega (arith, h.1)), h.0)
 
-      here : (i : ℕ) → In n i → (kind n i ≤ 18) × (node_number n i < 65536)
+      here : (i : ℕ) → In n i → SmallKind (kind n i) × (node_number n i < 65536)
       here i l =
           let h = by (term_of i) (formed_at i (pair s t) (inside i l) (f, (g, tt))) in
-          (omega (arith, kind_is i l), omega (arith, number_is i l))
+          ((λ a e. h.0 a (sym (kind_is i l) ∙ e)), omega (arith, number_is i l))

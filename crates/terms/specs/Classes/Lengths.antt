@@ -1,13 +1,13 @@
 -- The terms of the classes and their lengths in bytes. A class has a term exactly when no class is inside itself; `size` gives the length of a
 -- representative's term, counted up to a cap that no record reaches, and 0 while it is not known.
-use Rattle.std.specs.Prelude.{◌≡◌, ◌⊎◌, List, [], ◌∷◌, Bool, true, false, ℕ, ◌+◌, ◌≤◌, ◌<◌, min, length}
+use Rattle.std.specs.Prelude.{◌≡◌, List, [], ◌∷◌, Bool, true, false, Option, Some, None, ℕ, ◌+◌, ◌≤◌, ◌<◌, min, length}
 use Rattle.records.specs.Format.Syntax.{Term, Terms}
 use Rattle.records.specs.Format.Syntax.Term.{var, app}
 use Rattle.records.specs.Format.Syntax.Terms.{nil, cons}
 use Rattle.records.specs.Format.Formed.{All}
 use Rattle.terms.specs.Theory.Substitution.{term_length}
 use Rattle.terms.specs.Theory.Variables.{Among}
-use Rattle.terms.specs.Classes.Nodes.{at, Nodes, count, In, node_number, IsVariable, IsSymbol, Children, Nested, Graph}
+use Rattle.terms.specs.Classes.Nodes.{at, Nodes, count, In, node_number, IsVariable, IsSymbol, Children, Table, Graph}
 use Rattle.terms.specs.Classes.ClassState.{Apart, Finished}
 
 -- t is the term of the class that r represents
@@ -39,38 +39,38 @@ abbrev pub LengthsKnown : List ℕ → List ℕ → List ℕ → Type 0
 LengthsKnown rep size cs = All (λ c. at size (at rep c) ≡ 0 → ⊥) cs
 
 -- what weighing rests on
-pub record Weighable (kinds nexts rep size : List ℕ) : Type 0 where
-  pub nested : Nested nexts
-  pub kinds_long : length kinds ≡ length nexts
-  pub rep_long : length rep ≡ length nexts
-  pub size_long : length size ≡ length nexts
-  pub inside : (i : ℕ) → i < length nexts → at rep i < length nexts
+pub record Weighable (n : Nodes) (rep size : List ℕ) : Type 0 where
+  pub table : Table n
+  pub rep_long : length rep ≡ count n
+  pub size_long : length size ≡ count n
+  pub inside : (i : ℕ) → i < count n → at rep i < count n
   pub capped : Capped size
 
 -- the symbol at r waits for the length of a child's class
-pub record Waits (kinds nexts rep size : List ℕ) (r : ℕ) : Type 0 where
-  pub symbols : 2 ≤ at kinds r
-  pub child : (cs : List ℕ) → Children nexts r cs → (c : ℕ) × Among c cs × (at size (at rep c) ≡ 0)
+pub record Waits (n : Nodes) (rep size : List ℕ) (r : ℕ) : Type 0 where
+  pub symbols : IsSymbol n r
+  pub child : (cs : List ℕ) → Children n r cs → (c : ℕ) × Among c cs × (at size (at rep c) ≡ 0)
 
 -- w is the length of r's term: three bytes for a variable, for a symbol four and those of its children
-pub record Weighs (kinds nexts rep size : List ℕ) (r w : ℕ) : Type 0 where
+pub record Weighs (n : Nodes) (rep size : List ℕ) (r w : ℕ) : Type 0 where
   pub positive : 0 < w
   pub capped : w ≤ length_cap
-  pub variables : (2 ≤ at kinds r → ⊥) → w ≡ 3
-  pub symbols : 2 ≤ at kinds r → (cs : List ℕ) → Children nexts r cs → LengthsKnown rep size cs × (w ≡ min length_cap (4 + total rep size cs))
+  pub variables : (IsSymbol n r → ⊥) → w ≡ 3
+  pub symbols : IsSymbol n r → (cs : List ℕ) → Children n r cs → LengthsKnown rep size cs × (w ≡ min length_cap (4 + total rep size cs))
 
--- what weighing r gives: its length, or 0 where r waits
-unfoldable pub Weighed : List ℕ → List ℕ → List ℕ → List ℕ → ℕ → ℕ → Type 0
-Weighed kinds nexts rep size r w = ((w ≡ 0) × Waits kinds nexts rep size r) ⊎ Weighs kinds nexts rep size r w
+-- what weighing r gives: its length, or none where r waits
+unfoldable pub Weighed : Nodes → List ℕ → List ℕ → ℕ → Option ℕ → Type 0
+Weighed n rep size r None = Waits n rep size r
+Weighed n rep size r (Some w) = Weighs n rep size r w
 
 -- i represents its class, whose length is not known
 abbrev pub Open : List ℕ → List ℕ → ℕ → Type 0
 Open rep size i = (at rep i ≡ i) × (at size i ≡ 0)
 
--- what there is to store at node i: the length of its class, or 0 for nothing
-unfoldable pub Offered : List ℕ → List ℕ → List ℕ → List ℕ → ℕ → ℕ → Type 0
-Offered kinds nexts rep size i w =
-    ((w ≡ 0) × (Open rep size i → Waits kinds nexts rep size i)) ⊎ (Open rep size i × Weighs kinds nexts rep size i w)
+-- what there is to store at node i: the length of its class, or nothing
+abbrev pub Offered : Nodes → List ℕ → List ℕ → ℕ → Option ℕ → Type 0
+Offered n rep size i None = Open rep size i → Waits n rep size i
+Offered n rep size i (Some w) = Open rep size i × Weighs n rep size i w
 
 -- a known length is that of the class's term
 abbrev pub ClassesMeasured : Nodes → List ℕ → List ℕ → Type 0
@@ -84,7 +84,7 @@ pub record Measuring (n : Nodes) (rep size : List ℕ) (i : ℕ) : Type 0 where
   pub bound : i ≤ count n
   pub capped : Capped size
   pub measured : ClassesMeasured n rep size
-  pub waits : (k : ℕ) → k < i → Open rep size k → Waits n.kinds n.nexts rep size k
+  pub waits : (k : ℕ) → k < i → Open rep size k → Waits n rep size k
 
 -- before measuring nothing is known
 pub record Blank (n : Nodes) (size : List ℕ) : Type 0 where

@@ -1,146 +1,148 @@
--- Loading: the loop over a term's bytes, and the loop that links the nodes.
+-- Loading: the loop over a term's bytes.
 use Rattle.std.specs.Prelude.{◌≡◌, refl, List, [], ◌∷◌, ◌++◌, ℕ, ◌+◌, ◌*◌, ◌≤◌, ◌<◌, length, set, drop}
-use Rattle.std.proofs.Common.{sym, ◌∙◌, ap, append_assoc, append-nil, arith, length-set, length-append, drop_of_length-le}
+use Rattle.std.proofs.Common.{sym, ◌∙◌, ap, append-nil, arith, below_more, length-set, get_or-set_same, get_or-set_other, length-append, drop_of_length-le}
 use Rattle.records.specs.Format.Syntax.{Term, Terms, arity}
 use Rattle.records.specs.Format.Syntax.Term.{var, app}
 use Rattle.records.specs.Format.Syntax.Terms.{nil, cons}
 use Rattle.records.specs.Format.Encode.{word, term_bytes, terms_bytes}
 use Rattle.records.specs.Format.Formed.{TermFormed, TermsFormed}
-use Rattle.records.specs.Writing.Patched.{Put}
-use Rattle.records.specs.Writing.PatchedLaws.{put_none, put_set, put_then}
 use Rattle.records.specs.Format.Heads.{term_head_at}
 use Rattle.records.specs.Ends.Stands.{Stands, head_of_term}
 use Rattle.records.specs.Ends.StandsLaws.{stands_first, stands_second, stands_within, term_stands}
-use Rattle.terms.specs.Classes.Forest.{joined_forest, row, rows, term_kind, term_number}
-use Rattle.terms.specs.Classes.ForestLaws.{joined_forest_bytes, joined_rows, joined_formed, count_bytes, count_positive}
-use Rattle.terms.specs.Classes.Laid.{head_of, IsValue, RowsPut, Loads}
+use Rattle.terms.specs.declared.nodes.Node.{Node}
 use Rattle.terms.specs.declared.load.NodeHead.{NodeHead}
+use Rattle.terms.specs.Classes.Nodes.{Nodes, count, blank, node}
+use Rattle.terms.specs.Classes.Forest.{joined_forest, node_count, nodes_count, term_kind, term_number, forest_after, forest_first, term_at}
+use Rattle.terms.specs.Classes.ForestLaws.{joined_forest_bytes, joined_count, joined_formed, after_add, count_bytes, count_positive}
+use Rattle.terms.specs.Classes.Laid.{head_of, IsValue, NodeOf, NodesPut, Loads}
 
 -- nothing is left behind the last byte
 drop_all : (b : List ℕ) → drop (length b) b ≡ []
 drop_all b = drop_of_length-le b {i = length b} (omega arith)
 
--- the numbers of t's nodes up to those that are left are written
-pub record RowLoading (f : Term → ℕ) (t : Term) (left : Terms) (old : List ℕ) (start : ℕ) (new : List ℕ) (i : ℕ) : Type 0 where
-  pub done : List ℕ
-  pub put : Put old start done new i
-  pub all : done ++ rows f left ≡ row f t
+-- a node that is as it was is still a term's
+pub still_node : (old new : Nodes) (i j : ℕ) (t : Term) → node new i ≡ node old j → NodeOf old j t → NodeOf new i t
+still_node old new i j t e h = record { kind_is = ap (λ x. x.kind) e ∙ h.kind_is; number_is = ap (λ x. x.number) e ∙ h.number_is }
 
-filling_start : (f : Term → ℕ) (t : Term) (old : List ℕ) (start : ℕ) → RowLoading f t (cons t nil) old start old start
-filling_start f t old start = record { done = []; put = put_none; all = append-nil (row f t) }
-
-filling_step : (f : Term → ℕ) (t : Term) (left left' : Terms) (old : List ℕ) (start : ℕ) (new : List ℕ) (i x : ℕ) → rows f left ≡ x ∷ rows f left'
-    → RowLoading f t left old start new i → RowLoading f t left' old start (set new i x) (i + 1)
-filling_step f t left left' old start new i x e h = record {
-  done = h.done ++ (x ∷ []);
-  put = put_then h.put put_set;
-  all = append_assoc h.done (x ∷ []) (rows f left') ∙ ap (λ l. h.done ++ l) (sym e) ∙ h.all;
-}
-
-filling_end : (f : Term → ℕ) (t : Term) (old : List ℕ) (start : ℕ) (new : List ℕ) (i : ℕ) → RowLoading f t nil old start new i → Put old start (row f t) new i
-filling_end f t old start new i h = rw (sym (sym (append-nil h.done) ∙ h.all)) h.put
-
--- t's bytes from p on are those of what is left of it, and the nodes before are written
-pub record Loading (b kinds₀ numbers₀ : List ℕ) (start : ℕ) (kinds numbers : List ℕ) (i p : ℕ) (t : Term) : Type 0 where
+-- the first nodes of t are written, and its bytes from p on are those of what is left of it
+pub record Loading (b : List ℕ) (start : ℕ) (old new : Nodes) (i p : ℕ) (t : Term) : Type 0 where
   pub left : Terms
   pub formed : TermsFormed left
   pub stands : Stands b p (terms_bytes left) (length b)
-  pub kind_row : RowLoading term_kind t left kinds₀ start kinds i
-  pub number_row : RowLoading term_number t left numbers₀ start numbers i
+  pub many : ℕ
+  pub place : i ≡ start + many
+  pub rest : forest_after many (cons t nil) ≡ left
+  pub sum : many + nodes_count left ≡ node_count t
+  pub written : (k : ℕ) → k < many → NodeOf new (start + k) (term_at (cons t nil) k)
+  pub before : (k : ℕ) → k < start → node new k ≡ node old k
 
-module _ (b kinds₀ numbers₀ : List ℕ) (start : ℕ) where
-  pub loading_start : (t : Term) → TermFormed t → b ≡ term_bytes t → Loading b kinds₀ numbers₀ start kinds₀ numbers₀ start 0 t
+-- a node by its head; where its subtree ends is not known yet
+abbrev pub head_node : NodeHead → Node
+head_node h = record { kind = h.kind; number = h.number; next = 0 }
+
+module _ (b : List ℕ) (start : ℕ) (old : Nodes) where
+  pub loading_start : (t : Term) → TermFormed t → b ≡ term_bytes t → Loading b start old old start 0 t
   loading_start t f e = record {
     left = cons t nil;
     formed = (f, tt);
     stands = whole;
-    kind_row = filling_start term_kind t kinds₀ start;
-    number_row = filling_start term_number t numbers₀ start;
+    many = 0;
+    place = omega arith;
+    rest = refl;
+    sum = omega arith;
+    written = λ k h. absurd (omega arith);
+    before = λ k h. refl;
   }
     where
       whole : Stands b 0 (term_bytes t ++ []) (length b)
       whole = rw (append-nil (term_bytes t), ← e) (record { end = omega arith; bytes = sym (append-nil b) ∙ ap (λ l. b ++ l) (sym (drop_all b)) })
 
-  module _ (kinds numbers : List ℕ) (i p : ℕ) (t : Term) where
+  module _ (new : Nodes) (i p : ℕ) (t : Term) where
     -- the head at p lies within the bytes, and what is written of it takes the loop on
     pub record HeadStep (h : NodeHead) : Type 0 where
       pub low : 3 ≤ h.size
       pub high : p + h.size ≤ length b
-      pub next : Loading b kinds₀ numbers₀ start (set kinds i h.kind) (set numbers i h.number) (i + 1) (p + h.size) t
+      pub next : i < count new → Loading b start old (set new i (head_node h)) (i + 1) (p + h.size) t
 
-    pub loading_step : Loading b kinds₀ numbers₀ start kinds numbers i p t → p < length b → (h : NodeHead) → h ≡ head_of (term_head_at b p) → HeadStep h
-    loading_step l lt h is = go l.left l.formed l.stands l.kind_row l.number_row
+    pub loading_step : Loading b start old new i p t → p < length b → (h : NodeHead) → h ≡ head_of (term_head_at b p) → HeadStep h
+    loading_step l lt h is = go l.left l.formed l.stands l.rest l.sum
       where
-        step : (u : Term) (left' : Terms) → term_head_at b p ≡ head_of_term u → TermsFormed left' → (x : List ℕ) → Stands b p (x ++ terms_bytes left') (length b)
+        step : (u : Term) (us left : Terms) → term_head_at b p ≡ head_of_term u → TermsFormed left → (x : List ℕ) → Stands b p (x ++ terms_bytes left) (length b)
             → length x ≡ (head_of (head_of_term u)).size → 3 ≤ length x
-            → RowLoading term_kind t left' kinds₀ start (set kinds i (term_kind u)) (i + 1) → RowLoading term_number t left' numbers₀ start (set numbers i (term_number u)) (i + 1)
-            → (head_of (head_of_term u)).kind ≡ term_kind u → (head_of (head_of_term u)).number ≡ term_number u → HeadStep h
-        step u left' e f x w s o k m a c =
-            let q : h ≡ head_of (head_of_term u) = is ∙ ap head_of e in
-            let first = stands_first x (terms_bytes left') w in
-            rw q (record {
-              low = omega arith;
-              high = rw (sym s) (stands_within first (omega arith)).1;
-              next = record {
-                left = left';
+            → (head_of (head_of_term u)).kind ≡ term_kind u → (head_of (head_of_term u)).number ≡ term_number u
+            → forest_after l.many (cons t nil) ≡ cons u us → forest_after 1 (cons u us) ≡ left → l.many + (1 + nodes_count left) ≡ node_count t → HeadStep h
+        step u us left e f x w s o a c r q d =
+            let z : h ≡ head_of (head_of_term u) = is ∙ ap head_of e in
+            let first = stands_first x (terms_bytes left) w in
+            record {
+              low = let y : h.size ≡ length x = ap (λ g. g.size) z ∙ sym s in omega arith;
+              high = let y : h.size ≡ length x = ap (λ g. g.size) z ∙ sym s in let k = (stands_within first (omega arith)).1 in omega arith;
+              next = λ inside. record {
+                left = left;
                 formed = f;
-                stands = rw (sym s) (stands_second x (terms_bytes left') w);
-                kind_row = rw a k;
-                number_row = rw c m;
+                stands = rw z (rw (sym s) (stands_second x (terms_bytes left) w));
+                many = l.many + 1;
+                place = omega (arith, l.place);
+                rest = after_add l.many 1 (cons t nil) ∙ ap (forest_after 1) r ∙ q;
+                sum = omega arith;
+                written = below_more _ _
+                    (λ k y. still_node new (set new i (head_node h)) (start + k) (start + k) (term_at (cons t nil) k)
+                    (get_or-set_other new i (start + k) (head_node h) blank (λ v. omega (arith, l.place))) (l.written k y))
+                    (here inside (ap (λ g. g.kind) z ∙ a ∙ sym (ap (λ v. term_kind (forest_first v)) r)) (ap (λ g. g.number) z ∙ c ∙ sym (ap (λ v. term_number (forest_first v)) r)));
+                before = λ k y. get_or-set_other new i k (head_node h) blank (λ v. omega (arith, l.place)) ∙ l.before k y;
               };
-            })
+            }
+          where
+            here : i < count new → h.kind ≡ term_kind (term_at (cons t nil) l.many) → h.number ≡ term_number (term_at (cons t nil) l.many)
+                → NodeOf (set new i (head_node h)) (start + l.many) (term_at (cons t nil) l.many)
+            here inside a c =
+                let y : node (set new i (head_node h)) (start + l.many) ≡ head_node h = rw (sym l.place) (get_or-set_same new i (head_node h) blank inside) in
+                record { kind_is = ap (λ g. g.kind) y ∙ a; number_is = ap (λ g. g.number) y ∙ c }
 
-        go : (left : Terms) → TermsFormed left → Stands b p (terms_bytes left) (length b)
-            → RowLoading term_kind t left kinds₀ start kinds i → RowLoading term_number t left numbers₀ start numbers i → HeadStep h
-        go nil f w k m = absurd (omega (arith, w.end))
-        go (cons (var v) ts) f w k m =
-            step (var v) ts (term_stands (var v) f.0 (stands_first (term_bytes (var v)) (terms_bytes ts) w)) f.1 (term_bytes (var v)) w refl (omega arith)
-            (filling_step term_kind t (cons (var v) ts) ts kinds₀ start kinds i 1 refl k)
-            (filling_step term_number t (cons (var v) ts) ts numbers₀ start numbers i v refl m) refl refl
-        go (cons (app g us) ts) f w k m =
-            step (app g us) (joined_forest us ts) (term_stands (app g us) f.0 (stands_first (term_bytes (app g us)) (terms_bytes ts) w))
+        go : (left : Terms) → TermsFormed left → Stands b p (terms_bytes left) (length b) → forest_after l.many (cons t nil) ≡ left
+            → l.many + nodes_count left ≡ node_count t → HeadStep h
+        go nil f w r d = absurd (omega (arith, w.end))
+        go (cons (var v) ts) f w r d =
+            step (var v) ts ts (term_stands (var v) f.0 (stands_first (term_bytes (var v)) (terms_bytes ts) w)) f.1 (term_bytes (var v)) w refl (omega arith)
+            refl refl r refl (omega arith)
+        go (cons (app g us) ts) f w r d =
+            step (app g us) ts (joined_forest us ts) (term_stands (app g us) f.0 (stands_first (term_bytes (app g us)) (terms_bytes ts) w))
             (joined_formed us ts f.0.2 f.1) (0x02 ∷ (word g ++ (arity us ∷ []))) (rw joined_forest_bytes w) refl (omega arith)
-            (filling_step term_kind t (cons (app g us) ts) (joined_forest us ts) kinds₀ start kinds i (2 + arity us) (ap (λ l. (2 + arity us) ∷ l) (sym (joined_rows term_kind us ts))) k)
-            (filling_step term_number t (cons (app g us) ts) (joined_forest us ts) numbers₀ start numbers i g (ap (λ l. g ∷ l) (sym (joined_rows term_number us ts))) m) refl refl
+            refl refl r refl (omega (arith, joined_count us ts))
 
-    pub loading_end : Loading b kinds₀ numbers₀ start kinds numbers i p t → length b ≤ p → RowsPut start kinds₀ numbers₀ kinds numbers i t
-    loading_end l le = go l.left l.stands l.kind_row l.number_row
+    pub loading_end : Loading b start old new i p t → length b ≤ p → NodesPut start old new i t
+    loading_end l le = go l.left l.stands l.sum
       where
-        go : (left : Terms) → Stands b p (terms_bytes left) (length b) → RowLoading term_kind t left kinds₀ start kinds i
-            → RowLoading term_number t left numbers₀ start numbers i → RowsPut start kinds₀ numbers₀ kinds numbers i t
-        go nil w k m = record { kind_row = filling_end term_kind t kinds₀ start kinds i k; number_row = filling_end term_number t numbers₀ start numbers i m }
-        go (cons u ts) w k m =
+        go : (left : Terms) → Stands b p (terms_bytes left) (length b) → l.many + nodes_count left ≡ node_count t → NodesPut start old new i t
+        go nil w d = record { place = omega (arith, l.place); written = λ k h. l.written k (omega arith); before = l.before }
+        go (cons u ts) w d =
             let z = count_bytes u in
             let y = count_positive u in
             absurd (omega (arith, w.end, length-append (term_bytes u) (terms_bytes ts)))
 
 -- the loop, whatever term the bytes are
-pub record LoadLoop (b kinds₀ numbers₀ : List ℕ) (start : ℕ) (kinds numbers : List ℕ) (i p : ℕ) : Type 0 where
-  pub long : length numbers ≡ length kinds
-  pub kept : length kinds ≡ length kinds₀
-  pub kept₂ : length numbers ≡ length numbers₀
-  pub room : 3 * i + length b ≤ 3 * length kinds + p
-  pub each : (t : Term) → TermFormed t → b ≡ term_bytes t → Loading b kinds₀ numbers₀ start kinds numbers i p t
+pub record LoadLoop (b : List ℕ) (start : ℕ) (old new : Nodes) (i p : ℕ) : Type 0 where
+  pub kept : count new ≡ count old
+  pub room : 3 * i + length b ≤ 3 * count new + p
+  pub each : (t : Term) → TermFormed t → b ≡ term_bytes t → Loading b start old new i p t
 
-module _ (b kinds₀ numbers₀ : List ℕ) (start : ℕ) where
-  pub load_start : 3 * start + length b ≤ 3 * length kinds₀ → length numbers₀ ≡ length kinds₀ → LoadLoop b kinds₀ numbers₀ start kinds₀ numbers₀ start 0
-  load_start r l = record { long = l; kept = refl; kept₂ = refl; room = omega arith; each = loading_start b kinds₀ numbers₀ start }
+module _ (b : List ℕ) (start : ℕ) (old : Nodes) where
+  pub load_start : 3 * start + length b ≤ 3 * count old → LoadLoop b start old old start 0
+  load_start r = record { kept = refl; room = omega arith; each = loading_start b start old }
 
-  module _ (v : IsValue b) (kinds numbers : List ℕ) (i p : ℕ) (l : LoadLoop b kinds₀ numbers₀ start kinds numbers i p) (h : NodeHead) (is : h ≡ head_of (term_head_at b p)) (lt : p < length b) where
-    here : HeadStep b kinds₀ numbers₀ start kinds numbers i p v.term h
-    here = loading_step b kinds₀ numbers₀ start kinds numbers i p v.term (l.each v.term v.formed v.same) lt h is
+  module _ (v : IsValue b) (new : Nodes) (i p : ℕ) (l : LoadLoop b start old new i p) (h : NodeHead) (is : h ≡ head_of (term_head_at b p)) (lt : p < length b) where
+    here : HeadStep b start old new i p v.term h
+    here = loading_step b start old new i p v.term (l.each v.term v.formed v.same) lt h is
 
-    pub load_room : (i < length kinds) × (p + h.size ≤ length b) × (0 < h.size)
+    pub load_room : (i < count new) × (p + h.size ≤ length b) × (0 < h.size)
     load_room = (omega (arith, here.low, here.high, l.room), here.high, omega (arith, here.low))
 
-    pub load_step : LoadLoop b kinds₀ numbers₀ start (set kinds i h.kind) (set numbers i h.number) (i + 1) (p + h.size)
+    pub load_step : LoadLoop b start old (set new i (head_node h)) (i + 1) (p + h.size)
     load_step = record {
-      long = length-set numbers i h.number ∙ l.long ∙ sym (length-set kinds i h.kind);
-      kept = length-set kinds i h.kind ∙ l.kept;
-      kept₂ = length-set numbers i h.number ∙ l.kept₂;
-      room = omega (arith, here.low, l.room, length-set kinds i h.kind);
-      each = λ t f e. (loading_step b kinds₀ numbers₀ start kinds numbers i p t (l.each t f e) lt h is).next;
+      kept = length-set new i (head_node h) ∙ l.kept;
+      room = omega (arith, here.low, l.room, length-set new i (head_node h));
+      each = λ t f e. (loading_step b start old new i p t (l.each t f e) lt h is).next load_room.0;
     }
 
-  pub load_end : (kinds numbers : List ℕ) (i p : ℕ) → LoadLoop b kinds₀ numbers₀ start kinds numbers i p → length b ≤ p → Loads b start kinds₀ numbers₀ kinds numbers i
-  load_end kinds numbers i p l le = record { each = λ t f e. loading_end b kinds₀ numbers₀ start kinds numbers i p t (l.each t f e) le }
+  pub load_end : (new : Nodes) (i p : ℕ) → LoadLoop b start old new i p → length b ≤ p → Loads b start old new i
+  load_end new i p l le = record { each = λ t f e. loading_end b start old new i p t (l.each t f e) le }

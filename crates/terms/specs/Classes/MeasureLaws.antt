@@ -1,47 +1,35 @@
 -- Measuring all classes: the loop, its measure, and that a class left without a length shows that there is no unifier.
-use Rattle.std.specs.Prelude.{◌≡◌, refl, List, [], ◌∷◌, true, false, ℕ, zero, suc, ◌+◌, ◌-◌, ◌*◌, ◌≤◌, ◌<◌, length, set}
+use Rattle.std.specs.Prelude.{◌≡◌, List, [], ◌∷◌, true, false, Option, Some, None, ℕ, zero, suc, ◌+◌, ◌-◌, ◌*◌, ◌≤◌, ◌<◌, length, set}
 use Rattle.std.proofs.Common.{sym, ◌∙◌, ap, subst, mul-le-mul_right, arith, below_more, length-set, get_or-set_same, get_or-set_other}
-use Rattle.std.proofs.Math.Logic.{inl, inr}
 use Rattle.std.proofs.Math.Decide.{ℕ_discrete}
 use Rattle.terms.specs.Theory.TestLaws.{all_among}
 use Rattle.terms.specs.Classes.Nodes.{at, Nodes, count, In, Table, variable, symbol}
+use Rattle.terms.specs.Classes.NodesLaws.{not_both}
 use Rattle.terms.specs.Classes.ClassesLaws.{no_cycle}
 use Rattle.terms.specs.Classes.ClassState.{Apart, State, Finished}
 use Rattle.terms.specs.Classes.CloseLaws.{state_respects}
-use Rattle.terms.specs.Classes.Lengths.{Expansion, Waits, Weighs, Weighed, Weighable, Open, Offered, Measuring, Blank, Checked}
+use Rattle.terms.specs.Classes.Lengths.{Expansion, Weighed, Weighable, Open, Offered, Measuring, Blank, Checked}
 use Rattle.terms.specs.Classes.WeighLaws.{weighs_expansion}
 
--- what is offered at node i
-module _ (kinds nexts rep size : List ℕ) (i : ℕ) where
-  pub offered_other : (at rep i ≡ i → ⊥) → Offered kinds nexts rep size i 0
-  unfolding Offered
-  offered_other h = inl (refl, (λ o. absurd (h o.0)))
+-- where a node does not represent its class, or the class has a length, there is nothing to store
+module _ (n : Nodes) (rep size : List ℕ) (i : ℕ) where
+  pub offered_other : (at rep i ≡ i → ⊥) → Offered n rep size i None
+  offered_other h = λ o. absurd (h o.0)
 
-  pub offered_known : (at size i ≡ 0 → ⊥) → Offered kinds nexts rep size i 0
-  unfolding Offered
-  offered_known h = inl (refl, (λ o. absurd (h o.1)))
+  pub offered_known : (at size i ≡ 0 → ⊥) → Offered n rep size i None
+  offered_known h = λ o. absurd (h o.1)
 
-  pub offered_weighed : (w : ℕ) → at rep i ≡ i → at size i ≡ 0 → Weighed kinds nexts rep size i w → Offered kinds nexts rep size i w
-  unfolding Offered Weighed
-  offered_weighed w a b (inl p) = inl (p.0, (λ _. p.1))
-  offered_weighed w a b (inr p) = inr ((a, b), p)
-
-  offered_waits : (w : ℕ) → Offered kinds nexts rep size i w → w ≡ 0 → Open rep size i → Waits kinds nexts rep size i
-  unfolding Offered
-  offered_waits w (inl p) e r = p.1 r
-  offered_waits w (inr p) e r = absurd (let z = p.1.positive in omega arith)
-
-  offered_weighs : (w : ℕ) → Offered kinds nexts rep size i w → (w ≡ 0 → ⊥) → Open rep size i × Weighs kinds nexts rep size i w
-  unfolding Offered
-  offered_weighs w (inl p) h = absurd (h p.0)
-  offered_weighs w (inr p) h = p
+-- what is weighed at an open node is offered
+pub offered_weighed : (n : Nodes) (rep size : List ℕ) (i : ℕ) (w : Option ℕ) → at rep i ≡ i → at size i ≡ 0 → Weighed n rep size i w → Offered n rep size i w
+unfolding Weighed
+offered_weighed n rep size i None a b p = λ _. p
+offered_weighed n rep size i (Some w) a b p = ((a, b), p)
 
 -- the classes of a state may be weighed
 pub state_weighable : (n : Nodes) (s t : ℕ) (rep size : List ℕ) (i : ℕ) → Table n → State n s t rep → Measuring n rep size i
-    → Weighable n.kinds n.nexts rep size
+    → Weighable n rep size
 state_weighable n s t rep size i table st m = record {
-  nested = table.nested;
-  kinds_long = table.kinds_long;
+  table = table;
   rep_long = st.partition.long;
   size_long = m.long;
   inside = st.partition.inside;
@@ -76,30 +64,28 @@ measuring_start n rep size b = record {
   waits = λ k h. absurd (omega arith);
 }
 
-module _ (n : Nodes) (rep size : List ℕ) (i w : ℕ) (m : Measuring n rep size i) where
+module _ (n : Nodes) (rep size : List ℕ) (i : ℕ) (m : Measuring n rep size i) where
   pub measuring_end : count n ≤ i → Measuring n rep size (count n)
   measuring_end l = subst (Measuring n rep size) (omega (arith, m.bound)) m
 
-  module _ (l : In n i) (f : Offered n.kinds n.nexts rep size i w) where
-    pub measuring_next : w ≡ 0 → Measuring n rep size (i + 1)
-    measuring_next e = record {
+  module _ (l : In n i) where
+    pub measuring_next : Offered n rep size i None → Measuring n rep size (i + 1)
+    measuring_next f = record {
       long = m.long;
       bound = omega arith;
       capped = m.capped;
       measured = m.measured;
-      waits = below_more _ _ m.waits (λ r. offered_waits n.kinds n.nexts rep size i w f e r);
+      waits = below_more _ _ m.waits f;
     }
 
-    pub measuring_less : (w ≡ 0 → ⊥) → measuring_left (set size i w) (count n) 0 < measuring_left size (count n) i
-    measuring_less h =
-        let (o, y) = offered_weighs n.kinds n.nexts rep size i w f h in
+    pub measuring_less : (w : ℕ) → Offered n rep size i (Some w) → measuring_left (set size i w) (count n) 0 < measuring_left size (count n) i
+    measuring_less w (o, y) =
         let z = zeros_set size i w (omega (arith, m.long)) o.1 y.positive in
         let k : suc (zeros (set size i w)) * suc (count n) ≤ zeros size * suc (count n) = mul-le-mul_right (suc (count n)) z in
         omega arith
 
-    pub measuring_set : (s t : ℕ) → State n s t rep → (w ≡ 0 → ⊥) → Measuring n rep (set size i w) 0
-    measuring_set s t st h =
-        let (o, y) = offered_weighs n.kinds n.nexts rep size i w f h in
+    pub measuring_set : (s t w : ℕ) → State n s t rep → Offered n rep size i (Some w) → Measuring n rep (set size i w) 0
+    measuring_set s t w st (o, y) =
         let here : at (set size i w) i ≡ w = get_or-set_same size i w 0 (omega (arith, m.long)) in
         record {
           long = length-set size i w ∙ m.long;
@@ -133,17 +119,17 @@ module _ (n : Nodes) (rep size : List ℕ) where
   pub checking_start : Checking n rep size 0
   checking_start = record { bound = omega arith; none = λ k h. absurd (omega arith) }
 
-  module _ (i : ℕ) (c : Checking n rep size i) where
-    pub checking_next : In n i → (at rep i ≡ i → at size i ≡ 0 → ⊥) → Checking n rep size (i + 1)
-    checking_next l h = record { bound = omega arith; none = below_more _ _ c.none h }
+module _ (n : Nodes) (rep size : List ℕ) (i : ℕ) (c : Checking n rep size i) where
+  pub checking_next : In n i → (at rep i ≡ i → at size i ≡ 0 → ⊥) → Checking n rep size (i + 1)
+  checking_next l h = record { bound = omega arith; none = below_more _ _ c.none h }
 
-    pub checking_found : In n i → at rep i ≡ i → at size i ≡ 0 → Checked n rep size false
-    unfolding Checked
-    checking_found l a b = (i, l, (a, b))
+  pub checking_found : In n i → at rep i ≡ i → at size i ≡ 0 → Checked n rep size false
+  unfolding Checked
+  checking_found l a b = (i, l, (a, b))
 
-    pub checking_end : count n ≤ i → Checked n rep size true
-    unfolding Checked
-    checking_end l = record { all = λ k m. c.none k (omega arith) }
+  pub checking_end : count n ≤ i → Checked n rep size true
+  unfolding Checked
+  checking_end l = record { all = λ k m. c.none k (omega arith) }
 
 -- a class that waits for ever: every unifier would make its term longer than itself
 pub waiting_apart : (n : Nodes) (s t : ℕ) (rep size : List ℕ) → Finished n s t rep → Measuring n rep size (count n)
@@ -155,7 +141,7 @@ waiting_apart n s t rep size f m r l o children term g θ u =
     let w = m.waits x p.0 p.1 in
     let c = w.child (children x) (g.path x p.0 w.symbols) in
     let k : In n c.0 = elim (g.node x p.0) [
-      | variable a q ↦ absurd (omega (arith, w.symbols))
+      | variable a q ↦ absurd (not_both n x a w.symbols)
       | symbol a q k ↦ all_among (In n) (children x) k c.0 c.1
     ] in
     (p.0, w.symbols, (c.0, c.1, (f.state.partition.inside c.0 k, (f.state.partition.root c.0 k, c.2)))))

@@ -16,7 +16,8 @@ use Rattle.terms.specs.Theory.Variables.{both_variables}
 use Rattle.terms.specs.Theory.Unify.{bindings, unify}
 use Rattle.terms.specs.Theory.MostGeneral.{MostGeneral}
 use Rattle.terms.specs.Theory.UnifyLaws.{is_unify, most_general_unify}
-use Rattle.terms.specs.Classes.Nodes.{at, Nodes, count, In, node_number, IsVariable, IsSymbol, Children, terms_at, TableNode, variable, symbol, Graph}
+use Rattle.terms.specs.Classes.Nodes.{at, Nodes, count, In, kind, node_number, IsVariable, IsSymbol, Children, terms_at, TableNode, variable, symbol, Graph}
+use Rattle.terms.specs.Classes.NodesLaws.{not_both, variable?}
 use Rattle.terms.specs.Classes.Classes.{Closed, Expands, NodeVariable, Reads}
 use Rattle.terms.specs.Classes.ClassesLaws.{closed_most_general}
 use Rattle.terms.specs.Classes.ClassState.{Apart, State, NodesCompared, Finished, Ended}
@@ -28,8 +29,8 @@ module _ (n : Nodes) (children : ℕ → List ℕ) (rep : ℕ → ℕ) where
   mutual
     pub expansion_unique : (t : Term) (r : ℕ) (u : Term) → Expansion n children rep r t → Expansion n children rep r u → t ≡ u
     expansion_unique (var x) r (var y) p q = ap var (p.1 ∙ sym q.1)
-    expansion_unique (var x) r (app g us) p q = absurd (omega (arith, p.0, q.0))
-    expansion_unique (app f ts) r (var y) p q = absurd (omega (arith, p.0, q.0))
+    expansion_unique (var x) r (app g us) p q = absurd (not_both n r p.0 q.0)
+    expansion_unique (app f ts) r (var y) p q = absurd (not_both n r q.0 p.0)
     expansion_unique (app f ts) r (app g us) p q = ap₂ app (p.1 ∙ sym q.1) (expansions_unique ts (children r) us p.2 q.2)
 
     pub expansions_unique : (ts : Terms) (cs : List ℕ) (us : Terms) → Expansions n children rep cs ts → Expansions n children rep cs us → ts ≡ us
@@ -62,7 +63,7 @@ module _ (n : Nodes) (children : ℕ → List ℕ) (rep : ℕ → ℕ) where
               a,
               refl,
               elim (node (rep i) (inside i l)) [
-                | variable b q ↦ absurd (omega arith)
+                | variable b q ↦ absurd (not_both n (rep i) b a)
                 | symbol b q k ↦ expansions_at (children (rep i)) k
               ],
             )
@@ -73,19 +74,19 @@ Unmet n x m = (i : ℕ) → i < m → IsVariable n i → node_number n i ≡ x �
 
 pub met? : (n : Nodes) (x m : ℕ) → ((i : ℕ) × (i < m) × IsVariable n i × (node_number n i ≡ x)) ⊎ Unmet n x m
 met? n x zero = inr (λ i l. absurd (omega arith))
-met? n x (suc m) = go (met? n x m) (ℕ_discrete (at n.kinds m) 1) (ℕ_discrete (node_number n m) x)
+met? n x (suc m) = go (met? n x m) (variable? n m) (ℕ_discrete (node_number n m) x)
   where
     go : ((i : ℕ) × (i < m) × IsVariable n i × (node_number n i ≡ x)) ⊎ Unmet n x m → Dec (IsVariable n m) → Dec (node_number n m ≡ x)
         → ((i : ℕ) × (i < suc m) × IsVariable n i × (node_number n i ≡ x)) ⊎ Unmet n x (suc m)
     go (inl p) d e = inl (p.0, omega (arith, p.1), p.2, p.3)
     go (inr f) (yes a) (yes b) = inl (m, omega arith, a, b)
-    go (inr f) (no a) e = inr (λ i l p q. elim (ℕ_discrete i m) [ yes k ↦ a (ap (at n.kinds) (sym k) ∙ p) | no k ↦ f i (omega arith) p q ])
+    go (inr f) (no a) e = inr (λ i l p q. elim (ℕ_discrete i m) [ yes k ↦ a (ap (kind n) (sym k) ∙ p) | no k ↦ f i (omega arith) p q ])
     go (inr f) (yes a) (no b) = inr (λ i l p q. elim (ℕ_discrete i m) [ yes k ↦ b (ap (node_number n) (sym k) ∙ q) | no k ↦ f i (omega arith) p q ])
 
 module _ (n : Nodes) (s t : ℕ) (rep : List ℕ) (f : Finished n s t rep) (children : ℕ → List ℕ) (term : ℕ → Term) (g : Graph n children term) where
   settled : (i : ℕ) → In n i → IsSymbol n i
       → (node_number n i ≡ node_number n (at rep i))
-      × ((cs ds : List ℕ) → Children n.nexts i cs → Children n.nexts (at rep i) ds → map (at rep) cs ≡ map (at rep) ds)
+      × ((cs ds : List ℕ) → Children n i cs → Children n (at rep i) ds → map (at rep) cs ≡ map (at rep) ds)
   unfolding NodesCompared
   settled i l a = f.settled i l a
 
@@ -97,7 +98,7 @@ module _ (n : Nodes) (s t : ℕ) (rep : List ℕ) (f : Finished n s t rep) (chil
           let b = (f.state.partition.better i l).symbols a in
           let c = settled i l a in
           (b, sym c.0, sym (c.1 (children i) (children (at rep i)) (g.path i l a) (g.path (at rep i) (f.state.partition.inside i l) b)));
-      variables = λ a b. (f.state.partition.better i l).variables (λ z. omega arith) (λ z. omega arith);
+      variables = λ a b. (f.state.partition.better i l).variables (λ z. not_both n i a z) (λ z. not_both n (at rep i) b z);
     };
     joined = f.state.joined;
     shared = f.state.partition.shared;

@@ -1,7 +1,7 @@
 -- What an accepted record gives the functions of this crate: the bets of an event, the sides of an equality, the frame of an atom, the definitions
 -- of a program. Each is an abbreviation, so that its tree is seen to be the one that was read. And what its bytes tell: the head of its goal, and
 -- where the left side of an equality ends.
-use Rattle.std.specs.Prelude.{◌≡◌, refl, true, List, ◌∷◌, ℕ, ◌+◌, length}
+use Rattle.std.specs.Prelude.{◌≡◌, refl, true, List, ◌∷◌, ℕ, ◌+◌, length, Some}
 use Rattle.std.proofs.Common.{◌∙◌, ap}
 use Rattle.records.specs.Gate.RecordRulesLaws.{and_both}
 use Rattle.records.specs.Format.Syntax.{Term, Terms, Goal, Ancestor, Bet, Port, Event, Definition}
@@ -20,7 +20,6 @@ use Rattle.records.specs.Ends.StandsLaws.{equal_parts, stack_parts, body_stands,
 use Rattle.records.specs.Ends.Stands.{Stands, head_of_goal}
 use Rattle.records.specs.Format.Heads.{goal_head_at}
 use Rattle.records.specs.Ends.Traversal.{end_at}
-use Rattle.records.specs.declared.ends.Found.TheVariants.{At}
 use Rattle.records.specs.declared.places.Places.{Places}
 use Rattle.terms.specs.Standing.BetRow.{RuledBets}
 use Rattle.terms.specs.Values.Applied.{TermAt}
@@ -154,5 +153,5 @@ module _ (s : List ℕ) (known : Known s) where
   goal_told p g u b e = let w = event_parts s known p g u b e in goal_stands g w.formed.0 w.goal_stands
 
   -- where the left side of an equality ends
-  pub left_ends : {p : Port} {u : List Ancestor} {b : List Bet} (l r : Term) → read_event s ≡ tree (event p (equal l r) u b) → end_at s 5 1 0 ≡ At (5 + length (term_bytes l))
+  pub left_ends : {p : Port} {u : List Ancestor} {b : List Bet} (l r : Term) → read_event s ≡ tree (event p (equal l r) u b) → end_at s 5 1 0 ≡ Some (5 + length (term_bytes l))
   left_ends l r e = let w = left_side s known l r e in term_ends l w.formed w.stands

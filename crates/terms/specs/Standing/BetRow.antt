@@ -1,5 +1,5 @@
 -- The bets that stand in a record, and the pairs of each.
-use Rattle.std.specs.Prelude.{◌≡◌, true, List, [], ℕ, ◌+◌, ◌≤◌, length}
+use Rattle.std.specs.Prelude.{◌≡◌, true, List, [], ℕ, ◌+◌, ◌≤◌, length, Option, Some, None}
 use Rattle.records.specs.Format.Syntax.{Term, Binding, Bet}
 use Rattle.records.specs.Format.Syntax.Binding.{bind}
 use Rattle.records.specs.Format.Syntax.Bet.{unifier, or, by}
@@ -8,9 +8,8 @@ use Rattle.records.specs.Format.Formed.{TermFormed}
 use Rattle.records.specs.Gate.RecordRules.{every, bet_rules}
 use Rattle.records.specs.Format.Heads.{word_at}
 use Rattle.records.specs.Ends.Stands.{Stands}
-use Rattle.records.specs.declared.heads.Word.TheVariants.{Number}
 use Rattle.records.specs.declared.heads.BetHead.{BetHead}
-use Rattle.records.specs.declared.heads.BetHead.TheVariants.{Unifier, Or, By, NoBet}
+use Rattle.records.specs.declared.heads.BetHead.TheVariants.{Unifier, Or, By}
 use Rattle.terms.specs.Standing.Frames.{PairAt, PairsAt, BetAt, BetsAt}
 
 -- n bets stand at a position, top first, and keep the rules
@@ -25,18 +24,18 @@ bet_pairs (or h) = []
 bet_pairs (by g) = []
 
 -- how many pairs a bet's head announces
-abbrev pub head_pairs : BetHead → ℕ
-head_pairs (Unifier n) = n
-head_pairs (Or k) = 0
-head_pairs By = 0
-head_pairs NoBet = 0
+abbrev pub head_pairs : Option BetHead → ℕ
+head_pairs (Some (Unifier n)) = n
+head_pairs (Some (Or k)) = 0
+head_pairs (Some By) = 0
+head_pairs None = 0
 
 -- the variable and the term of a pair that stands somewhere
 pub record PairParts {s : List ℕ} {at : ℕ} (p : PairAt s at) : Type 0 where
   pub variable : ℕ
   pub term : Term
   pub is : p.item ≡ bind variable term
-  pub number : word_at s at ≡ Number variable
+  pub number : word_at s at ≡ Some variable
   pub formed : TermFormed term
   pub stands : Stands s (at + 2) (term_bytes term) p.end
 

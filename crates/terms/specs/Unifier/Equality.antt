@@ -1,5 +1,5 @@
 -- The answer for an equality under a bet stack, and the bytes of its unifier.
-use Rattle.std.specs.Prelude.{◌≡◌, List, [], cond, ◌&&◌, ℕ, ◌≤◌, leb, length}
+use Rattle.std.specs.Prelude.{◌≡◌, List, [], cond, ◌&&◌, ℕ, ◌≤◌, leb, length, Some, None, Ok, Err, Option, Result}
 use Rattle.records.specs.Format.Syntax.{Term, Binding}
 use Rattle.records.specs.Format.Encode.{term_bytes, binding_bytes, counted}
 use Rattle.records.specs.Format.Formed.{TermFormed}
@@ -11,29 +11,38 @@ use Rattle.terms.specs.Theory.Outcome.{value_limit, Unified, too_large, clash, u
 use Rattle.terms.specs.Standing.BetRow.{RuledBets}
 use Rattle.terms.specs.Values.Applied.{TermAt}
 use Rattle.terms.specs.Classes.Laid.{IsValue}
-use Rattle.terms.specs.declared.equality.UnifierAnswer.{UnifierAnswer}
-use Rattle.terms.specs.declared.equality.UnifierAnswer.TheVariants.{TooLarge, Clash, Unifier, TooLong}
+use Rattle.terms.specs.declared.equality.UnifierRefusal.{UnifierRefusal}
+use Rattle.records.specs.declared.questions.Refusal.{Refusal}
+use Rattle.records.specs.declared.questions.Refusal.TheVariants.{Values, Fits}
+use Rattle.terms.specs.declared.equality.UnifierRefusal.TheVariants.{TooLarge, TooLong}
 
 -- the count and pairs of a unifier as bytes
 abbrev pub unifier_bytes : List Binding → List ℕ
 unifier_bytes σ = counted binding_bytes σ
 
+-- how many bytes the unifier has, none where there is none, or the question that refuses
+abbrev pub UnifierAnswer : Type 0
+UnifierAnswer = Result (Option ℕ) UnifierRefusal
+
 -- the answer for a unifier of so many bytes, where the output has so many
 abbrev pub length_answer : (room size : ℕ) → UnifierAnswer
-length_answer room size = cond (leb size 32768) (cond (leb size room) (Unifier size) TooLong) TooLong
+length_answer room size = cond (leb size 32768) (cond (leb size room) (Ok (Some size)) (Err TooLong)) (Err TooLong)
 
 -- the answer for an outcome
 abbrev pub unifier_answer : ℕ → Unified → UnifierAnswer
-unifier_answer room too_large = TooLarge
-unifier_answer room clash = Clash
+unifier_answer room too_large = Err TooLarge
+unifier_answer room clash = Ok None
 unifier_answer room (unified σ) = length_answer room (length (unifier_bytes σ))
 
--- the number (SPECIFICATION 7.6) for an answer: question 8 or 10 says no, else 0
-abbrev pub unifier_refusal : UnifierAnswer → ℕ
+-- the number (SPECIFICATION 7.6) of the question that says no: 8 or 10
+abbrev pub unifier_refusal : UnifierRefusal → ℕ
 unifier_refusal TooLarge = 8
-unifier_refusal Clash = 0
-unifier_refusal (Unifier n) = 0
 unifier_refusal TooLong = 10
+
+-- the question by the name that all services have for it
+abbrev pub as_refusal : UnifierRefusal → Refusal
+as_refusal TooLarge = Values
+as_refusal TooLong = Fits
 
 -- what is written for an outcome into an output of so many bytes: questions 8 and 10, and then the unifier's bytes; of no unifier there are none
 unfoldable pub unifier_given : (room : ℕ) → Unified → Answer (List ℕ)

@@ -12,12 +12,13 @@ use Rattle.records.specs.Writing.PatchedLaws.{put_none, put_then}
 use Rattle.terms.specs.Theory.Substitution.{Substitution, term_length}
 use Rattle.terms.specs.Theory.Unify.{put_binding, bindings}
 use Rattle.terms.specs.Theory.BindingsLaws.{Putting, itself, put, putting, bindings_none, bindings_append}
-use Rattle.terms.specs.Classes.Nodes.{at, Nodes, count, In, kind, node_number, IsVariable}
+use Rattle.terms.specs.Classes.Nodes.{at, Nodes, count, In, node_number, IsVariable}
+use Rattle.terms.specs.Classes.NodesLaws.{not_both, variable?}
 use Rattle.terms.specs.Classes.Lengths.{Expansion, length_cap}
 use Rattle.terms.specs.Classes.SolveLaws.{Unmet, met?}
 use Rattle.terms.specs.Unifier.ClassTerms.{ClassTable}
 use Rattle.terms.specs.Unifier.ClassTermsLaws.{size_is}
-use Rattle.terms.specs.Unifier.UnifierAnswer.{Bound, Least, ClassesGive, PairsLength, PairFits, PairPut, PairsFit, PairsPut}
+use Rattle.terms.specs.Unifier.UnifierAnswer.{Bound, NoneBound, LeastBound, ClassesGive, PairsLength, PairFits, PairPut, PairsFit, PairsPut}
 
 -- one binding more
 pub snoc_bytes : (σ : List Binding) (b : Binding) → each binding_bytes (σ ++ (b ∷ [])) ≡ each binding_bytes σ ++ binding_bytes b
@@ -64,14 +65,14 @@ module _ (n : Nodes) (rep : List ℕ) (σ : List Binding) (g : ClassesGive n rep
       b.1 x.0 (sym x.1)
 
   class_stays : (i : ℕ) → In n i → IsVariable n i → (Bound n rep i → ⊥) → g.θ (node_number n i) ≡ var (node_number n i)
-  class_stays i l v h = go (ℕ_discrete (kind n (at rep i)) 1) (ℕ_discrete (node_number n (at rep i)) (node_number n i)) (g.θ (node_number n i)) refl (g.met i l v)
+  class_stays i l v h = go (variable? n (at rep i)) (ℕ_discrete (node_number n (at rep i)) (node_number n i)) (g.θ (node_number n i)) refl (g.met i l v)
     where
       go : Dec (IsVariable n (at rep i)) → Dec (node_number n (at rep i) ≡ node_number n i) → (t : Term) → g.θ (node_number n i) ≡ t
           → Expansion n g.children (at rep) (at rep i) t → g.θ (node_number n i) ≡ var (node_number n i)
       go (no a) d t e x = absurd (h (v, (λ w. absurd (a w))))
       go (yes a) (no b) t e x = absurd (h (v, (λ _ q. b q)))
       go (yes a) (yes b) (var y) e x = e ∙ ap var (x.1 ∙ b)
-      go (yes a) (yes b) (app f ts) e x = absurd (omega (arith, x.0))
+      go (yes a) (yes b) (app f ts) e x = absurd (not_both n (at rep i) a x.0)
 
   free_stays : (x : ℕ) → ((i : ℕ) → In n i → node_number n i ≡ x → Bound n rep i → ⊥) → g.θ x ≡ var x
   free_stays x h = go (met? n x (count n))
@@ -80,27 +81,27 @@ module _ (n : Nodes) (rep : List ℕ) (σ : List Binding) (g : ClassesGive n rep
       go (inr u) = g.unmet x u
       go (inl p) = subst (λ y. g.θ y ≡ var y) p.3 (class_stays p.0 p.1 p.2 (h p.0 p.1 p.3))
 
-  module _ (lo i : ℕ) (l : Least n rep lo (count n) i) where
-    pub least_next : In n i → bindings 0 (node_number n i + 1) g.θ ≡ bindings 0 lo g.θ ++ (bind (node_number n i) (g.θ (node_number n i)) ∷ [])
-    least_next k =
-        let b = l.found k in
-        bindings_next g.θ lo (node_number n i) b.1
-        (λ x a c. free_stays x (λ j w e d. let z = (l.least j w w d (omega (arith, e))).1 in omega (arith, e)))
-        (bound_changes i k b.0)
+  -- where no bound variable is left, these are all bindings
+  pub least_end : (lo : ℕ) → NoneBound n rep lo (count n) → σ ≡ bindings 0 lo g.θ
+  least_end lo l = g.same ∙ go (dec_lt lo g.top)
+    where
+      stays : (x : ℕ) → lo ≤ x → g.θ x ≡ var x
+      stays x a = free_stays x (λ j w e d. l.none j w w d (omega (arith, e)))
 
-    pub least_end : (In n i → ⊥) → σ ≡ bindings 0 lo g.θ
-    least_end k = g.same ∙ go (dec_lt lo g.top)
-      where
-        stays : (x : ℕ) → lo ≤ x → g.θ x ≡ var x
-        stays x a = free_stays x (λ j w e d. k (l.least j w w d (omega (arith, e))).0)
+      go : Dec (lo < g.top) → bindings 0 g.top g.θ ≡ bindings 0 lo g.θ
+      go (yes a) = bindings_settled g.θ lo g.top (omega arith) (λ x b c. stays x b)
+      go (no a) = sym (bindings_settled g.θ g.top lo (omega arith) (λ x b c. g.high x b))
 
-        go : Dec (lo < g.top) → bindings 0 g.top g.θ ≡ bindings 0 lo g.θ
-        go (yes a) = bindings_settled g.θ lo g.top (omega arith) (λ x b c. stays x b)
-        go (no a) = sym (bindings_settled g.θ g.top lo (omega arith) (λ x b c. g.high x b))
+  module _ (lo i : ℕ) (l : LeastBound n rep lo (count n) i) where
+    pub least_next : bindings 0 (node_number n i + 1) g.θ ≡ bindings 0 lo g.θ ++ (bind (node_number n i) (g.θ (node_number n i)) ∷ [])
+    least_next =
+        bindings_next g.θ lo (node_number n i) l.high
+        (λ x a c. free_stays x (λ j w e d. let z = l.least j w w d (omega (arith, e)) in omega (arith, e)))
+        (bound_changes i l.inside l.bound)
 
     -- the bindings up to that variable are the first of all
-    pub least_first : In n i → length (each binding_bytes (bindings 0 lo g.θ)) + (2 + term_length (g.θ (node_number n i))) ≤ length (each binding_bytes σ)
-    least_first k =
+    pub least_first : length (each binding_bytes (bindings 0 lo g.θ)) + (2 + term_length (g.θ (node_number n i))) ≤ length (each binding_bytes σ)
+    least_first =
         let v = node_number n i in
         let below : v < g.top = go (dec_lt v g.top) in
         let e : g.top ≡ v + 1 + (g.top - (v + 1)) = omega arith in
@@ -110,12 +111,12 @@ module _ (n : Nodes) (rep : List ℕ) (σ : List Binding) (g : ClassesGive n rep
         ap (λ x. length (each binding_bytes x)) s ∙ ap length (each_append binding_bytes (bindings 0 (v + 1) g.θ) rest)
         ∙ length-append (each binding_bytes (bindings 0 (v + 1) g.θ)) (each binding_bytes rest) in
         let b : length (each binding_bytes (bindings 0 (v + 1) g.θ)) ≡ length (each binding_bytes (bindings 0 lo g.θ)) + (2 + term_length (g.θ v)) =
-        ap (λ x. length (each binding_bytes x)) (least_next k) ∙ snoc_length (bindings 0 lo g.θ) v (g.θ v) in
+        ap (λ x. length (each binding_bytes x)) least_next ∙ snoc_length (bindings 0 lo g.θ) v (g.θ v) in
         omega arith
       where
         go : Dec (node_number n i < g.top) → node_number n i < g.top
         go (yes a) = a
-        go (no a) = absurd (bound_changes i k (l.found k).0 (g.high (node_number n i) (omega arith)))
+        go (no a) = absurd (bound_changes i l.inside l.bound (g.high (node_number n i) (omega arith)))
 
 -- the length of the pairs so far
 pub record Sizing (n : Nodes) (rep : List ℕ) (w lo : ℕ) : Type 0 where
@@ -131,23 +132,23 @@ module _ (n : Nodes) (rep size : List ℕ) (classes : ClassTable n rep size) whe
   class_length σ g i k v =
       size_is n rep size classes g.children g.term g.graph (at rep i) (classes.inside i k) (classes.known i k) (g.θ (node_number n i)) (g.met i k v)
 
-  module _ (w lo : ℕ) (h : Sizing n rep w lo) (i : ℕ) (l : Least n rep lo (count n) i) where
-    pub sizing_step : In n i → (w₁ w₂ : ℕ) → w₁ ≡ min length_cap (w + 2) → w₂ ≡ min length_cap (w₁ + at size (at rep i)) → Sizing n rep w₂ (node_number n i + 1)
-    sizing_step k w₁ w₂ e₁ e₂ = record {
-      low = let z = classes.small.numbers i k in omega arith;
+  module _ (w lo : ℕ) (h : Sizing n rep w lo) where
+    pub sizing_step : (i : ℕ) → LeastBound n rep lo (count n) i → (w₁ w₂ : ℕ) → w₁ ≡ min length_cap (w + 2) → w₂ ≡ min length_cap (w₁ + at size (at rep i)) → Sizing n rep w₂ (node_number n i + 1)
+    sizing_step i l w₁ w₂ e₁ e₂ = record {
+      low = let z = classes.small.numbers i l.inside in omega arith;
       capped = omega arith;
       bytes = λ σ g.
           let a = h.bytes σ g in
-          let b = class_length σ g i k (l.found k).0.0 in
+          let b = class_length σ g i l.inside l.bound.0 in
           let c : length (each binding_bytes (bindings 0 (node_number n i + 1) g.θ)) ≡ length (each binding_bytes (bindings 0 lo g.θ)) + (2 + term_length (g.θ (node_number n i))) =
-          ap (λ x. length (each binding_bytes x)) (least_next n rep σ g lo i l k) ∙ snoc_length (bindings 0 lo g.θ) (node_number n i) (g.θ (node_number n i)) in
+          ap (λ x. length (each binding_bytes x)) (least_next n rep σ g lo i l) ∙ snoc_length (bindings 0 lo g.θ) (node_number n i) (g.θ (node_number n i)) in
           omega arith;
     }
 
-    pub sizing_end : (In n i → ⊥) → PairsLength n rep w
-    sizing_end k = record {
+    pub sizing_end : NoneBound n rep lo (count n) → PairsLength n rep w
+    sizing_end l = record {
       each = λ σ g.
-          let e = least_end n rep σ g lo i l k in
+          let e = least_end n rep σ g lo l in
           h.bytes σ g ∙ ap (λ x. min length_cap (2 + length (each binding_bytes x))) (sym e) ∙ omega (arith, length-append (word (length σ)) (each binding_bytes σ));
     }
 
@@ -162,31 +163,31 @@ pub pairs_writing_start : (n : Nodes) (rep old : List ℕ) (start : ℕ) → Pai
 pairs_writing_start n rep old start = record { low = omega arith; long = refl; bytes = λ σ g. put_none; counted = λ σ g. refl }
 
 module _ (n : Nodes) (rep size : List ℕ) (classes : ClassTable n rep size) (old : List ℕ) (start : ℕ) (fit : PairsFit n rep old start)
-    (new : List ℕ) (end many lo : ℕ) (h : PairsWriting n rep old start new end many lo) (i : ℕ) (l : Least n rep lo (count n) i) where
+    (new : List ℕ) (end many lo : ℕ) (h : PairsWriting n rep old start new end many lo) where
   pub writing_few : many ≤ 65536
   writing_few = omega (arith, h.counted fit.σ fit.gives, bindings_length fit.gives.θ 0 lo, h.low)
 
-  pub writing_fits : In n i → PairFits n rep size new end i
-  writing_fits k =
-      let a = least_first n rep fit.σ fit.gives lo i l k in
-      let b = class_length n rep size classes fit.σ fit.gives i k (l.found k).0.0 in
+  pub writing_fits : (i : ℕ) → LeastBound n rep lo (count n) i → PairFits n rep size new end i
+  writing_fits i l =
+      let a = least_first n rep fit.σ fit.gives lo i l in
+      let b = class_length n rep size classes fit.σ fit.gives i l.inside l.bound.0 in
       let c = (h.bytes fit.σ fit.gives).place in
-      record { inside = k; small = omega (arith, fit.small); room = omega (arith, fit.room, h.long) }
+      record { inside = l.inside; small = omega (arith, fit.small); room = omega (arith, fit.room, h.long) }
 
-  pub writing_step : In n i → (new' : List ℕ) (end' : ℕ) → PairPut n rep new end i new' end' → length new' ≡ length new
+  pub writing_step : (i : ℕ) → LeastBound n rep lo (count n) i → (new' : List ℕ) (end' : ℕ) → PairPut n rep new end i new' end' → length new' ≡ length new
       → PairsWriting n rep old start new' end' (many + 1) (node_number n i + 1)
-  writing_step k new' end' p e = record {
-    low = let z = classes.small.numbers i k in omega arith;
+  writing_step i l new' end' p e = record {
+    low = let z = classes.small.numbers i l.inside in omega arith;
     long = e ∙ h.long;
     bytes = λ σ g.
-        rw (least_next n rep σ g lo i l k, snoc_bytes)
-        (put_then (h.bytes σ g) (p.each g.children g.term g.graph (g.θ (node_number n i)) (g.met i k (l.found k).0.0)));
+        rw (least_next n rep σ g lo i l, snoc_bytes)
+        (put_then (h.bytes σ g) (p.each g.children g.term g.graph (g.θ (node_number n i)) (g.met i l.inside l.bound.0)));
     counted = λ σ g.
-        ap (λ x. x + 1) (h.counted σ g) ∙ sym (ap length (least_next n rep σ g lo i l k) ∙ length-append (bindings 0 lo g.θ) (bind (node_number n i) (g.θ (node_number n i)) ∷ []));
+        ap (λ x. x + 1) (h.counted σ g) ∙ sym (ap length (least_next n rep σ g lo i l) ∙ length-append (bindings 0 lo g.θ) (bind (node_number n i) (g.θ (node_number n i)) ∷ []));
   }
 
-  pub writing_end : (In n i → ⊥) → PairsPut n rep old start new (record { end = end; count = many })
-  writing_end k = record {
-    bytes = λ σ g. subst (λ x. Put old start (each binding_bytes x) new end) (sym (least_end n rep σ g lo i l k)) (h.bytes σ g);
-    many = λ σ g. h.counted σ g ∙ ap length (sym (least_end n rep σ g lo i l k));
+  pub writing_end : NoneBound n rep lo (count n) → PairsPut n rep old start new (record { end = end; count = many })
+  writing_end l = record {
+    bytes = λ σ g. subst (λ x. Put old start (each binding_bytes x) new end) (sym (least_end n rep σ g lo l)) (h.bytes σ g);
+    many = λ σ g. h.counted σ g ∙ ap length (sym (least_end n rep σ g lo l));
   }

@@ -1,7 +1,7 @@
 -- The least bound variable, and one pair of the unifier.
-use Rattle.std.specs.Prelude.{◌≡◌, Bool, not, List, ◌++◌, ℕ, ◌+◌, ◌-◌, ◌≤◌, ◌<◌, length, take, drop, set}
+use Rattle.std.specs.Prelude.{◌≡◌, Bool, not, Option, Some, None, List, ◌++◌, ℕ, ◌+◌, ◌-◌, ◌≤◌, ◌<◌, length, take, drop}
 use Rattle.std.proofs.Math.Path.{refl, subst}
-use Rattle.std.proofs.Common.{sym, ◌∙◌, ap, arith, length-set, get_or-set_same, get_or-set_other}
+use Rattle.std.proofs.Common.{sym, ap, arith}
 use Rattle.std.proofs.Math.Bool.{true, false}
 use Rattle.std.proofs.Math.Decide.{ℕ_discrete}
 use Rattle.std.proofs.Math.Dec.{eqb}
@@ -9,7 +9,8 @@ use borrow.Author.Tests.{eqb-true, eqb-false}
 use Rattle.records.specs.Format.Encode.{word}
 use Rattle.records.specs.Writing.Patched.{Put}
 use Rattle.records.specs.Writing.PatchedLaws.{put_then, put_tail, put_length}
-use Rattle.terms.specs.Classes.Nodes.{at, Nodes, count, In, node_number, IsVariable}
+use Rattle.terms.specs.Classes.Nodes.{at, Nodes, In, node_number, IsVariable, IsSymbol}
+use Rattle.terms.specs.Classes.NodesLaws.{not_both}
 use Rattle.terms.specs.Unifier.ClassTerms.{ClassTable, ClassFits, Wrote}
 use Rattle.terms.specs.Values.FittedLaws.{tail_length}
 use Rattle.terms.specs.Unifier.UnifierAnswer.{Classed, Bound, Tested, Least, Chosen, PairFits, PairPut}
@@ -19,13 +20,13 @@ table_classed s = record { table = s.table; long = s.rep_long; inside = s.inside
 
 -- the test
 module _ (n : Nodes) (rep : List ℕ) (i : ℕ) where
-  pub tested_symbol : (IsVariable n i → ⊥) → Tested n rep i false
+  pub tested_symbol : IsSymbol n i → Tested n rep i false
   unfolding Tested
-  tested_symbol h b = h b.0
+  tested_symbol h b = not_both n i b.0 h
 
-  pub tested_term : IsVariable n i → (IsVariable n (at rep i) → ⊥) → Tested n rep i true
+  pub tested_term : IsVariable n i → IsSymbol n (at rep i) → Tested n rep i true
   unfolding Tested
-  tested_term v h = (v, (λ w. absurd (h w)))
+  tested_term v h = (v, (λ w. absurd (not_both n (at rep i) w h)))
 
   pub tested_variable : IsVariable n i → IsVariable n (at rep i) → Tested n rep i (not (eqb (node_number n (at rep i)) (node_number n i)))
   unfolding Tested
@@ -44,42 +45,64 @@ module _ (n : Nodes) (rep : List ℕ) (i : ℕ) where
   tested_free h e = subst (Tested n rep i) e h
 
 -- one more node
-module _ (n : Nodes) (rep : List ℕ) (lo best i : ℕ) where
-  pub chosen_skip : (Bound n rep i → lo ≤ node_number n i → ⊥) → Chosen n rep lo best i best
-  chosen_skip h = record {
-    each = λ l. record {
-      found = l.found;
-      least = λ j a k b c. elim (ℕ_discrete j i) [
+module _ (n : Nodes) (rep : List ℕ) (lo i : ℕ) where
+  -- the best so far stays
+  pub chosen_skip : (best : Option ℕ) → (Bound n rep i → lo ≤ node_number n i → ⊥) → Chosen n rep lo best i best
+  chosen_skip best h = record { each = go best }
+    where
+      other : (j : ℕ) → j < i + 1 → Bound n rep j → lo ≤ node_number n j → j < i
+      other j a b c = elim (ℕ_discrete j i) [
         | yes e ↦ absurd (h (subst (Bound n rep) e b) (subst (λ x. lo ≤ node_number n x) e c))
-        | no e ↦ l.least j (omega arith) k b c
-      ];
-    };
-  }
+        | no e ↦ omega arith
+      ]
 
-  pub chosen_old : In n best → node_number n best ≤ node_number n i → Chosen n rep lo best i best
+      go : (best : Option ℕ) → Least n rep lo i best → Least n rep lo (i + 1) best
+      go None l = record { none = λ j a k b c. l.none j (other j a b c) k b c }
+      go (Some k) l = record { inside = l.inside; bound = l.bound; high = l.high; least = λ j a x b c. l.least j (other j a b c) x b c }
+
+  pub chosen_old : (k : ℕ) → node_number n k ≤ node_number n i → Chosen n rep lo (Some k) i (Some k)
   chosen_old k h = record {
     each = λ l. record {
-      found = l.found;
+      inside = l.inside;
+      bound = l.bound;
+      high = l.high;
       least = λ j a x b c. elim (ℕ_discrete j i) [
-        | yes e ↦ (k, subst (λ y. node_number n best ≤ node_number n y) (sym e) h)
+        | yes e ↦ subst (λ y. node_number n k ≤ node_number n y) (sym e) h
         | no e ↦ l.least j (omega arith) x b c
       ];
     };
   }
 
-  pub chosen_new : In n i → Bound n rep i → lo ≤ node_number n i → (In n best → node_number n i ≤ node_number n best) → Chosen n rep lo best i i
-  chosen_new k b h f = record {
-    each = λ l. record {
-      found = λ _. (b, h);
-      least = λ j a x d c. elim (ℕ_discrete j i) [
-        | yes e ↦ (k, omega (arith, ap (node_number n) e))
-        | no e ↦ (let z = l.least j (omega arith) x d c in let y = f z.0 in (k, omega (arith, z.1)))
-      ];
-    };
-  }
+  -- i is better than the best so far, or there is none
+  module _ (inside : In n i) (b : Bound n rep i) (h : lo ≤ node_number n i) where
+    pub chosen_first : Chosen n rep lo None i (Some i)
+    chosen_first = record {
+      each = λ l. record {
+        inside = inside;
+        bound = b;
+        high = h;
+        least = λ j a x d c. elim (ℕ_discrete j i) [
+          | yes e ↦ omega (arith, ap (node_number n) e)
+          | no e ↦ absurd (l.none j (omega arith) x d c)
+        ];
+      };
+    }
 
-pub least_start : (n : Nodes) (rep : List ℕ) (lo : ℕ) → Least n rep lo 0 (count n)
-least_start n rep lo = record { found = λ h. absurd (omega arith); least = λ j h. absurd (omega arith) }
+    pub chosen_new : (k : ℕ) → node_number n i ≤ node_number n k → Chosen n rep lo (Some k) i (Some i)
+    chosen_new k f = record {
+      each = λ l. record {
+        inside = inside;
+        bound = b;
+        high = h;
+        least = λ j a x d c. elim (ℕ_discrete j i) [
+          | yes e ↦ omega (arith, ap (node_number n) e)
+          | no e ↦ (let z = l.least j (omega arith) x d c in omega arith)
+        ];
+      };
+    }
+
+pub least_start : (n : Nodes) (rep : List ℕ) (lo : ℕ) → Least n rep lo 0 None
+least_start n rep lo = record { none = λ j h. absurd (omega arith) }
 
 -- one pair
 module _ (n : Nodes) (rep size : List ℕ) (classes : ClassTable n rep size) (out : List ℕ) (k i : ℕ) (fits : PairFits n rep size out k i)
@@ -98,17 +121,3 @@ module _ (n : Nodes) (rep size : List ℕ) (classes : ClassTable n rep size) (ou
   pub pair_put : (part : List ℕ) → Wrote n rep size (at rep i) (take (length mid - e) (drop e mid)) part
       → PairPut n rep out k i (take e mid ++ (part ++ drop (length mid - e) (drop e mid))) (e + at size (at rep i))
   pair_put part w = record { each = λ children term g t x. put_then p (put_tail (w.each children term g t x)) }
-
--- clearing
-pub record Clearing (old size : List ℕ) (i : ℕ) : Type 0 where
-  pub long : length size ≡ length old
-  pub zero : (j : ℕ) → j < i → at size j ≡ 0
-
-pub clearing_step : (old size : List ℕ) (i : ℕ) → Clearing old size i → i < length size → Clearing old (set size i 0) (i + 1)
-clearing_step old size i h l = record {
-  long = length-set size i 0 ∙ h.long;
-  zero = λ j a. elim (ℕ_discrete j i) [
-    | yes e ↦ rw e (get_or-set_same size i 0 0 l)
-    | no e ↦ get_or-set_other size i j 0 0 e ∙ h.zero j (omega arith)
-  ];
-}

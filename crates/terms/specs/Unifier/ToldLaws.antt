@@ -1,5 +1,5 @@
 -- The answers for an equality and for an atom tell the outcome, and what was done to the buffer.
-use Rattle.std.specs.Prelude.{◌≡◌, refl, Bool, true, false, cond, List, ℕ, leb, length}
+use Rattle.std.specs.Prelude.{◌≡◌, refl, Bool, true, false, cond, List, ℕ, leb, length, Err, Ok, Some}
 use Rattle.std.proofs.Common.{sym, ap, ◌∙◌, subst, inl, inr, leb-true, leb-false}
 use Rattle.records.specs.Format.Syntax.{Goal, Binding}
 use Rattle.records.specs.Format.Encode.{goal_bytes}
@@ -7,20 +7,19 @@ use Rattle.records.specs.Gate.Reply.{on_yes, reply_with}
 use Rattle.records.specs.Gate.ReplyLaws.{reply_put}
 use Rattle.terms.specs.Theory.Outcome.{Unified, too_large, clash, unified}
 use Rattle.terms.specs.Body.Body.{Body, too_many, undefined, defined}
-use Rattle.terms.specs.Body.BodyBytes.{body_answer, body_given, BodyAnswered}
+use Rattle.terms.specs.Body.BodyBytes.{BodyAnswer, of_length, body_answer, body_given, BodyAnswered}
 use Rattle.terms.specs.Unifier.Equality.{unifier_bytes, unifier_answer, unifier_given, UnifierAnswered}
 use Rattle.terms.specs.Unifier.Told.{Told, BodyTold}
-use Rattle.terms.specs.declared.equality.UnifierAnswer.{UnifierAnswer}
-use Rattle.terms.specs.declared.equality.UnifierAnswer.TheVariants.{Unifier, TooLong}
-use Rattle.terms.specs.declared.body.BodyAnswer.{BodyAnswer}
-use Rattle.terms.specs.declared.body.BodyAnswer.TheVariants.{Defined, TooLong as TooLongBody}
+use Rattle.terms.specs.Unifier.Equality.{UnifierAnswer}
+use Rattle.terms.specs.declared.equality.UnifierRefusal.TheVariants.{TooLong}
+use Rattle.terms.specs.declared.body.BodyRefusal.TheVariants.{TooLong as TooLongBody}
 
 pub told : {before after : List ℕ} {u : Unified} {r : UnifierAnswer} → UnifierAnswered before after u r → Told before after u r
 unfolding unifier_given on_yes reply_with
 told {before} {after} {u} {r} w = go u refl
   where
     sized : (σ : List Binding) → u ≡ unified σ → (a b : Bool) → leb (length (unifier_bytes σ)) 32768 ≡ a → leb (length (unifier_bytes σ)) (length before) ≡ b
-        → r ≡ cond a (cond b (Unifier (length (unifier_bytes σ))) TooLong) TooLong → Told before after u r
+        → r ≡ cond a (cond b (Ok (Some (length (unifier_bytes σ)))) (Err TooLong)) (Err TooLong) → Told before after u r
     sized σ e true true p q i =
         let h = leb-true _ _ q in
         subst (Told before after u) (sym i)
@@ -40,7 +39,7 @@ unfolding body_given on_yes reply_with
 body_told {before} {after} {b} {r} w = go b refl
   where
     sized : (g : Goal) → b ≡ defined g → (t : Bool) → leb (length (goal_bytes g)) (length before) ≡ t
-        → r ≡ cond t (Defined (length (goal_bytes g))) TooLongBody → BodyTold before after b r
+        → r ≡ cond t (of_length (length (goal_bytes g))) (Err TooLongBody) → BodyTold before after b r
     sized g e true q i =
         let h = leb-true _ _ q in
         subst (BodyTold before after b) (sym i)

@@ -1,6 +1,6 @@
 -- The unifier of two values, from their table to its bytes: what the functions rely on and what they give.
-use Rattle.std.specs.Prelude.{◌≡◌, List, Bool, true, false, ℕ, ◌+◌, ◌≤◌, ◌<◌, min, length, take}
-use Rattle.std.proofs.Math.Option.{Option, none, some}
+use Rattle.std.specs.Prelude.{◌≡◌, List, Bool, true, false, Option, Some, None, ℕ, ◌+◌, ◌≤◌, ◌<◌, min, length, take}
+use Rattle.std.proofs.Math.Option.{none, some}
 use Rattle.records.specs.Format.Syntax.{Term, Binding}
 use Rattle.records.specs.Format.Syntax.Term.{var}
 use Rattle.records.specs.Format.Syntax.Binding.{bind}
@@ -9,7 +9,7 @@ use Rattle.records.specs.Format.Formed.{TermFormed}
 use Rattle.records.specs.Writing.Patched.{Put}
 use Rattle.terms.specs.Theory.Substitution.{Substitution}
 use Rattle.terms.specs.Theory.Unify.{bindings, unify}
-use Rattle.terms.specs.Classes.Nodes.{at, Nodes, nodes, count, In, node_number, IsVariable, Table, Graph}
+use Rattle.terms.specs.Classes.Nodes.{at, Nodes, count, In, node_number, IsVariable, Table, Graph}
 use Rattle.terms.specs.Classes.Lengths.{Expansion, length_cap}
 use Rattle.terms.specs.Classes.SolveLaws.{Unmet}
 use Rattle.terms.specs.Classes.Laid.{Layable, TermsLaid}
@@ -32,13 +32,24 @@ unfoldable pub Tested : Nodes → List ℕ → ℕ → Bool → Type 0
 Tested n rep i true = Bound n rep i
 Tested n rep i false = Bound n rep i → ⊥
 
--- of the nodes below m, `best` has the least bound variable from lo on; it is no node where there is none
-pub record Least (n : Nodes) (rep : List ℕ) (lo m best : ℕ) : Type 0 where
-  pub found : In n best → Bound n rep best × (lo ≤ node_number n best)
-  pub least : (j : ℕ) → j < m → In n j → Bound n rep j → lo ≤ node_number n j → In n best × (node_number n best ≤ node_number n j)
+-- of the nodes below m none has a bound variable from lo on
+pub record NoneBound (n : Nodes) (rep : List ℕ) (lo m : ℕ) : Type 0 where
+  pub none : (j : ℕ) → j < m → In n j → Bound n rep j → lo ≤ node_number n j → ⊥
+
+-- of the nodes below m, i has the least bound variable from lo on
+pub record LeastBound (n : Nodes) (rep : List ℕ) (lo m i : ℕ) : Type 0 where
+  pub inside : In n i
+  pub bound : Bound n rep i
+  pub high : lo ≤ node_number n i
+  pub least : (j : ℕ) → j < m → In n j → Bound n rep j → lo ≤ node_number n j → node_number n i ≤ node_number n j
+
+-- what is found of them
+abbrev pub Least : Nodes → List ℕ → ℕ → ℕ → Option ℕ → Type 0
+Least n rep lo m None = NoneBound n rep lo m
+Least n rep lo m (Some i) = LeastBound n rep lo m i
 
 -- `best` among the nodes below i gives `chosen` among those up to i
-pub record Chosen (n : Nodes) (rep : List ℕ) (lo best i chosen : ℕ) : Type 0 where
+pub record Chosen (n : Nodes) (rep : List ℕ) (lo : ℕ) (best : Option ℕ) (i : ℕ) (chosen : Option ℕ) : Type 0 where
   pub each : Least n rep lo i best → Least n rep lo (i + 1) chosen
 
 -- the classes give these bindings, by a substitution that gives each variable of the table the term of its class
@@ -85,39 +96,23 @@ pub record PairsPut (n : Nodes) (rep : List ℕ) (old : List ℕ) (k : ℕ) (new
   pub many : (σ : List Binding) → ClassesGive n rep σ → p.count ≡ length σ
 
 -- the first nodes of the tables have classes that give the bindings σ
-pub record HoldsUnifier (kinds numbers nexts rep size : List ℕ) (m : ℕ) (σ : List Binding) : Type 0 where
-  pub kinds_long : m ≤ length kinds
-  pub numbers_long : m ≤ length numbers
-  pub nexts_long : m ≤ length nexts
+pub record HoldsUnifier (n : Nodes) (rep size : List ℕ) (m : ℕ) (σ : List Binding) : Type 0 where
+  pub table_long : m ≤ count n
   pub rep_long : m ≤ length rep
   pub size_long : m ≤ length size
-  pub classes : ClassTable (nodes (take m kinds) (take m numbers) (take m nexts)) (take m rep) (take m size)
-  pub gives : ClassesGive (nodes (take m kinds) (take m numbers) (take m nexts)) (take m rep) σ
+  pub classes : ClassTable (take m n) (take m rep) (take m size)
+  pub gives : ClassesGive (take m n) (take m rep) σ
 
 -- they do, and the written bindings fit at k
-pub record UnifierFits (kinds numbers nexts rep size : List ℕ) (m : ℕ) (out : List ℕ) (k : ℕ) : Type 0 where
+pub record UnifierFits (n : Nodes) (rep size : List ℕ) (m : ℕ) (out : List ℕ) (k : ℕ) : Type 0 where
   pub σ : List Binding
-  pub holds : HoldsUnifier kinds numbers nexts rep size m σ
+  pub holds : HoldsUnifier n rep size m σ
   pub small : length (counted binding_bytes σ) ≤ 32768
   pub room : k + length (counted binding_bytes σ) ≤ length out
 
 -- whatever bindings the tables hold are written at k
-pub record UnifierPut (kinds numbers nexts rep size : List ℕ) (m : ℕ) (old : List ℕ) (k : ℕ) (new : List ℕ) (end : ℕ) : Type 0 where
-  pub each : (σ : List Binding) → HoldsUnifier kinds numbers nexts rep size m σ → Put old k (counted binding_bytes σ) new end
-
--- whether there is a unifier, and how long it is, up to the cap
-abbrev pub is_found : Option (List Binding) → Bool
-is_found none = false
-is_found (some σ) = true
-
--- 0 where there is none
-abbrev pub found_length : Option (List Binding) → ℕ
-found_length none = 0
-found_length (some σ) = written_length σ
-
--- every number is 0
-pub record Cleared (size : List ℕ) : Type 0 where
-  pub each : (i : ℕ) → i < length size → at size i ≡ 0
+pub record UnifierPut (n : Nodes) (rep size : List ℕ) (m : ℕ) (old : List ℕ) (k : ℕ) (new : List ℕ) (end : ℕ) : Type 0 where
+  pub each : (σ : List Binding) → HoldsUnifier n rep size m σ → Put old k (counted binding_bytes σ) new end
 
 -- two well-formed terms are laid in the table
 pub record Decidable (n : Nodes) (rep size : List ℕ) (m : ℕ) : Type 0 where
@@ -129,30 +124,42 @@ pub record Decidable (n : Nodes) (rep size : List ℕ) (m : ℕ) : Type 0 where
   pub rep_long : length rep ≡ count n
   pub size_long : length size ≡ count n
 
--- the answer for s and t
-pub record UnificationAnswer (n : Nodes) (rep size : List ℕ) (s t : Term) (r : UnifierFound) : Type 0 where
-  pub found : r.found ≡ is_found (unify s t)
-  pub length_is : r.length ≡ found_length (unify s t)
+-- s and t have a unifier, which the classes of the whole table give
+pub record TableUnifier (n : Nodes) (rep size : List ℕ) (s t : Term) (r : UnifierFound) : Type 0 where
+  pub σ : List Binding
+  pub is : unify s t ≡ some σ
+  pub length_is : r.length ≡ written_length σ
   pub all : r.nodes ≡ count n
-  pub classes : r.found ≡ true → ClassTable n rep size
-  pub gives : (σ : List Binding) → unify s t ≡ some σ → ClassesGive n rep σ
+  pub classes : ClassTable n rep size
+  pub gives : ClassesGive n rep σ
+
+-- the answer for s and t
+abbrev pub UnificationAnswer : Nodes → List ℕ → List ℕ → Term → Term → Option UnifierFound → Type 0
+UnificationAnswer n rep size s t None = unify s t ≡ none
+UnificationAnswer n rep size s t (Some r) = TableUnifier n rep size s t r
 
 -- whatever terms are laid in the table
-pub record Decides (n : Nodes) (m : ℕ) (rep size : List ℕ) (r : UnifierFound) : Type 0 where
+pub record Decides (n : Nodes) (m : ℕ) (rep size : List ℕ) (r : Option UnifierFound) : Type 0 where
   pub each : (s t : Term) → TermFormed s → TermFormed t → TermsLaid n s t m → UnificationAnswer n rep size s t r
 
--- two values, and tables with room for them
-pub record Unifiable (a b kinds numbers nexts rep size : List ℕ) : Type 0 where
-  pub layable : Layable a b kinds numbers nexts
-  pub rep_long : length rep ≡ length kinds
-  pub size_long : length size ≡ length kinds
+-- two values, and a table with room for them, and its classes and lengths
+pub record Unifiable (a b : List ℕ) (n : Nodes) (rep size : List ℕ) : Type 0 where
+  pub layable : Layable a b n
+  pub rep_long : length rep ≡ count n
+  pub size_long : length size ≡ count n
 
--- the unifier of two values: whether there is one, its length, and the tables that hold it
-pub record Unification (kinds numbers nexts rep size : List ℕ) (r : UnifierFound) (s t : Term) : Type 0 where
-  pub found : r.found ≡ is_found (unify s t)
-  pub length_is : r.length ≡ found_length (unify s t)
-  pub holds : (σ : List Binding) → unify s t ≡ some σ → HoldsUnifier kinds numbers nexts rep size r.nodes σ
+-- s and t have a unifier: its length, up to the cap, and the tables that hold it
+pub record UnifierHeld (n : Nodes) (rep size : List ℕ) (r : UnifierFound) (s t : Term) : Type 0 where
+  pub σ : List Binding
+  pub is : unify s t ≡ some σ
+  pub length_is : r.length ≡ written_length σ
+  pub holds : HoldsUnifier n rep size r.nodes σ
+
+-- the unifier of two values, if there is one
+abbrev pub Unification : Nodes → List ℕ → List ℕ → Option UnifierFound → Term → Term → Type 0
+Unification n rep size None s t = unify s t ≡ none
+Unification n rep size (Some r) s t = UnifierHeld n rep size r s t
 
 -- whatever terms the values are
-pub record Unifications (a b kinds numbers nexts rep size : List ℕ) (r : UnifierFound) : Type 0 where
-  pub each : (s t : Term) → TermFormed s → TermFormed t → a ≡ term_bytes s → b ≡ term_bytes t → Unification kinds numbers nexts rep size r s t
+pub record Unifications (a b : List ℕ) (n : Nodes) (rep size : List ℕ) (r : Option UnifierFound) : Type 0 where
+  pub each : (s t : Term) → TermFormed s → TermFormed t → a ≡ term_bytes s → b ≡ term_bytes t → Unification n rep size r s t

@@ -1,5 +1,5 @@
 -- Laws of a writer on its way over a traversal: its start, a node more, its end, and the bytes that stand at the cursor.
-use Rattle.std.specs.Prelude.{◌≡◌, ℕ, ◌+◌, ◌≤◌, ◌<◌, length, drop}
+use Rattle.std.specs.Prelude.{◌≡◌, ℕ, ◌+◌, ◌≤◌, ◌<◌, length, drop, Option, Some, None}
 use Rattle.std.proofs.Math.Path.{refl, ap}
 use Rattle.std.proofs.Common.{sym, ap₂, ◌∙◌, arith, length-append, drop-drop}
 use mathlib.Core.List.{List, [], ◌∷◌, ◌++◌, append_assoc, append-nil}
@@ -21,7 +21,7 @@ use Rattle.records.specs.Ends.Stands.{Stands}
 use Rattle.records.specs.Ends.StandsLaws.{stands_first, stands_cut}
 use Rattle.records.specs.declared.traverse.Cursor.{Cursor}
 use Rattle.records.specs.declared.traverse.NodeStep.{NodeStep}
-use Rattle.records.specs.declared.traverse.NodeStep.TheVariants.{Variable, Other, Done}
+use Rattle.records.specs.declared.traverse.NodeStep.TheVariants.{Variable, Other}
 use Rattle.terms.specs.Theory.Substitution.{Substitution}
 use Rattle.terms.specs.Values.NodeBytes.{node_bytes, nodes_bytes, traversal_bytes}
 use Rattle.terms.specs.Values.NodeBytesLaws.{each_append, own_terms_bytes, own_goal_bytes}
@@ -86,7 +86,7 @@ module _ {θ : Substitution} {s whole done : List ℕ} {c : Cursor} {end : ℕ} 
         split = a.split ∙ ap (λ (l : List Node). done ++ nodes_bytes θ l) y.1 ∙ sym (append_assoc done (node_bytes θ x) (nodes_bytes θ y.0));
       }
 
-  module _ (known : Known s) {r : NodeStep} (is : r ≡ next_step s c.pos c.terms c.goals) where
+  module _ (known : Known s) {r : Option NodeStep} (is : r ≡ next_step s c.pos c.terms c.goals) where
     -- a node's own bytes stand from the cursor to the next one
     node_stands : (x : Node) (d : Cursor) → traverse_from s c ≡ before x (traverse_from s d) → Stands s c.pos (node_bytes var x) d.pos
     node_stands x d e =
@@ -98,34 +98,34 @@ module _ {θ : Substitution} {s whole done : List ℕ} {c : Cursor} {end : ℕ} 
         rw z (stands_first (node_bytes var x) (nodes_bytes var y.0) w)
 
     -- a variable gives the bytes of its term
-    pub ahead_variable : {v : ℕ} {d : Cursor} → r ≡ Variable v d → Ahead θ s whole (done ++ term_bytes (θ v)) d end
-    ahead_variable {v} {d} e = next_node (variable v) d (goes s known c.pos c.terms c.goals ahead_on is (Variable v d) e).0
+    pub ahead_variable : {v : ℕ} {d : Cursor} → r ≡ (Some (Variable v d)) → Ahead θ s whole (done ++ term_bytes (θ v)) d end
+    ahead_variable {v} {d} e = next_node (variable v) d (goes s known c.pos c.terms c.goals ahead_on is (Some (Variable v d)) e).0
 
     -- any other node gives the bytes that stand there
-    pub ahead_other : {d : Cursor} → r ≡ Other d → Ahead θ s whole (done ++ cut s (record { from = c.pos; to = d.pos })) d end
+    pub ahead_other : {d : Cursor} → r ≡ (Some (Other d)) → Ahead θ s whole (done ++ cut s (record { from = c.pos; to = d.pos })) d end
     ahead_other {d} e =
-        let y = (goes s known c.pos c.terms c.goals ahead_on is (Other d) e).0 in
+        let y = (goes s known c.pos c.terms c.goals ahead_on is (Some (Other d)) e).0 in
         rw (stands_cut (node_stands (other y.0) d y.1)) (next_node (other y.0) d y.1)
 
     -- at the end all is written
-    pub ahead_done : r ≡ Done → (whole ≡ done) × (c.pos ≡ end)
+    pub ahead_done : r ≡ None → (whole ≡ done) × (c.pos ≡ end)
     ahead_done e =
-        let q : on a.nodes end ≡ on [] c.pos = sym a.ahead ∙ goes s known c.pos c.terms c.goals ahead_on is Done e in
+        let q : on a.nodes end ≡ on [] c.pos = sym a.ahead ∙ goes s known c.pos c.terms c.goals ahead_on is None e in
         let z : a.nodes ≡ [] = cc in
         (a.split ∙ ap (λ (l : List Node). done ++ nodes_bytes θ l) z ∙ append-nil done, cc)
 
     -- the bytes left fall
-    pub ahead_less : {v : ℕ} {d : Cursor} → r ≡ Variable v d → (c.pos < d.pos) × (d.pos ≤ length s) × (v < 65536)
+    pub ahead_less : {v : ℕ} {d : Cursor} → r ≡ (Some (Variable v d)) → (c.pos < d.pos) × (d.pos ≤ length s) × (v < 65536)
     ahead_less e = let y = to_variable s known c ahead_on is e in (y.0.forth, y.0.within, y.2)
 
-    pub ahead_less_other : {d : Cursor} → r ≡ Other d → (c.pos < d.pos) × (d.pos ≤ length s)
+    pub ahead_less_other : {d : Cursor} → r ≡ (Some (Other d)) → (c.pos < d.pos) × (d.pos ≤ length s)
     ahead_less_other e = let y = to_other s known c ahead_on is e in (y.0.forth, y.0.within)
 
-module _ {θ : Substitution} {s whole done : List ℕ} {c : Cursor} {end : ℕ} (a : Ahead θ s whole done c end) (known : Known s) {r : NodeStep} (is : r ≡ next_step s c.pos c.terms c.goals) where
-  pub variable_at : {v : ℕ} {d : Cursor} → r ≡ Variable v d → VariableAt s c v d
-  variable_at {v} {d} e = let y = (goes s known c.pos c.terms c.goals (ahead_on a) is (Variable v d) e).0 in record { node = y; stands = node_stands a known is (variable v) d y }
+module _ {θ : Substitution} {s whole done : List ℕ} {c : Cursor} {end : ℕ} (a : Ahead θ s whole done c end) (known : Known s) {r : Option NodeStep} (is : r ≡ next_step s c.pos c.terms c.goals) where
+  pub variable_at : {v : ℕ} {d : Cursor} → r ≡ (Some (Variable v d)) → VariableAt s c v d
+  variable_at {v} {d} e = let y = (goes s known c.pos c.terms c.goals (ahead_on a) is (Some (Variable v d)) e).0 in record { node = y; stands = node_stands a known is (variable v) d y }
 
-  pub other_at : {d : Cursor} → r ≡ Other d → OtherAt s c d
+  pub other_at : {d : Cursor} → r ≡ (Some (Other d)) → OtherAt s c d
   other_at {d} e =
-      let y = (goes s known c.pos c.terms c.goals (ahead_on a) is (Other d) e).0 in
+      let y = (goes s known c.pos c.terms c.goals (ahead_on a) is (Some (Other d)) e).0 in
       record { bytes = y.0; node = y.1; stands = node_stands a known is (other y.0) d y.1 }

@@ -1,6 +1,6 @@
 -- The pairs of a bet stack, one after the other: what S(T) makes of a variable is found by looking for the last pair that binds it.
 -- Choice: an entry names the bets above its own, since these are what is applied to its term.
-use Rattle.std.specs.Prelude.{◌≡◌, true, List, [], ◌∷◌, ◌++◌, ℕ, suc, ◌+◌, ◌≤◌, ◌<◌, length, get_or, drop}
+use Rattle.std.specs.Prelude.{◌≡◌, true, List, [], ◌∷◌, ◌++◌, ℕ, suc, ◌+◌, ◌≤◌, ◌<◌, length, get_or, drop, Option as Optional, Some, None}
 use Rattle.std.proofs.Math.Option.{Option, none, some}
 use Rattle.std.proofs.Math.Logic.{ite}
 use Rattle.std.proofs.Math.Decide.{ℕ_discrete}
@@ -12,9 +12,7 @@ use Rattle.records.specs.Format.Formed.{All, TermFormed, BetFormed}
 use Rattle.records.specs.Gate.RecordRules.{every, bet_rules}
 use Rattle.records.specs.Format.Heads.{word_at}
 use Rattle.records.specs.Ends.Stands.{Stands}
-use Rattle.records.specs.declared.heads.Word.TheVariants.{Number}
-use Rattle.records.specs.declared.ends.Found.{Found}
-use Rattle.records.specs.declared.ends.Found.TheVariants.{At, Nothing}
+use Rattle.terms.specs.declared.pairs.ListedPair.{ListedPair}
 use Rattle.terms.specs.Theory.Substitution.{Substitution, apply}
 use Rattle.terms.specs.Standing.BetRow.{bet_pairs}
 
@@ -49,45 +47,47 @@ abbrev pub Means : List Bet → ℕ → Option PairEntry → Type 0
 Means bets v none = apply bets (var v) ≡ var v
 Means bets v (some x) = apply bets (var v) ≡ apply x.above x.term
 
--- an entry in two tables: where its pair stands in s, and how many entries stand before those of its bet
-pub record Entered (s : List ℕ) (place first : ℕ) (x : PairEntry) : Type 0 where
-  pub number : word_at s place ≡ Number x.variable
+-- an entry of a table: where its pair stands in s, and how many entries stand before those of its bet
+pub record Entered (s : List ℕ) (e : ListedPair) (x : PairEntry) : Type 0 where
+  pub number : word_at s e.place ≡ Some x.variable
   pub formed : TermFormed x.term
   pub end : ℕ
-  pub stands : Stands s (place + 2) (term_bytes x.term) end
-  pub before : first ≡ length (pair_entries [] x.above)
+  pub stands : Stands s (e.place + 2) (term_bytes x.term) end
+  pub before : e.first ≡ length (pair_entries [] x.above)
+
+-- entry k of a table
+abbrev pub entry : List ListedPair → ℕ → ListedPair
+entry listed k = get_or listed k (record { place = 0; first = 0 })
 
 -- these entries from k on
-abbrev pub Entereds : List ℕ → List ℕ → List ℕ → ℕ → List PairEntry → Type 0
-Entereds s places firsts k [] = Unit {0}
-Entereds s places firsts k (x ∷ l) = Entered s (get_or places k 0) (get_or firsts k 0) x × Entereds s places firsts (k + 1) l
+abbrev pub Entereds : List ℕ → List ListedPair → ℕ → List PairEntry → Type 0
+Entereds s listed k [] = Unit {0}
+Entereds s listed k (x ∷ l) = Entered s (entry listed k) x × Entereds s listed (k + 1) l
 
 -- the pairs σ of one bet are entered from `first` on, behind those of the bets above it
-pub record PairsEntered (s : List ℕ) (σ : List Binding) (first : ℕ) (places₀ firsts₀ places firsts : List ℕ) (k : ℕ) : Type 0 where
+pub record PairsEntered (s : List ℕ) (σ : List Binding) (first : ℕ) (listed₀ listed : List ListedPair) (k : ℕ) : Type 0 where
   pub number : k ≡ first + length σ
-  pub entered : (above : List Bet) → length (pair_entries [] above) ≡ first → Entereds s places₀ firsts₀ 0 (pair_entries [] above) → Entereds s places firsts 0 (pair_entries [] above ++ own above σ)
-  pub same_places : length places ≡ length places₀
-  pub same_firsts : length firsts ≡ length firsts₀
+  pub entered : (above : List Bet) → length (pair_entries [] above) ≡ first → Entereds s listed₀ 0 (pair_entries [] above) → Entereds s listed 0 (pair_entries [] above ++ own above σ)
+  pub same_length : length listed ≡ length listed₀
 
--- the first i entries of two tables are the pairs of a bet stack
-pub record PairTable (s places firsts : List ℕ) (i : ℕ) : Type 0 where
+-- the first i entries of a table are the pairs of a bet stack
+pub record PairTable (s : List ℕ) (listed : List ListedPair) (i : ℕ) : Type 0 where
   pub bets : List Bet
   pub rules : every bet_rules bets ≡ true
   pub count : length (pair_entries [] bets) ≡ i
-  pub entered : Entereds s places firsts 0 (pair_entries [] bets)
-  pub places_held : i ≤ length places
-  pub firsts_held : i ≤ length firsts
+  pub entered : Entereds s listed 0 (pair_entries [] bets)
+  pub held : i ≤ length listed
 
 -- they are the pairs of these bets, which are well formed
-pub record PairsListed (bets : List Bet) (s places firsts : List ℕ) (i : ℕ) : Type 0 where
-  pub table : PairTable s places firsts i
+pub record PairsListed (bets : List Bet) (s : List ℕ) (listed : List ListedPair) (i : ℕ) : Type 0 where
+  pub table : PairTable s listed i
   pub are : table.bets ≡ bets
   pub formed : All BetFormed bets
 
--- what a look for v finds: the place in the tables of the last entry that binds it, or that there is none
-pub record FoundPair (bets : List Bet) (i v : ℕ) (r : Found) : Type 0 where
-  pub found : {k : ℕ} → r ≡ At k → (k < i) × ((x : PairEntry) × (drop k (pair_entries [] bets) ≡ x ∷ drop (suc k) (pair_entries [] bets)) × (last_of v (pair_entries [] bets) ≡ some x))
-  pub none_binds : r ≡ Nothing → last_of v (pair_entries [] bets) ≡ none
+-- what a look for v finds: the place in the table of the last entry that binds it, or that there is none
+pub record FoundPair (bets : List Bet) (i v : ℕ) (r : Optional ℕ) : Type 0 where
+  pub found : {k : ℕ} → r ≡ Some k → (k < i) × ((x : PairEntry) × (drop k (pair_entries [] bets) ≡ x ∷ drop (suc k) (pair_entries [] bets)) × (last_of v (pair_entries [] bets) ≡ some x))
+  pub none_binds : r ≡ None → last_of v (pair_entries [] bets) ≡ none
 
 -- what S makes of the variables
 abbrev pub under : List Bet → Substitution

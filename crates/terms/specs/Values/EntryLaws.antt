@@ -1,6 +1,6 @@
 -- Laws of entries: the last entry that binds a variable tells what S makes of it, and the entries before those of its bet are those of the bets above.
-use Rattle.std.specs.Prelude.{◌≡◌, refl, Bool, true, false, not, ◌&&◌, ◌⊎◌, ℕ, zero, suc, ◌+◌, ◌-◌, ◌≤◌, ◌<◌, ltb, length, get_or, take, drop}
-use Rattle.std.proofs.Common.{sym, ap, ◌∙◌, inl, inr, add-zero, arith, length-append, eq-eqb, ne_eqb, ltb-false}
+use Rattle.std.specs.Prelude.{◌≡◌, refl, Bool, true, false, not, ◌&&◌, ◌⊎◌, ℕ, zero, suc, ◌+◌, ◌-◌, ◌≤◌, ◌<◌, ltb, length, take, drop, Option as Optional, Some, None}
+use Rattle.std.proofs.Common.{sym, ap, ◌∙◌, inl, inr, add-zero, arith, length-append, length-take-le, get_or-take, eq-eqb, ne_eqb, ltb-false}
 use mathlib.Core.List.{List, [], ◌∷◌, ◌++◌, append_assoc, append-nil}
 use Rattle.std.proofs.Math.Logic.{ite}
 use Rattle.std.proofs.Math.Option.{Option, none, some}
@@ -15,13 +15,11 @@ use Rattle.records.specs.Format.Syntax.Binding.{bind}
 use Rattle.records.specs.Format.Syntax.Bet.{unifier, or, by}
 use Rattle.records.specs.Gate.RecordRules.{bound, member, rising, rising_from, every, unifier_rules, bet_rules}
 use Rattle.records.specs.Format.Heads.{word_at}
-use Rattle.records.specs.declared.ends.Found.TheVariants.{At, Nothing}
-use Rattle.records.specs.declared.heads.Word.{Word}
-use Rattle.records.specs.declared.heads.Word.TheVariants.{Number, Short}
+use Rattle.terms.specs.declared.pairs.ListedPair.{ListedPair}
 use Rattle.terms.specs.Theory.Substitution.{substitute, and_then, as_substitution, apply}
 use Rattle.terms.specs.Theory.SubstitutionLaws.{substitute_var, substitute_twice, apply_append}
 use Rattle.terms.specs.Standing.BetRow.{bet_pairs}
-use Rattle.terms.specs.Values.Entries.{under, PairEntry, own, pair_entries, or_else, last_of, Means, Entered, Entereds, PairTable, FoundPair}
+use Rattle.terms.specs.Values.Entries.{under, PairEntry, entry, own, pair_entries, or_else, last_of, Means, Entered, Entereds, PairTable, PairsListed, FoundPair}
 
 -- S is what it makes of the variables
 pub apply_variables : (bets : List Bet) (t : Term) → substitute (λ v. apply bets (var v)) t ≡ apply bets t
@@ -143,7 +141,7 @@ last_means above (b ∷ bets) v r =
         ∙ ap (apply above) (apply_pairs b bets (var v) ∙ ap (substitute (as_substitution (bet_pairs b))) i ∙ j.1)
         ∙ ap (λ (l : List Bet). apply l x.term) (sym j.0)
 
-pub table_means : {s places firsts : List ℕ} {i : ℕ} (p : PairTable s places firsts i) (v : ℕ) → Means p.bets v (last_of v (pair_entries [] p.bets))
+pub table_means : {s : List ℕ} {listed : List ListedPair} {i : ℕ} (p : PairTable s listed i) (v : ℕ) → Means p.bets v (last_of v (pair_entries [] p.bets))
 table_means p v = go (last_of v (pair_entries [] p.bets)) (last_means [] p.bets v p.rules)
   where
     go : (o : Option PairEntry) → MeansUnder [] p.bets v o → Means p.bets v o
@@ -168,17 +166,17 @@ take_more (y ∷ l) zero x m e = ap (λ (z : PairEntry). z ∷ []) (same e)
     same e = cc
 take_more (y ∷ l) (suc k) x m e = ap (λ (z : List PairEntry). y ∷ z) (take_more l k x m e)
 
-pub entered_at : (s places firsts : List ℕ) (l : List PairEntry) (from k : ℕ) (x : PairEntry) (m : List PairEntry) → Entereds s places firsts from l → drop k l ≡ x ∷ m
-    → Entered s (get_or places (from + k) 0) (get_or firsts (from + k) 0) x
-entered_at s places firsts [] from zero x m h e = let z = ap length e in absurd (omega arith)
-entered_at s places firsts [] from (suc k) x m h e = let z = ap length e in absurd (omega arith)
-entered_at s places firsts (y ∷ l) from zero x m h e = rw (← (same e), add-zero from) h.0
+pub entered_at : (s : List ℕ) (listed : List ListedPair) (l : List PairEntry) (from k : ℕ) (x : PairEntry) (m : List PairEntry) → Entereds s listed from l → drop k l ≡ x ∷ m
+    → Entered s (entry listed (from + k)) x
+entered_at s listed [] from zero x m h e = let z = ap length e in absurd (omega arith)
+entered_at s listed [] from (suc k) x m h e = let z = ap length e in absurd (omega arith)
+entered_at s listed (y ∷ l) from zero x m h e = rw (← (same e), add-zero from) h.0
   where
     same : y ∷ l ≡ x ∷ m → y ≡ x
     same e = cc
-entered_at s places firsts (y ∷ l) from (suc k) x m h e =
+entered_at s listed (y ∷ l) from (suc k) x m h e =
     let q : from + 1 + k ≡ from + suc k = omega arith in
-    rw q at (entered_at s places firsts l (from + 1) k x m h.1 e)
+    rw q at (entered_at s listed l (from + 1) k x m h.1 e)
 
 -- looking for v from the end: no entry from k on binds it
 pub record Searching (l : List PairEntry) (v k : ℕ) : Type 0 where
@@ -260,9 +258,9 @@ located above (b ∷ bets) k x n e = go (in_own above (bet_pairs b) (pair_entrie
         record { rest = w.rest; split = sym (append_assoc above (b ∷ []) bets) ∙ w.split; early = omega (arith, w.early, one_more above b, i.1) }
 
 -- the table of the bets above an entry
-pub entereds_front : (s places firsts : List ℕ) (l m : List PairEntry) (from : ℕ) → Entereds s places firsts from (l ++ m) → Entereds s places firsts from l
-entereds_front s places firsts [] m from h = tt
-entereds_front s places firsts (x ∷ l) m from h = (h.0, entereds_front s places firsts l m (from + 1) h.1)
+pub entereds_front : (s : List ℕ) (listed : List ListedPair) (l m : List PairEntry) (from : ℕ) → Entereds s listed from (l ++ m) → Entereds s listed from l
+entereds_front s listed [] m from h = tt
+entereds_front s listed (x ∷ l) m from h = (h.0, entereds_front s listed l m (from + 1) h.1)
 
 pub every_front : (l m : List Bet) → every bet_rules (l ++ m) ≡ true → every bet_rules l ≡ true
 every_front [] m r = refl
@@ -272,16 +270,16 @@ every_front (b ∷ l) m r = go (bet_rules b) (and_both (bet_rules b) (every bet_
     go true e f = f
     go false e f = e
 
-module _ {s places firsts : List ℕ} {i : ℕ} (p : PairTable s places firsts i) {k : ℕ} {x : PairEntry} {n : List PairEntry} (e : drop k (pair_entries [] p.bets) ≡ x ∷ n) (h : k < i) where
-  pub entry_entered : Entered s (get_or places k 0) (get_or firsts k 0) x
-  entry_entered = let q : 0 + k ≡ k = omega arith in rw q at (entered_at s places firsts (pair_entries [] p.bets) 0 k x n p.entered e)
+module _ {s : List ℕ} {listed : List ListedPair} {i : ℕ} (p : PairTable s listed i) {k : ℕ} {x : PairEntry} {n : List PairEntry} (e : drop k (pair_entries [] p.bets) ≡ x ∷ n) (h : k < i) where
+  pub entry_entered : Entered s (entry listed k) x
+  entry_entered = let q : 0 + k ≡ k = omega arith in rw q at (entered_at s listed (pair_entries [] p.bets) 0 k x n p.entered e)
 
   -- it has fewer entries
-  pub above_fewer : get_or firsts k 0 < i
+  pub above_fewer : (entry listed k).first < i
   unfolding pair_entries
   above_fewer = omega (arith, entry_entered.before, (located [] p.bets k x n e).early)
 
-  abbrev pub above_table : PairTable s places firsts (get_or firsts k 0)
+  abbrev pub above_table : PairTable s listed (entry listed k).first
   above_table =
       let w = located [] p.bets k x n e in
       let q : pair_entries [] p.bets ≡ pair_entries [] x.above ++ pair_entries x.above w.rest = ap (pair_entries []) w.split ∙ entries_append [] x.above w.rest in
@@ -289,35 +287,53 @@ module _ {s places firsts : List ℕ} {i : ℕ} (p : PairTable s places firsts i
         bets = x.above;
         rules = every_front x.above w.rest (rw w.split at p.rules);
         count = sym entry_entered.before;
-        entered = entereds_front s places firsts (pair_entries [] x.above) (pair_entries x.above w.rest) 0 (rw q at p.entered);
-        places_held = omega (arith, above_fewer, p.places_held);
-        firsts_held = omega (arith, above_fewer, p.firsts_held);
+        entered = entereds_front s listed (pair_entries [] x.above) (pair_entries x.above w.rest) 0 (rw q at p.entered);
+        held = omega (arith, above_fewer, p.held);
       }
 
+-- the table cut off behind its pairs
+pub entereds_taken : (s : List ℕ) (listed : List ListedPair) (i from : ℕ) (l : List PairEntry) → from + length l ≤ i → Entereds s listed from l → Entereds s (take i listed) from l
+entereds_taken s listed i from [] h e = tt
+entereds_taken s listed i from (x ∷ l) h e =
+    let q : from < i = omega arith in
+    (rw (get_or-take i listed from (record { place = 0; first = 0 }) q) e.0, entereds_taken s listed i (from + 1) l (omega arith) e.1)
+
+abbrev pub table_taken : {s : List ℕ} {listed : List ListedPair} {i : ℕ} → PairTable s listed i → PairTable s (take i listed) (length (take i listed))
+table_taken {s} {listed} {i} p = record {
+  bets = p.bets;
+  rules = p.rules;
+  count = p.count ∙ sym (length-take-le i listed p.held);
+  entered = entereds_taken s listed i 0 (pair_entries [] p.bets) (omega (arith, p.count)) p.entered;
+  held = omega arith;
+}
+
+pub listed_taken : {bets : List Bet} {s : List ℕ} {listed : List ListedPair} {i : ℕ} → PairsListed bets s listed i → PairsListed bets s (take i listed) (length (take i listed))
+listed_taken l = record { table = table_taken l.table; are = l.are; formed = l.formed }
+
 -- for code that looks for v in a table from the end
-module _ {s places firsts : List ℕ} {i : ℕ} (p : PairTable s places firsts i) where
+module _ {s : List ℕ} {listed : List ListedPair} {i : ℕ} (p : PairTable s listed i) where
   pub find_start : (v : ℕ) → Searching (pair_entries [] p.bets) v i
   find_start v = rw p.count at (searching_start (pair_entries [] p.bets) v)
 
   module _ {v k : ℕ} (u : Searching (pair_entries [] p.bets) v k) where
-    pub find_none : k ≡ 0 → FoundPair p.bets i v Nothing
+    pub find_none : k ≡ 0 → FoundPair p.bets i v None
     find_none e = record { found = λ i. never cc; none_binds = λ i. searching_none u e }
 
-    module _ (h : 0 < k) {w : Word} (is : w ≡ word_at s (get_or places (k - 1) 0)) where
-      stands_there : word_at s (get_or places (k - 1) 0) ≡ Number (searched u h).0.variable
+    module _ (h : 0 < k) {w : Optional ℕ} (is : w ≡ word_at s (entry listed (k - 1)).place) where
+      stands_there : word_at s (entry listed (k - 1)).place ≡ Some (searched u h).0.variable
       stands_there = (entry_entered p {k = k - 1} (searched u h).1 (omega (arith, u.within, p.count))).number
 
-      pub find_number : w ≡ Short → ⊥
+      pub find_number : w ≡ None → ⊥
       find_number e = let q = stands_there in never cc
 
-      module _ {x : ℕ} (e : w ≡ Number x) where
+      module _ {x : ℕ} (e : w ≡ Some x) where
         same_number : (searched u h).0.variable ≡ x
         same_number = let q = stands_there in cc
 
-        pub find_found : x ≡ v → FoundPair p.bets i v (At (k - 1))
+        pub find_found : x ≡ v → FoundPair p.bets i v (Some (k - 1))
         find_found q = record { found = λ r. moved (AtSame r); none_binds = λ r. never cc }
           where
-            AtSame : {j : ℕ} → At (k - 1) ≡ At j → k - 1 ≡ j
+            AtSame : {j : ℕ} → Some (k - 1) ≡ Some j → k - 1 ≡ j
             AtSame r = cc
 
             moved : {j : ℕ} → k - 1 ≡ j

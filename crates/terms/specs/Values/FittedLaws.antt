@@ -1,5 +1,5 @@
 -- Laws of writing that may not fit: bytes that fit or do not, and a writer that goes over the nodes of a traversal, one node more at a time.
-use Rattle.std.specs.Prelude.{◌≡◌, refl, List, [], ◌++◌, ℕ, ◌+◌, ◌-◌, ◌≤◌, ◌<◌, length, take, drop}
+use Rattle.std.specs.Prelude.{◌≡◌, refl, List, [], ◌++◌, ℕ, ◌+◌, ◌-◌, ◌≤◌, ◌<◌, length, take, drop, Some, None, Option}
 use Rattle.std.proofs.Common.{sym, ◌∙◌, zero-add, arith, length-append, length-take, length-drop}
 use Rattle.records.specs.Format.Never.{never}
 use Rattle.records.specs.Writing.Patched.{Put}
@@ -13,25 +13,23 @@ use Rattle.records.specs.declared.put.Range.{Range}
 use Rattle.records.specs.Ends.Steps.{On, traverse_from, next_step}
 use Rattle.records.specs.declared.traverse.Cursor.{Cursor}
 use Rattle.records.specs.declared.traverse.NodeStep.{NodeStep}
-use Rattle.records.specs.declared.traverse.NodeStep.TheVariants.{Done}
 use Rattle.terms.specs.Theory.Substitution.{Substitution}
 use Rattle.terms.specs.Values.NodeBytes.{node_bytes, traversal_bytes}
 use Rattle.terms.specs.Values.AheadLaws.{ahead_start, ahead_room, ahead_done, next_node}
 use Rattle.terms.specs.Values.Fitted.{Fitted, Fitting}
-use Rattle.terms.specs.declared.substitute.Sized.{Sized}
-use Rattle.terms.specs.declared.substitute.Sized.TheVariants.{Fits, TooLarge}
+use Rattle.terms.specs.Values.Sized.{Sized}
 
-pub fitted_fits : {out bytes after : List ℕ} {n : ℕ} → Put out 0 bytes after n → length bytes ≤ length out → Fitted out bytes after (Fits n)
+pub fitted_fits : {out bytes after : List ℕ} {n : ℕ} → Put out 0 bytes after n → length bytes ≤ length out → Fitted out bytes after (Some n)
 fitted_fits {out} {bytes} {after} {n} p h = record {
   fits = λ e. (rw (← (same e)) p, h);
   large = λ e. never cc;
   kept = put_length p;
 }
   where
-    same : {m : ℕ} → Fits n ≡ Fits m → n ≡ m
+    same : {m : ℕ} → Some n ≡ Some m → n ≡ m
     same e = cc
 
-pub fitted_large : {out bytes after : List ℕ} → length out < length bytes → length after ≡ length out → Fitted out bytes after TooLarge
+pub fitted_large : {out bytes after : List ℕ} → length out < length bytes → length after ≡ length out → Fitted out bytes after None
 fitted_large h k = record { fits = λ e. never cc; large = λ e. h; kept = k }
 
 -- where there is room for them, they are written
@@ -39,8 +37,8 @@ pub fitted_put : {out bytes after : List ℕ} {r : Sized} → Fitted out bytes a
 fitted_put {out} {bytes} {after} {r} f h = go r refl
   where
     go : (x : Sized) → r ≡ x → Put out 0 bytes after (length bytes)
-    go (Fits n) e = let p = (f.fits e).0 in rw (sym (p.place ∙ zero-add (length bytes))) p
-    go TooLarge e = absurd (omega (arith, f.large e))
+    go (Some n) e = let p = (f.fits e).0 in rw (sym (p.place ∙ zero-add (length bytes))) p
+    go None e = absurd (omega (arith, f.large e))
 
 -- a range of a source that cuts out the bytes
 pub fitted_stands : {out after : List ℕ} {r : Sized} {s : List ℕ} {x : List ℕ} {range : Range} → Stands s range.from x range.to → Fitted out (cut s range) after r → Fitted out x after r
@@ -63,20 +61,20 @@ module _ {θ : Substitution} {s : List ℕ} {w : Traversal} {out₀ : List ℕ} 
         simp (length-append, length-take, length-drop) (omega (arith, put_length u.put, u.room))
 
     -- it fits
-    pub fitting_room : {m : ℕ} → r ≡ Fits m → n + m ≤ length out
+    pub fitting_room : {m : ℕ} → r ≡ Some m → n + m ≤ length out
     fitting_room i =
         let l = tail_length out n in
         let k = (f.fits i).0.place in
         let z = (f.fits i).1 in
         omega (arith, u.room)
 
-    pub fitting_more : {m : ℕ} → r ≡ Fits m → Fitting θ s w out₀ d (take n out ++ (tail ++ drop (length out - n) (drop n out))) (n + m)
+    pub fitting_more : {m : ℕ} → r ≡ Some m → Fitting θ s w out₀ d (take n out ++ (tail ++ drop (length out - n) (drop n out))) (n + m)
     fitting_more i =
         let p = put_tail {before = out} {at = n} (f.fits i).0 in
         record { written = u.written ++ node_bytes θ x; put = put_then u.put p; ahead = next_node u.ahead x d e; room = rw (put_length p) (fitting_room i) }
 
     -- it does not fit
-    pub fitting_large : r ≡ TooLarge → Fitted out₀ (traversal_bytes θ w) (take n out ++ (tail ++ drop (length out - n) (drop n out))) TooLarge
+    pub fitting_large : r ≡ None → Fitted out₀ (traversal_bytes θ w) (take n out ++ (tail ++ drop (length out - n) (drop n out))) None
     fitting_large i =
         let l = tail_length out n in
         let z = f.large i in
@@ -85,6 +83,6 @@ module _ {θ : Substitution} {s : List ℕ} {w : Traversal} {out₀ : List ℕ} 
         fitted_large (omega (arith, put_length u.put, u.put.place, u.room)) fitting_kept
 
   -- no node left
-  pub fitting_done : Known s → {r : NodeStep} → r ≡ next_step s c.pos c.terms c.goals → r ≡ Done → Fitted out₀ (traversal_bytes θ w) out (Fits n)
+  pub fitting_done : Known s → {r : Option NodeStep} → r ≡ next_step s c.pos c.terms c.goals → r ≡ None → Fitted out₀ (traversal_bytes θ w) out (Some n)
   fitting_done known is e =
       rw (ahead_done u.ahead known is e).0 (fitted_fits u.put (omega (arith, u.put.place, put_length u.put, u.room)))

@@ -1,39 +1,45 @@
 -- Laws of links: none link every table, they link fewer entries too, one entry more, and a look that begins by them misses no entry.
-use Rattle.std.specs.Prelude.{◌≡◌, refl, List, [], ℕ, zero, suc, ◌+◌, ◌-◌, ◌≤◌, ◌<◌, length, get_or, set}
-use Rattle.std.proofs.Common.{sym, ap, ◌∙◌, arith, length-set, get_or-set_same, get_or-set_other}
+use Rattle.std.specs.Prelude.{◌≡◌, refl, List, [], ℕ, zero, suc, ◌+◌, ◌-◌, ◌≤◌, ◌<◌, min, length, get_or, set, take, Option, Some, None}
+use Rattle.std.proofs.Common.{sym, ap, ◌∙◌, arith, length-set, length-take-le, get_or-take, get_or-set_same, get_or-set_other}
 use Rattle.std.proofs.Math.Decide.{ℕ_discrete}
 use Rattle.records.specs.Format.Heads.{word_at}
 use Rattle.records.specs.Format.Never.{never}
-use Rattle.records.specs.declared.heads.Word.{Word}
-use Rattle.records.specs.declared.heads.Word.TheVariants.{Number, Short}
-use Rattle.terms.specs.Values.Entries.{PairTable, pair_entries}
+use Rattle.terms.specs.declared.pairs.ListedPair.{ListedPair}
+use Rattle.terms.specs.Values.Entries.{PairTable, entry, pair_entries}
 use Rattle.terms.specs.Values.EntryLaws.{Searching, searched, searching_next, find_start, entry_entered}
 use Rattle.terms.specs.Values.Links.{PairsLinked, PairLinked, LookFrom}
 
-pub linked_none : {s places : List ℕ} {i : ℕ} {links : List ℕ} → length links ≡ 0 → PairsLinked s places i links
+pub linked_none : {s : List ℕ} {listed : List ListedPair} {i : ℕ} {links : List ℕ} → length links ≡ 0 → PairsLinked s listed i links
 linked_none e = record { below = λ j v h l w. absurd (omega arith) }
 
-pub linked_fewer : {s places : List ℕ} {i n : ℕ} {links : List ℕ} → PairsLinked s places i links → n ≤ i → PairsLinked s places n links
+pub linked_fewer : {s : List ℕ} {listed : List ListedPair} {i n : ℕ} {links : List ℕ} → PairsLinked s listed i links → n ≤ i → PairsLinked s listed n links
 linked_fewer u m = record { below = λ j v h l w. u.below j v (omega arith) l w }
 
-pub linked_start : {s places links : List ℕ} → PairsLinked s places 0 links
+pub linked_taken : {s : List ℕ} {listed : List ListedPair} {i n : ℕ} {links : List ℕ} → PairsLinked s listed i links → n ≤ i → n ≤ length listed
+    → PairsLinked s (take n listed) (length (take n listed)) links
+linked_taken {listed = listed} {n = n} u m h = record {
+  below = λ j v b l w. let q : j < n = omega (arith, length-take-le n listed h) in
+      u.below j v (omega arith) l (rw (get_or-take n listed j (record { place = 0; first = 0 }) q) at w);
+}
+
+pub linked_start : {s links : List ℕ} {listed : List ListedPair} → PairsLinked s listed 0 links
 linked_start = record { below = λ j v h l w. absurd (omega arith) }
 
-pub linked_next : {s places : List ℕ} {k : ℕ} {links₀ links : List ℕ} → PairsLinked s places k links₀ → PairLinked s (get_or places k 0) (k + 1) links₀ links → PairsLinked s places (k + 1) links
-linked_next {s} {places} {k} {links₀} {links} u q = record { below = λ j v h l w. go j v h l w (ℕ_discrete j k) }
+pub linked_next : {s : List ℕ} {listed : List ListedPair} {k : ℕ} {links₀ links : List ℕ} → PairsLinked s listed k links₀ → PairLinked s (entry listed k).place (k + 1) links₀ links → PairsLinked s listed (k + 1) links
+linked_next {s} {listed} {k} {links₀} {links} u q = record { below = λ j v h l w. go j v h l w (ℕ_discrete j k) }
   where
-    go : (j v : ℕ) → j < k + 1 → v < length links → word_at s (get_or places j 0) ≡ Number v → Dec (j ≡ k) → j < get_or links v 0
-    go j v h l w (yes e) = omega (arith, q.own v l (ap (λ (n : ℕ). word_at s (get_or places n 0)) (sym e) ∙ w), e)
+    go : (j v : ℕ) → j < k + 1 → v < length links → word_at s (entry listed j).place ≡ Some v → Dec (j ≡ k) → j < get_or links v 0
+    go j v h l w (yes e) = omega (arith, q.own v l (ap (λ (n : ℕ). word_at s (entry listed n).place) (sym e) ∙ w), e)
     go j v h l w (no n) = q.kept j v (omega arith) (u.below j v (omega (arith, n)) (omega (arith, q.long)) w)
 
 -- one entry more, by what stands there
-pub no_pair_linked : {s : List ℕ} {at n : ℕ} {links : List ℕ} {w : Word} → w ≡ word_at s at → w ≡ Short → PairLinked s at n links links
+pub no_pair_linked : {s : List ℕ} {at n : ℕ} {links : List ℕ} {w : Option ℕ} → w ≡ word_at s at → w ≡ None → PairLinked s at n links links
 no_pair_linked is e = record { own = λ v l i. never cc; kept = λ j v h l. l; long = refl }
 
-same_variable : {w z : Word} {x v : ℕ} → w ≡ z → w ≡ Number x → z ≡ Number v → x ≡ v
+same_variable : {w z : Option ℕ} {x v : ℕ} → w ≡ z → w ≡ Some x → z ≡ Some v → x ≡ v
 same_variable is e i = cc
 
-module _ {s : List ℕ} {at n x : ℕ} {links : List ℕ} {w : Word} (is : w ≡ word_at s at) (e : w ≡ Number x) where
+module _ {s : List ℕ} {at n x : ℕ} {links : List ℕ} {w : Option ℕ} (is : w ≡ word_at s at) (e : w ≡ Some x) where
   pub beyond_linked : length links ≤ x → PairLinked s at n links links
   beyond_linked h = record { own = λ v l i. absurd (omega (arith, same_variable is e i)); kept = λ j v h l. l; long = refl }
 
@@ -48,13 +54,13 @@ module _ {s : List ℕ} {at n x : ℕ} {links : List ℕ} {w : Word} (is : w ≡
 pub look_all : {links : List ℕ} {i v : ℕ} → LookFrom links i v i
 look_all = record { within = omega arith; beyond = λ j h l. absurd (omega arith) }
 
-pub look_linked : {links : List ℕ} {i v r : ℕ} → v < length links → r ≡ get_or links v 0 → r ≤ i → LookFrom links i v r
-look_linked h e l = record { within = l; beyond = λ j m n. (h, omega arith) }
+pub look_linked : {links : List ℕ} {i v r : ℕ} → v < length links → r ≡ min (get_or links v 0) i → LookFrom links i v r
+look_linked h e = record { within = omega arith; beyond = λ j m n. (h, omega arith) }
 
 -- a look that begins by the links
-pub searching_from : {s places firsts : List ℕ} {i : ℕ} (p : PairTable s places firsts i) {links : List ℕ} → PairsLinked s places i links → {v r : ℕ} → LookFrom links i v r
+pub searching_from : {s : List ℕ} {listed : List ListedPair} {i : ℕ} (p : PairTable s listed i) {links : List ℕ} → PairsLinked s listed i links → {v r : ℕ} → LookFrom links i v r
     → Searching (pair_entries [] p.bets) v r
-searching_from {s} {places} {firsts} {i} p {links} u {v} {r} f = down (i - r) i (omega (arith, f.within)) (omega arith) (find_start p v)
+searching_from {s} {listed} {i} p {links} u {v} {r} f = down (i - r) i (omega (arith, f.within)) (omega arith) (find_start p v)
   where
     down : (d k : ℕ) → k ≡ r + d → k ≤ i → Searching (pair_entries [] p.bets) v k → Searching (pair_entries [] p.bets) v r
     down zero k e h z = let q : k ≡ r = omega arith in rw q at z
@@ -63,4 +69,4 @@ searching_from {s} {places} {firsts} {i} p {links} u {v} {r} f = down (i - r) i 
         let b = f.beyond (k - 1) (omega arith) (omega arith) in
         let x = searched z some_left in
         let is = (entry_entered p {k = k - 1} x.1 (omega arith)).number in
-        down d (k - 1) (omega arith) (omega arith) (searching_next z some_left (λ y. omega (arith, u.below (k - 1) v (omega arith) b.0 (is ∙ ap Number y), b.1)))
+        down d (k - 1) (omega arith) (omega arith) (searching_next z some_left (λ y. omega (arith, u.below (k - 1) v (omega arith) b.0 (is ∙ ap Some y), b.1)))

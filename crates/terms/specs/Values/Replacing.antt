@@ -1,5 +1,5 @@
 -- What variables become in what the one writer puts: by the pairs of a bet stack, or by an atom's arguments and new numbers.
-use Rattle.std.specs.Prelude.{◌≡◌, List, ℕ, ◌+◌, ◌≤◌, ◌<◌, length, get_or}
+use Rattle.std.specs.Prelude.{◌≡◌, ℕ, ◌≤◌, ◌<◌, ◌-◌, length}
 use Rattle.records.specs.Format.Syntax.{Term}
 use Rattle.records.specs.Format.Syntax.Term.{var}
 use Rattle.records.specs.Format.Encode.{term_bytes}
@@ -9,32 +9,41 @@ use Rattle.terms.specs.Theory.Substitution.{Substitution}
 use Rattle.terms.specs.Body.Body.{numbered}
 use Rattle.terms.specs.Body.Arguments.{ArgumentTable}
 use Rattle.terms.specs.Values.Entries.{PairTable, under}
+use Rattle.terms.specs.Values.Pairs.{Tabled, Linked}
 use Rattle.terms.specs.Values.NodeBytes.{traversal_bytes}
+use Rattle.terms.specs.declared.pairs.PairList.{PairList}
+use Rattle.terms.specs.declared.substitute.Numbering.{Numbering}
 use Rattle.terms.specs.declared.substitute.Bound.{Bound}
 use Rattle.terms.specs.declared.substitute.Bound.TheVariants.{Free, To}
 use Rattle.terms.specs.declared.substitute.Replacing.{Replacing}
 use Rattle.terms.specs.declared.substitute.Replacing.TheVariants.{Pairs, Numbered}
 
--- variables become what θ makes of them: the pairs, or the arguments, stand in s where the tables say
-pub record Replaces (s table firsts : List ℕ) (by : Replacing) (θ : Substitution) : Type 0 where
-  pub pairs : {i : ℕ} → by ≡ Pairs i → (p : PairTable s table firsts i) × (θ ≡ under p.bets)
-  pub numbers : {k m : ℕ} → by ≡ Numbered k m → (a : ArgumentTable s k table) × (θ ≡ numbered a.listed.terms m) × (m ≤ 65536)
+-- the terms whose places a table tells, one more than they are
+abbrev pub ArgumentsOf : Numbering → Type 0
+ArgumentsOf n = ArgumentTable n.event.now (length n.table.now - 1) n.table.now
 
--- the pair at k of the tables: its term, under the bets above its own, which have fewer pairs, is t
-pub record BoundTo (s table firsts : List ℕ) (i : ℕ) (t : Term) (k : ℕ) : Type 0 where
-  pub within : (k < length table) × (k < length firsts)
-  pub room : get_or table k 0 + 2 ≤ length s
-  pub fewer : get_or firsts k 0 < i
-  pub above : PairTable s table firsts (get_or firsts k 0)
-  pub on : On (traverse s (get_or table k 0 + 2) 1 0)
-  pub bytes : traversal_bytes (under above.bets) (traverse s (get_or table k 0 + 2) 1 0) ≡ term_bytes t
+-- variables become what θ makes of them: by the pairs, or by the arguments
+pub record Replaces (by : Replacing) (θ : Substitution) : Type 0 where
+  pub pairs : {p : PairList} → by ≡ Pairs p → (t : Tabled p) × (θ ≡ under t.bets)
+  pub numbers : {n : Numbering} → by ≡ Numbered n → (a : ArgumentsOf n) × (θ ≡ numbered a.listed.terms n.next) × (n.next ≤ 65536)
 
--- what a look for the value t of a variable finds among the first i pairs
-pub record ValueFound (s table firsts : List ℕ) (i : ℕ) (t : Term) (r : Bound) : Type 0 where
+-- the pairs, where it is by pairs, are linked
+pub record LinkedIn (by : Replacing) : Type 0 where
+  pub pairs : {p : PairList} → by ≡ Pairs p → Linked p
+
+-- what stands at `term`, under the bets of the first `above` pairs, which are fewer, is t
+pub record BoundTo (p : PairList) (t : Term) (term above : ℕ) : Type 0 where
+  pub fewer : above < length p.entries.now
+  pub table : PairTable p.event.now p.entries.now above
+  pub on : On (traverse p.event.now term 1 0)
+  pub bytes : traversal_bytes (under table.bets) (traverse p.event.now term 1 0) ≡ term_bytes t
+
+-- what a look for the value t of a variable finds among the pairs
+pub record ValueFound (p : PairList) (t : Term) (r : Bound) : Type 0 where
   pub free : {x : ℕ} → r ≡ Free x → t ≡ var x
-  pub bound : {k : ℕ} → r ≡ To k → BoundTo s table firsts i t k
+  pub bound : {term above : ℕ} → r ≡ To term above → BoundTo p t term above
 
 -- how many pairs are left
 abbrev pub pairs_left : Replacing → ℕ
-pairs_left (Pairs i) = i
-pairs_left (Numbered k m) = 0
+pairs_left (Pairs p) = length p.entries.now
+pairs_left (Numbered n) = 0

@@ -1,5 +1,5 @@
 -- Laws of the value service: what the gate's number and the places of an event's parts give it, and how each of its answers is delivered.
-use Rattle.std.specs.Prelude.{◌≡◌, refl, List, ℕ, ◌+◌, ◌-◌, ◌≤◌, ◌<◌, length}
+use Rattle.std.specs.Prelude.{◌≡◌, refl, List, ℕ, ◌+◌, ◌-◌, ◌≤◌, ◌<◌, length, Some, None}
 use Rattle.std.proofs.Math.Path.{ap}
 use Rattle.std.proofs.Common.{◌∙◌, arith}
 use Rattle.std.proofs.Math.Option.{Option}
@@ -22,17 +22,16 @@ use Rattle.records.specs.Ends.Range.{cut, Inside}
 use Rattle.records.specs.Ends.StandsLaws.{stands_cut, stands_inside, stands_within}
 use Rattle.records.specs.Writing.Patched.{Put}
 use Rattle.records.specs.declared.places.Places.{Places}
-use Rattle.records.specs.declared.put.Receipt.{Receipt}
+use Rattle.records.specs.Gate.Receipt.{Receipt}
 use Rattle.terms.specs.Theory.Substitution.{apply}
 use Rattle.terms.specs.Theory.SubstitutionLaws.{term_length_least}
 use Rattle.terms.specs.Theory.Outcome.{value}
 use Rattle.terms.specs.Standing.AcceptedLaws.{accepted_bets}
 use Rattle.terms.specs.Standing.BetRow.{RuledBets}
-use Rattle.terms.specs.Values.Answered.{Answered, value_refusal}
+use Rattle.terms.specs.Values.Answered.{Answered}
 use Rattle.terms.specs.Values.AnsweredLaws.{answered_fits, answered_large}
 use Rattle.terms.specs.Values.ValueService.{within_limit, value_into, value_answer, bets_of}
-use Rattle.terms.specs.declared.substitute.Sized.{Sized}
-use Rattle.terms.specs.declared.substitute.Sized.TheVariants.{Fits, TooLarge}
+use Rattle.terms.specs.Values.Sized.{Sized}
 
 -- an event that is refused
 pub value_refused : {before : List ℕ} {k : ℕ} (r : Reading Event) (v : ℕ) → k ≡ answer_number (event_door r) → (k ≡ 0 → ⊥)
@@ -49,12 +48,12 @@ value_no_room {before} o h = receipted_refused term_bytes before (room_short _ h
 
 module _ {bets : List Bet} {v : ℕ} {a : List ℕ} {r : Sized} (w : Answered bets (var v) a r) where
   -- a value that is too large
-  pub value_large : {before : List ℕ} → 32768 ≤ length before → r ≡ TooLarge
-      → Receipted term_bytes (value_into (length before) (value bets v)) before (record { number = value_refusal r; length = 0 }) before
+  pub value_large : {before : List ℕ} → 32768 ≤ length before → r ≡ None
+      → Receipted term_bytes (value_into (length before) (value bets v)) before (record { number = 8; length = 0 }) before
   unfolding value_into question_number
-  value_large {before} h e = receipted_refused term_bytes before (room_enough _ h ∙ ap within_limit (answered_large w e)) (ap value_refusal e)
+  value_large {before} h e = receipted_refused term_bytes before (room_enough _ h ∙ ap within_limit (answered_large w e)) refl
 
-  module _ {m : ℕ} (e : r ≡ Fits m) where
+  module _ {m : ℕ} (e : r ≡ Some m) where
     value_within : (0 < m) × (m ≤ length a)
     value_within = stands_within (answered_fits w e).1 (omega (arith, term_length_least (apply bets (var v))))
 

@@ -8,7 +8,7 @@ use Rattle.text.specs.Grammar.TermTree.{alone}
 use Rattle.text.specs.Parsing.Table.{name_kind, word_kind, kind, end_kind, stop_kind}
 use Rattle.text.specs.Parsing.Questions.{no_stop}
 use Rattle.text.specs.declared.tokens.Kind.{Kind}
-use Rattle.text.specs.declared.tokens.Kind.TheVariants.{Name, True, Fail, Variable, Number, Wrong}
+use Rattle.text.specs.declared.tokens.Kind.TheVariants.{Name, True, Fail, Variable, Number, Stop, Wrong, End}
 
 -- what holds of both holds of the one picked
 pub pick_by : {A : Type 0} (P : A → Type 0) (t : Bool) {x y : A} → P x → P y → P (pick t x y)
@@ -42,6 +42,15 @@ head_kind w e d = rw e (go (is_true w) (is_fail w) d)
     go true f h = never cc
     go false true h = never cc
     go false false h = refl
+
+-- a kind that is not the one asked for
+pub not_end : (k : Kind) → (k ≡ End → ⊥) → end_kind k ≡ false
+not_end End h = absurd (h refl)
+not_end _ h = refl
+
+pub not_stop : (k : Kind) → (k ≡ Stop → ⊥) → stop_kind k ≡ false
+not_stop Stop h = absurd (h refl)
+not_stop _ h = refl
 
 -- no token has the kind of the end, and only the full stop has its own
 pub token_not_end : (t : Token) → end_kind (kind t) ≡ false

@@ -12,7 +12,7 @@ use Rattle.records.specs.Format.Heads.{pick}
 use Rattle.records.specs.Gate.RecordRulesLaws.{and_both}
 use Rattle.records.specs.Ends.Range.{cut}
 use Rattle.records.specs.Ends.StandsLaws.{stands_cut}
-use Rattle.text.specs.Grammar.{blank, alphanumeric, lower, word_ends}
+use Rattle.text.specs.Grammar.{blank, alphanumeric, lower, is_word, word_ends}
 use Rattle.text.specs.Grammar.Token.{bare, functor, neck, wrong}
 use Rattle.text.specs.Parsing.KindLaws.{pick_by}
 use Rattle.text.specs.Parsing.Table.{word_kind, kind}
@@ -24,7 +24,7 @@ use Rattle.text.specs.Tokens.ClassLaws.ClassOf.{spaces, letters, brackets, marks
 use Rattle.text.specs.Tokens.Places.{starts_with, tokens_from, token_word, NextToken}
 use Rattle.text.specs.Tokens.PlacesLaws.{first_token, cut_none, stands_here, starts_within, starts_byte}
 use Rattle.text.specs.Tokens.Words.{WordEnd}
-use Rattle.text.specs.Tokens.WordsLaws.{Lettered, lettered, lower_name}
+use Rattle.text.specs.Tokens.WordsLaws.{Lettered, lettered, lower_name, letters_word}
 use Rattle.text.specs.declared.tokens.Kind.{Kind}
 use Rattle.text.specs.declared.tokens.Kind.TheVariants.{Functor, Neck, Wrong}
 
@@ -39,20 +39,23 @@ module _ (s : List ℕ) (i j : ℕ) (w : WordEnd s i j) (h : i < length s) (a : 
   first_letter : Lettered s i j
   first_letter = lettered w.word word_some
 
+  pub word_letters : is_word here ≡ true
+  word_letters = letters_word s i j first_letter
+
   lexed_word : lex (drop i s) between ≡ lex (drop j s) (inside here)
   lexed_word =
       let b : drop i s ≡ here ++ drop j s = rw (stands_cut w.word.stands) w.word.stands.bytes in
-      rw b (lex_is_word here (drop j s) (rw first_letter.all first_letter.letters))
+      rw b (lex_is_word here (drop j s) word_letters)
 
   functor_here : starts_with (drop j s) 40 ≡ true → tokens_from s i ≡ functor here ∷ tokens_from s (j + 1)
   unfolding tokens_from lex
   functor_here d = lexed_word ∙ rw (add-one, drop-cons s j 0 (starts_within s j 40 d), starts_byte s j 40 d)
 
-  pub next_functor : {k : Kind} → k ≡ pick (lower (get_or s i 0)) Functor Wrong → starts_with (drop j s) 40 ≡ true → NextToken s i (record { kind = k; from = i; to = j; next = j + 1 })
+  pub next_functor : {k : Kind} → k ≡ pick (lower (get_or s i 0)) Functor Wrong → starts_with (drop j s) 40 ≡ true → NextToken s i (record { kind = k; word = record { from = i; to = j }; next = j + 1 })
   next_functor {k} e d =
       let l = word_some in
       let m = starts_within s j 40 d in
-      first_token s i (functor here) (record { kind = k; from = i; to = j; next = j + 1 }) (functor_here d) (rw (lower_name s i j first_letter) e) refl
+      first_token s i (functor here) (record { kind = k; word = record { from = i; to = j }; next = j + 1 }) (functor_here d) (rw (lower_name s i j first_letter) e) refl
       (omega arith) (omega arith) (omega arith) (omega arith) (omega arith)
 
   word_stops : starts_with (drop j s) 40 ≡ false → word_ends (drop j s) ≡ true
@@ -64,10 +67,10 @@ module _ (s : List ℕ) (i j : ℕ) (w : WordEnd s i j) (h : i < length s) (a : 
   unfolding tokens_from
   bare_here d = lexed_word ∙ lex_word_end (drop j s) here (word_stops d)
 
-  pub next_bare : {k : Kind} → k ≡ word_kind here → starts_with (drop j s) 40 ≡ false → NextToken s i (record { kind = k; from = i; to = j; next = j })
+  pub next_bare : {k : Kind} → k ≡ word_kind here → starts_with (drop j s) 40 ≡ false → NextToken s i (record { kind = k; word = record { from = i; to = j }; next = j })
   next_bare {k} e d =
       let l = word_some in
-      first_token s i (bare here) (record { kind = k; from = i; to = j; next = j }) (bare_here d) e refl (omega arith) (omega arith) (omega arith) w.word.within l
+      first_token s i (bare here) (record { kind = k; word = record { from = i; to = j }; next = j }) (bare_here d) e refl (omega arith) (omega arith) (omega arith) w.word.within l
 
 -- a mark
 colon_alone : (s : List ℕ) → starts_with s 45 ≡ false → lex s after_colon ≡ wrong ∷ lex s between
@@ -128,9 +131,9 @@ module _ (s : List ℕ) (i : ℕ) (h : i < length s) where
   mark_here a l e = rw (add-one, drop-cons s i 0 h) (between_mark byte (drop (suc i) s) (class byte) (classified byte) a l (rw add-one at e))
 
   pub next_mark : {k : Kind} → k ≡ kind (mark_token (class byte)) → alphanumeric byte ≡ false → blank byte ≡ false → (eqb byte 58 && starts_with (drop (i + 1) s) 45) ≡ false
-      → NextToken s i (record { kind = k; from = i; to = i; next = i + 1 })
+      → NextToken s i (record { kind = k; word = record { from = i; to = i }; next = i + 1 })
   next_mark {k} q a l e =
-      first_token s i (mark_token (class byte)) (record { kind = k; from = i; to = i; next = i + 1 }) (mark_here a l e) q (cut_none s i ∙ sym (mark_word byte))
+      first_token s i (mark_token (class byte)) (record { kind = k; word = record { from = i; to = i }; next = i + 1 }) (mark_here a l e) q (cut_none s i ∙ sym (mark_word byte))
       (omega arith) (omega arith) (omega arith) (omega arith) (omega arith)
 
   neck_here : byte ≡ 58 → starts_with (drop (i + 1) s) 45 ≡ true → tokens_from s i ≡ neck ∷ tokens_from s (i + 2)
@@ -140,9 +143,9 @@ module _ (s : List ℕ) (i : ℕ) (h : i < length s) where
       let m = rw add-one at (starts_within s (i + 1) 45 d) in
       rw (n, drop-cons s i 0 h, e, drop-cons s (suc i) 0 m, rw add-one at (starts_byte s (i + 1) 45 d))
 
-  pub next_neck : (eqb byte 58 && starts_with (drop (i + 1) s) 45) ≡ true → NextToken s i (record { kind = Neck; from = i; to = i; next = i + 2 })
+  pub next_neck : (eqb byte 58 && starts_with (drop (i + 1) s) 45) ≡ true → NextToken s i (record { kind = Neck; word = record { from = i; to = i }; next = i + 2 })
   next_neck e =
       let w = and_both (eqb byte 58) (starts_with (drop (i + 1) s) 45) e in
       let m = starts_within s (i + 1) 45 w.1 in
-      first_token s i neck (record { kind = Neck; from = i; to = i; next = i + 2 }) (neck_here (eqb-true byte 58 w.0) w.1) refl (cut_none s i)
+      first_token s i neck (record { kind = Neck; word = record { from = i; to = i }; next = i + 2 }) (neck_here (eqb-true byte 58 w.0) w.1) refl (cut_none s i)
       (omega arith) (omega arith) (omega arith) (omega arith) (omega arith)

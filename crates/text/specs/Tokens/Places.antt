@@ -45,11 +45,11 @@ rest_tokens (t ∷ ts) = ts
 -- the first token from a place on
 pub record NextToken (s : List ℕ) (at : ℕ) (r : Lexeme) : Type 0 where
   pub kind_is : r.kind ≡ first_kind (tokens_from s at)
-  pub word_is : cut s (record { from = r.from; to = r.to }) ≡ first_word (tokens_from s at)
+  pub word_is : cut s r.word ≡ first_word (tokens_from s at)
   pub rest_is : tokens_from s r.next ≡ rest_tokens (tokens_from s at)
-  pub begins : at ≤ r.from
-  pub ends : r.from ≤ r.to
-  pub follows : r.to ≤ r.next
+  pub begins : at ≤ r.word.from
+  pub ends : r.word.from ≤ r.word.to
+  pub follows : r.word.to ≤ r.next
   pub within : r.next ≤ length s
   pub advances : end_kind r.kind ≡ false → at < r.next
 
@@ -58,4 +58,4 @@ pub record FirstToken (s : List ℕ) (at : ℕ) (r : Lexeme) : Type 0 where
   pub token : Token
   pub tokens : tokens_from s at ≡ token ∷ tokens_from s r.next
   pub kind_is : r.kind ≡ kind token
-  pub word_is : cut s (record { from = r.from; to = r.to }) ≡ token_word token
+  pub word_is : cut s r.word ≡ token_word token

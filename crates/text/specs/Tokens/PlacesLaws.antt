@@ -16,7 +16,7 @@ use Rattle.text.specs.declared.tokens.Lexeme.{Lexeme}
 
 -- a token of a known shape
 pub first_token : (s : List ℕ) (at : ℕ) (t : Token) (r : Lexeme) → tokens_from s at ≡ t ∷ tokens_from s r.next → r.kind ≡ kind t
-    → cut s (record { from = r.from; to = r.to }) ≡ token_word t → at ≤ r.from → r.from ≤ r.to → r.to ≤ r.next → r.next ≤ length s → at < r.next → NextToken s at r
+    → cut s r.word ≡ token_word t → at ≤ r.word.from → r.word.from ≤ r.word.to → r.word.to ≤ r.next → r.next ≤ length s → at < r.next → NextToken s at r
 first_token s at t r e k w a b c d f = record {
   kind_is = rw e k;
   word_is = rw e w;
@@ -46,7 +46,7 @@ pub cut_none : (s : List ℕ) (i : ℕ) → cut s (record { from = i; to = i }) 
 unfolding cut size
 cut_none s i = let z : i - i ≡ 0 = omega arith in rw z
 
-pub next_end : (s : List ℕ) (i : ℕ) → i ≤ length s → length s ≤ i → NextToken s i (record { kind = End; from = i; to = i; next = i })
+pub next_end : (s : List ℕ) (i : ℕ) → i ≤ length s → length s ≤ i → NextToken s i (record { kind = End; word = record { from = i; to = i }; next = i })
 unfolding tokens_from lex
 next_end s i a b = record {
   kind_is = rw (drop_of_length-le s b);
@@ -83,6 +83,6 @@ there_is_none {s} {at} {r} n e = go (tokens_from s at) n.kind_is
 pub there_is_one : {s : List ℕ} {at : ℕ} {r : Lexeme} → NextToken s at r → end_kind r.kind ≡ false → FirstToken s at r
 there_is_one {s} {at} {r} n e = go (tokens_from s at) refl n.kind_is n.word_is n.rest_is
   where
-    go : (ts : List Token) → tokens_from s at ≡ ts → r.kind ≡ first_kind ts → cut s (record { from = r.from; to = r.to }) ≡ first_word ts → tokens_from s r.next ≡ rest_tokens ts → FirstToken s at r
+    go : (ts : List Token) → tokens_from s at ≡ ts → r.kind ≡ first_kind ts → cut s r.word ≡ first_word ts → tokens_from s r.next ≡ rest_tokens ts → FirstToken s at r
     go [] q k w d = never (sym (ap end_kind k) ∙ e)
     go (t ∷ ts) q k w d = record { token = t; tokens = q ∙ ap (λ (l : List Token). t ∷ l) (sym d); kind_is = k; word_is = w }

@@ -1,25 +1,32 @@
-use native.Mathlib.Omega.{arith}
-use Rattle.records.specs.Gate.DoorLaws.{number_program, number_event, number_door, number_short}
+use Rattle.std.proofs.Common.{◌∙◌, refl, arith}
+use Rattle.std.proofs.lemmas.Result.{err_from_is_err_and}
+use Rattle.records.specs.Gate.DoorLaws.{told_program, told_event, told_door, told_short}
 use Rattle.answers.specs.Form.ServiceLaws.{begin_refused}
-use Rattle.answers.specs.Writing.OpenLaws.{number_long, number_begins}
+use Rattle.answers.specs.Writing.OpenLaws.{told_long, told_begins}
 use Rattle.answers.proofs.service.answers_door.Goals as goal
 
-pub returns-then-number-ne-DONE : goal.returns-then-number-ne-DONE
-returns-then-number-ne-DONE c = begin_refused _ _ c.args.room (number_door _ _ c.args.room (number_program _ _ c.program_door-number.ensures (λ e. omega arith)) (λ e. omega arith)) (λ e. omega arith)
+pub returns-in_err-program_door : goal.returns-in_err-program_door
+returns-in_err-program_door c =
+    let r = err_from_is_err_and c.from_residual.result c.from_residual.ensures.1 in
+    rw (r.1, r.2) (begin_refused _ _ c.args.room (told_door _ _ c.args.room (told_program _ _ c.program_door.ensures c.in_err-program_door.was) refl) refl)
 
-pub returns-then-refused-ne-DONE : goal.returns-then-refused-ne-DONE
-returns-then-refused-ne-DONE c =
-    let room = c.args.room in
-    begin_refused _ _ room (number_door _ _ room (number_event _ _ c.program_door-number.ensures (omega arith) c.query_door-refused.ensures) (λ e. omega arith)) (λ e. omega arith)
+pub returns-in_err-query_door : goal.returns-in_err-query_door
+returns-in_err-query_door c =
+    let r = err_from_is_err_and c.from_residual-in_err-query_door.result c.from_residual-in_err-query_door.ensures.1 in
+    let both = c.query_door.ensures ∙ told_event _ _ c.program_door.ensures c.in_ok-program_door.was in
+    rw (r.1, r.2) (begin_refused _ _ c.args.room (told_door _ _ c.args.room both c.in_err-query_door.was) refl)
 
 pub returns-then-room-lt-RECORD_LIMIT : goal.returns-then-room-lt-RECORD_LIMIT
 returns-then-room-lt-RECORD_LIMIT c =
-    begin_refused _ _ c.args.room (number_short _ _ (number_event _ _ c.program_door-number.ensures (omega arith) c.query_door-refused.ensures) (omega arith) (omega arith)) (λ e. omega arith)
+    let both = c.query_door.ensures ∙ told_event _ _ c.program_door.ensures c.in_ok-program_door.was in
+    begin_refused _ _ c.args.room (told_short _ _ c.args.room both c.in_ok-query_door.was (omega arith)) refl
 
 pub returns-then-query-gt-RECORD_LIMIT : goal.returns-then-query-gt-RECORD_LIMIT
 returns-then-query-gt-RECORD_LIMIT c =
-    number_long _ _ c.args.room c.type_inv.query (number_event _ _ c.program_door-number.ensures (omega arith) c.query_door-refused.ensures) (omega arith) (omega arith) (omega arith)
+    let both = c.query_door.ensures ∙ told_event _ _ c.program_door.ensures c.in_ok-program_door.was in
+    told_long _ _ c.args.room c.type_inv.query both c.in_ok-query_door.was (omega arith) (omega arith)
 
-pub returns-else-query-gt-RECORD_LIMIT : goal.returns-else-query-gt-RECORD_LIMIT
-returns-else-query-gt-RECORD_LIMIT c =
-    number_begins _ _ c.args.room c.type_inv.query (number_event _ _ c.program_door-number.ensures (omega arith) c.query_door-refused.ensures) (omega arith) (omega arith) (omega arith)
+pub returns : goal.returns
+returns c =
+    let both = c.query_door.ensures ∙ told_event _ _ c.program_door.ensures c.in_ok-program_door.was in
+    told_begins _ _ c.args.room c.type_inv.query both c.in_ok-query_door.was (omega arith) (omega arith)

@@ -17,8 +17,8 @@ pub slice_bounds-table-end : goal.slice_bounds-table-end
 slice_bounds-table-end c =
     (table_front _ _ _ c.type_inv.query c.requires.0 c.requires.1 (c.list_variables-n.ensures _ (query_reads _ _ _ c.type_inv.query c.requires.0 c.requires.1)) (search rules)).1
 
-pub slice_bounds-listed_answers-end : goal.slice_bounds-listed_answers-end
-slice_bounds-listed_answers-end c = sym (length-take-le _ _ (table_front _ _ _ c.type_inv.query c.requires.0 c.requires.1 (c.list_variables-n.ensures _ (query_reads _ _ _ c.type_inv.query c.requires.0 c.requires.1)) (search rules)).1)
+pub slice_bounds-walk-end : goal.slice_bounds-walk-end
+slice_bounds-walk-end c = sym (length-take-le _ _ (table_front _ _ _ c.type_inv.query c.requires.0 c.requires.1 (c.list_variables-n.ensures _ (query_reads _ _ _ c.type_inv.query c.requires.0 c.requires.1)) (search rules)).1)
 
 pub listed_answers-requires : goal.listed_answers-requires
 listed_answers-requires c = let reads = query_reads _ _ _ c.type_inv.query c.requires.0 c.requires.1 in

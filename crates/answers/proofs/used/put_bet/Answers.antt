@@ -4,13 +4,6 @@ use Rattle.records.specs.Ends.RangeLaws.{length_cut}
 use Rattle.records.specs.Writing.PatchedLaws.{put_none}
 use Rattle.answers.proofs.used.put_bet.Goals as goal
 
-pub overflow_sub-from-then-is_used : goal.overflow_sub-from-then-is_used
-overflow_sub-from-then-is_used c = let room = rw (← c.is_used.ensures, c.if-is_used.true) at c.requires.at_bound in omega arith
-
-pub put_range-requires : goal.put_range-requires
-put_range-requires c = let room = rw (← c.is_used.ensures, c.if-is_used.true) at c.requires.at_bound in
-    record { inside = c.requires.inside; from_in_bounds = omega arith }
-
 pub returns-then-is_used : goal.returns-then-is_used
 unfolding size
 returns-then-is_used c =

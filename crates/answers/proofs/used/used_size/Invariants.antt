@@ -4,9 +4,6 @@ use Rattle.terms.specs.Standing.Frames.{BetsAt}
 use Rattle.answers.specs.Writing.UsedLaws.{UsedSoFar}
 use Rattle.answers.proofs.used.used_size.Given as goal
 
-abbrev pub invariant-loop-left : goal.invariant-loop-left
-invariant-loop-left l =
-    ((b : BetsAt l.event l.at l.n) → UsedSoFar l.event b.items l.pos l.left l.size) × (l.size.count + (length l.event - l.pos) ≤ length l.event) × (l.size.length + (length l.event - l.pos) ≤ length l.event)
-
-abbrev pub decreases-loop-left : goal.decreases-loop-left
-decreases-loop-left l = l.left
+abbrev pub invariant-loop : goal.invariant-loop
+invariant-loop l =
+    ((b : BetsAt l.event l.at l.n) → UsedSoFar l.event b.items l.pos (l.n - l.counter) l.size) × (l.size.count + (length l.event - l.pos) ≤ length l.event) × (l.size.length + (length l.event - l.pos) ≤ length l.event)

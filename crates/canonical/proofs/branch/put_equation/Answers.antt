@@ -21,7 +21,7 @@ pub write_renamed-requires : goal.write_renamed-requires
 write_renamed-requires c = let long = equation_length c.args.x (renamed c.args.base (traverse c.args.s.now c.args.pos 1 0)) in
     let part = c.put_part-left_at.ensures in
     let name = c.write_variable-right_at.ensures in
-    record { on = c.requires.on; m_bound = c.requires.base_bound; goals_in_bounds = omega (arith, c.requires.pos_in_bounds, long, part.place, put_length part, name.place, put_length name) }
+    record { on = rw c.term.ensures c.requires.on; m_bound = c.requires.base_bound; goals_in_bounds = rw c.term.ensures (omega (arith, c.requires.pos_in_bounds, long, part.place, put_length part, name.place, put_length name)) }
 
 pub returns : goal.returns
-returns c = equation_put _ c.put_part-left_at.ensures c.write_variable-right_at.ensures c.write_renamed.ensures
+returns c = equation_put _ c.put_part-left_at.ensures c.write_variable-right_at.ensures (rw c.term.ensures at c.write_renamed.ensures)

@@ -2,8 +2,8 @@
 use Rattle.canonical.specs.Sorting.EntryLaws.{head_read, head_unread}
 use Rattle.canonical.proofs.definition.clause_variables.Goals as goal
 
-pub returns-in-Predicate : goal.returns-in-Predicate
-returns-in-Predicate c = (head_read c.requires c.clause_head.ensures c.in-Predicate.is).2
+pub returns-in-Some : goal.returns-in-Some
+returns-in-Some c = (head_read c.requires c.clause_head.ensures c.in-Some.is).2
 
-pub returns-in-NoPredicate : goal.returns-in-NoPredicate
-returns-in-NoPredicate c = head_unread c.requires c.clause_head.ensures c.in-NoPredicate.is
+pub returns-in-None : goal.returns-in-None
+returns-in-None c = head_unread c.requires c.clause_head.ensures c.in-None.is

@@ -4,26 +4,11 @@ use Rattle.records.specs.Writing.PatchedLaws.{put_length}
 use Rattle.canonical.specs.Writing.ReplyLaws.{program_measured, put_program}
 use Rattle.canonical.proofs.program.put_record.Goals as goal
 
-pub overflow_add-size : goal.overflow_add-size
-overflow_add-size c = omega (arith, c.requires.size_bound)
-
-pub put_record_head-count_at-requires : goal.put_record_head-count_at-requires
-put_record_head-count_at-requires c = (omega arith, omega (arith, c.requires.in_bounds))
-
-pub put_word-first-requires : goal.put_word-first-requires
-put_word-first-requires c =
-    let head = c.put_record_head-count_at.ensures in
-    omega (arith, c.requires.in_bounds, head.place, put_length head)
-
 pub put_definitions-requires : goal.put_definitions-requires
-put_definitions-requires c = let m = program_measured _ c.requires.size_value in
+put_definitions-requires c = let m = program_measured _ c.requires.survey_value in
     let head = c.put_record_head-count_at.ensures in
     let count = c.put_word-first.ensures in
     record { remaining = c.requires.remaining; s_value = m.fit; s_in_bounds = omega (arith, m.sizes, c.requires.size_bound, head.place, put_length head, count.place, put_length count) }
 
-pub shape_of-out : goal.shape_of-out
-shape_of-out c =
-    put_length (put_program (program_measured _ c.requires.size_value) c.put_record_head-count_at.ensures c.put_word-first.ensures c.put_definitions.ensures)
-
 pub returns : goal.returns
-returns c = put_program (program_measured _ c.requires.size_value) c.put_record_head-count_at.ensures c.put_word-first.ensures c.put_definitions.ensures
+returns c = put_program (program_measured _ c.requires.survey_value) c.put_record_head-count_at.ensures c.put_word-first.ensures c.put_definitions.ensures

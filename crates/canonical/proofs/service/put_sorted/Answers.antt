@@ -5,8 +5,5 @@ use Rattle.canonical.proofs.service.put_sorted.Goals as goal
 pub list_clauses-requires : goal.list_clauses-requires
 list_clauses-requires c = clauses_stand _ c.type_inv.s c.requires.accepted _ c.requires.table_len
 
-pub put_program-requires : goal.put_program-requires
-put_program-requires c = record { remaining = ordered_remaining c.type_inv.s c.requires.accepted (c.list_clauses.ensures (clauses_stand _ c.type_inv.s c.requires.accepted _ c.requires.table_len)) c.sort.ensures; in_bounds = c.requires.in_bounds }
-
-pub returns : goal.returns
-returns c = c.put_program.ensures
+pub put_program-requires-clause-remaining : goal.put_program-requires-clause-remaining
+put_program-requires-clause-remaining c = ordered_remaining c.type_inv.s c.requires.accepted (c.list_clauses.ensures (clauses_stand _ c.type_inv.s c.requires.accepted _ c.requires.table_len)) c.sort.ensures.picked

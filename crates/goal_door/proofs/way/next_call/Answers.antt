@@ -1,22 +1,25 @@
-use mathlib.Core.Path.{sym, ◌∙◌}
+use mathlib.Core.Path.{sym}
 use native.Mathlib.Omega.{arith}
 use lib.Seq.{length-take-le}
+use borrow.Author.Tests.{not-true, not-false}
+use Rattle.std.proofs.Common.{ap, not, ⊎_elim}
+use Rattle.records.specs.Gate.Reply.{outcome_number}
+use Rattle.stepper.specs.Run.RunLoop.{met_case, run_outcome}
 use Rattle.stepper.specs.Plans.ViewLaws.{ends_known}
-use Rattle.goal_door.specs.Way.GoingLaws.{order_told, way_passed, taken_small, ahead_passed, turned_met, turned_refused, turned_spent}
+use Rattle.goal_door.specs.Way.GoingLaws.{way_passed, ran_ahead, taken_small, ahead_passed, turned_door, turned_on, turned_refused, turned_spent}
 use Rattle.goal_door.proofs.way.next_call.Goals as goal
 
-pub overflow_sub-left : goal.overflow_sub-left
-overflow_sub-left c = c.requires.way_stands.2.within
-
-pub run_here-r-requires : goal.run_here-r-requires
-run_here-r-requires c = let g = c.requires.way_stands.2 in
-    record { len_in_bounds = (g.inside, omega (arith, c.requires.here_len)); both_passed = way_passed g; ends_of = ends_known _ g.reads g.ends_are }
+pub way_at-standing-requires : goal.way_at-standing-requires
+way_at-standing-requires c =
+    let g = c.requires.way_stands.2 in
+    let ran = ran_ahead g c.call_order-order.ensures (c.requires.places_of.1 _ g.sought) (c.run_here-r.ensures (way_passed g)) in
+    omega (arith, c.ranges, taken_small g ran)
 
 pub slice_bounds-places_by-end : goal.slice_bounds-places_by-end
 slice_bounds-places_by-end c = let g = c.requires.way_stands.2 in (c.run_here-r.ensures (way_passed g)).inside
 
-pub slice_bounds-places_by-end-then-is_met : goal.slice_bounds-places_by-end-then-is_met
-slice_bounds-places_by-end-then-is_met c = let g = c.requires.way_stands.2 in sym (length-take-le _ _ (c.run_here-r.ensures (way_passed g)).inside)
+pub slice_bounds-places_by-end-in-Met : goal.slice_bounds-places_by-end-in-Met
+slice_bounds-places_by-end-in-Met c = let g = c.requires.way_stands.2 in sym (length-take-le _ _ (c.run_here-r.ensures (way_passed g)).inside)
 
 pub places_by-found-requires : goal.places_by-found-requires
 places_by-found-requires c = let ran = c.run_here-r.ensures (way_passed c.requires.way_stands.2) in
@@ -25,63 +28,47 @@ places_by-found-requires c = let ran = c.run_here-r.ensures (way_passed c.requir
 pub slice_bounds-is_door-end : goal.slice_bounds-is_door-end
 slice_bounds-is_door-end c = let g = c.requires.way_stands.2 in (c.run_here-r.ensures (way_passed g)).inside
 
-pub slice_bounds-is_door-end-then-is_met : goal.slice_bounds-is_door-end-then-is_met
-slice_bounds-is_door-end-then-is_met c = let g = c.requires.way_stands.2 in sym (length-take-le _ _ (c.run_here-r.ensures (way_passed g)).inside)
+pub slice_bounds-is_door-end-in-Met : goal.slice_bounds-is_door-end-in-Met
+slice_bounds-is_door-end-in-Met c = let g = c.requires.way_stands.2 in sym (length-take-le _ _ (c.run_here-r.ensures (way_passed g)).inside)
 
-pub is_door-met-requires : goal.is_door-met-requires
-is_door-met-requires c = let ran = c.run_here-r.ensures (way_passed c.requires.way_stands.2) in
-    record { places_of = c.requires.places_of; places_of_2 = (rw ran.reads tt, c.places_by-found.ensures) }
+pub is_door-requires-clause-places_of_2 : goal.is_door-requires-clause-places_of_2
+is_door-requires-clause-places_of_2 c =
+    let ran = c.run_here-r.ensures (way_passed c.requires.way_stands.2) in
+    (rw ran.reads tt, c.places_by-found.ensures)
 
-pub way_at-requires : goal.way_at-requires
-way_at-requires c =
-    let g = c.requires.way_stands.2 in
-    let places = c.requires.places_of.1 in
-    let ran = rw (c.call_order-order.ensures ∙ order_told _ (places _ g.sought)) at (c.run_here-r.ensures (way_passed g)) in
-    omega (arith, c.ranges, taken_small g ran)
-
-pub returns-then-is_met : goal.returns-then-is_met
-returns-then-is_met c =
+pub returns-then-not-is_door : goal.returns-then-not-is_door
+returns-then-not-is_door c =
     λ ds e g.
-    let places = c.requires.places_of.1 in
-    let ran = rw (c.call_order-order.ensures ∙ order_told _ (places _ g.sought)) at (c.run_here-r.ensures (way_passed g)) in
-    turned_met g ran (sym c.is_met.ensures ∙ c.if-is_met.true) (c.is_door-met.ensures _ _ g.sought ran.reads) c.way_at.ensures
+    let ran = ran_ahead g c.call_order-order.ensures (c.requires.places_of.1 _ g.sought) (c.run_here-r.ensures (way_passed g)) in
+    turned_on g ran (ap met_case c.in-Met.is) (c.is_door.ensures _ _ g.sought ran.reads) (not-true _ (ap not c.if-not-is_door.true)) c.way_at-standing.ensures
 
-pub way_at-requires-then-r-ne-DONE : goal.way_at-requires-then-r-ne-DONE
-way_at-requires-then-r-ne-DONE c =
-    let g = c.requires.way_stands.2 in
-    let places = c.requires.places_of.1 in
-    let ran = rw (c.call_order-order.ensures ∙ order_told _ (places _ g.sought)) at (c.run_here-r.ensures (way_passed g)) in
-    omega (arith, c.ranges, taken_small g ran)
-
-pub returns-then-r-ne-DONE : goal.returns-then-r-ne-DONE
-returns-then-r-ne-DONE c =
+pub returns-else-not-is_door : goal.returns-else-not-is_door
+returns-else-not-is_door c =
     λ ds e g.
-    let places = c.requires.places_of.1 in
-    let ran = rw (c.call_order-order.ensures ∙ order_told _ (places _ g.sought)) at (c.run_here-r.ensures (way_passed g)) in
-    turned_refused g ran (sym c.is_met.ensures ∙ c.if-is_met.false) c.if-r-ne-DONE.true c.way_at-then-r-ne-DONE.ensures
+    let ran = ran_ahead g c.call_order-order.ensures (c.requires.places_of.1 _ g.sought) (c.run_here-r.ensures (way_passed g)) in
+    turned_door g ran (ap met_case c.in-Met.is) (c.is_door.ensures _ _ g.sought ran.reads) (not-false _ (ap not c.if-not-is_door.false)) c.way_at-standing.ensures
 
-pub slice_bounds-next_number-end : goal.slice_bounds-next_number-end
-slice_bounds-next_number-end c = let g = c.requires.way_stands.2 in (c.run_here-r.ensures (way_passed g)).inside
+pub returns-in-Refused : goal.returns-in-Refused
+returns-in-Refused c =
+    λ ds e g.
+    let ran = ran_ahead g c.call_order-order.ensures (c.requires.places_of.1 _ g.sought) (c.run_here-r.ensures (way_passed g)) in
+    turned_refused g ran (ap met_case c.in-Refused.is) c.in-Refused.is c.way_at-standing.ensures
 
-pub slice_bounds-next_number-end-2 : goal.slice_bounds-next_number-end-2
-slice_bounds-next_number-end-2 c = let g = c.requires.way_stands.2 in sym (length-take-le _ _ (c.run_here-r.ensures (way_passed g)).inside)
+pub slice_bounds-next_refusal-end : goal.slice_bounds-next_refusal-end
+slice_bounds-next_refusal-end c = let g = c.requires.way_stands.2 in (c.run_here-r.ensures (way_passed g)).inside
 
-pub next_number-number-requires : goal.next_number-number-requires
-next_number-number-requires c = let g = c.requires.way_stands.2 in
-    let places = c.requires.places_of.1 in
-    let ran = rw (c.call_order-order.ensures ∙ order_told _ (places _ g.sought)) at (c.run_here-r.ensures (way_passed g)) in
+pub slice_bounds-next_refusal-end-in-Spent : goal.slice_bounds-next_refusal-end-in-Spent
+slice_bounds-next_refusal-end-in-Spent c = let g = c.requires.way_stands.2 in sym (length-take-le _ _ (c.run_here-r.ensures (way_passed g)).inside)
+
+pub next_refusal-requires : goal.next_refusal-requires
+next_refusal-requires c = let g = c.requires.way_stands.2 in
+    let ran = ran_ahead g c.call_order-order.ensures (c.requires.places_of.1 _ g.sought) (c.run_here-r.ensures (way_passed g)) in
     record { both_passed = ahead_passed g ran; ends_of = ends_known _ ran.reads ran.tells.ends_are }
 
-pub way_at-requires-2 : goal.way_at-requires-2
-way_at-requires-2 c =
-    let g = c.requires.way_stands.2 in
-    let places = c.requires.places_of.1 in
-    let ran = rw (c.call_order-order.ensures ∙ order_told _ (places _ g.sought)) at (c.run_here-r.ensures (way_passed g)) in
-    omega (arith, c.ranges, taken_small g ran)
-
-pub returns : goal.returns
-returns c =
+pub returns-in-Spent : goal.returns-in-Spent
+returns-in-Spent c =
     λ ds e g.
-    let places = c.requires.places_of.1 in
-    let ran = rw (c.call_order-order.ensures ∙ order_told _ (places _ g.sought)) at (c.run_here-r.ensures (way_passed g)) in
-    turned_spent g ran (sym c.is_met.ensures ∙ c.if-is_met.false) c.if-r-ne-DONE.false (c.next_number-number.ensures (ahead_passed g ran)) c.way_at-2.ensures
+    let ran = ran_ahead g c.call_order-order.ensures (c.requires.places_of.1 _ g.sought) (c.run_here-r.ensures (way_passed g)) in
+    let unmet = ⊎_elim (λ h. ap met_case h) (λ h. ap met_case h) c.in-Spent.is in
+    let done = ⊎_elim (λ h. ap (λ s. outcome_number (run_outcome s)) h) (λ h. ap (λ s. outcome_number (run_outcome s)) h) c.in-Spent.is in
+    turned_spent g ran unmet done (c.next_refusal.ensures (ahead_passed g ran)) c.way_at-standing.ensures

@@ -7,4 +7,4 @@ pub primary-requires : goal.primary-requires
 primary-requires c = let p = c.push_variable-next.ensures in rw c.placed.ensures (omega (arith, p.keeps, p.lower, c.requires))
 
 pub returns : goal.returns
-returns c = λ a counts brackets. turns_as (goal_variable_cell a _) (turns_then (turns_bytes counts brackets c.push_variable-next.ensures c.placed.ensures) (c.primary.ensures counts brackets))
+returns c = λ a counts brackets. turns_as (goal_variable_cell a _) (turns_then (turns_bytes counts brackets (rw c.from.ensures at c.push_variable-next.ensures) c.placed.ensures) (c.primary.ensures counts brackets))

@@ -7,4 +7,4 @@ pub returns-then-e-eq0 : goal.returns-then-e-eq0
 returns-then-e-eq0 c = λ out counts. turns_reopened_none out c.if-e-eq0.true refl
 
 pub returns : goal.returns
-returns c = λ out counts. turns_reopened out (omega (arith, c.if-e-eq0.false)) refl refl
+returns c = λ out counts. turns_reopened out (omega (arith, c.if-e-eq0.false)) refl

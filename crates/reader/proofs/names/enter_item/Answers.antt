@@ -1,5 +1,5 @@
--- `enter_item` goes by the number of the role.
 use mathlib.Core.Path.{sym, ◌∙◌}
+use Rattle.reader.specs.Names.NodeLaws.{full_marks}
 use Rattle.reader.specs.Names.NamingLaws.{entered_none}
 use Rattle.reader.proofs.names.enter_item.Goals as goal
 
@@ -7,4 +7,4 @@ pub returns-then-takes_name : goal.returns-then-takes_name
 returns-then-takes_name c = rw (sym c.takes_name.ensures ∙ c.if-takes_name.true) c.enter_name.ensures
 
 pub returns : goal.returns
-returns c = rw (sym c.takes_name.ensures ∙ c.if-takes_name.false) (entered_none c.requires.filled.0 c.requires.filled.1)
+returns c = rw (sym c.takes_name.ensures ∙ c.if-takes_name.false) (entered_none c.args.trie.now.filled (full_marks _ c.args.trie.now.filled.full))

@@ -1,13 +1,8 @@
-use mathlib.Core.Path.{◌≡◌}
-use Prim.Native.Nat.{◌+◌, ◌-◌, ◌≤◌}
-use lib.ListN.{drop}
+use Rattle.std.proofs.Common.{◌≡◌, ◌+◌, drop}
 use Rattle.records.specs.Ends.Range.{cut}
 use Rattle.reader.specs.Form.Meaning.{place}
 use Rattle.reader.specs.Items.Variables.{range_words}
 use Rattle.reader.proofs.variables.place_among.Given as goal
 
 abbrev pub invariant-loop-j : goal.invariant-loop-j
-invariant-loop-j l = (l.j ≤ l.n) × (place (cut l.s l.w) (range_words l.s l.starts l.ends l.n) ≡ l.j + place (cut l.s l.w) (drop l.j (range_words l.s l.starts l.ends l.n)))
-
-abbrev pub decreases-loop-j : goal.decreases-loop-j
-decreases-loop-j l = l.n - l.j
+invariant-loop-j l = place (cut l.s l.w) (range_words l.s l.met) ≡ l.j + place (cut l.s l.w) (drop l.j (range_words l.s l.met))

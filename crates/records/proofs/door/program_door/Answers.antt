@@ -1,7 +1,8 @@
-use Rattle.records.specs.Gate.Gate.{program_number}
-use Rattle.records.specs.Gate.DoorLaws.{program_door_number}
-use mathlib.Core.Path.{ap, ◌∙◌}
+use Rattle.records.specs.Gate.DoorLaws.{program_told, program_passed}
 use Rattle.records.proofs.door.program_door.Goals as goal
 
-pub returns : goal.returns
-returns c = c.program_number.ensures ∙ ap program_number c.program_verdict.ensures ∙ program_door_number _
+pub returns-in-Ok : goal.returns-in-Ok
+returns-in-Ok c = program_passed _ c.program_verdict.ensures c.in-Ok.is
+
+pub returns-in-Err : goal.returns-in-Err
+returns-in-Err c = program_told _ c.program_verdict.ensures c.in-Err.is

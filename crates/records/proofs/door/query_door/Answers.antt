@@ -1,7 +1,8 @@
-use Rattle.records.specs.Gate.Gate.{event_number}
-use Rattle.records.specs.Gate.DoorLaws.{event_door_number}
-use mathlib.Core.Path.{ap, ◌∙◌}
+use Rattle.records.specs.Gate.DoorLaws.{event_told, event_passed}
 use Rattle.records.proofs.door.query_door.Goals as goal
 
-pub returns : goal.returns
-returns c = c.event_number.ensures ∙ ap event_number c.query_verdict.ensures ∙ event_door_number _
+pub returns-in-Ok : goal.returns-in-Ok
+returns-in-Ok c = event_passed _ c.query_verdict.ensures c.in-Ok.is
+
+pub returns-in-Err : goal.returns-in-Err
+returns-in-Err c = event_told _ c.query_verdict.ensures c.in-Err.is

@@ -1,8 +1,9 @@
 use Rattle.records.proofs.EndSteps.{parts_more, parts_stop}
+use mathlib.Core.Path.{◌∙◌}
 use Rattle.records.proofs.ends.parts_end.Goals as goal
 
-pub returns-in-At : goal.returns-in-At
-returns-in-At c = parts_more _ _ c.type_inv.s _ c.args_end.ensures _ c.in-At.is c.goals_end.ensures
+pub returns-in_err-args_end : goal.returns-in_err-args_end
+returns-in_err-args_end c = c.from_residual.ensures ∙ parts_stop _ _ c.type_inv.s _ c.args_end.ensures _ c.in_err-args_end.was
 
-pub returns-in-Nothing : goal.returns-in-Nothing
-returns-in-Nothing c = parts_stop _ _ c.type_inv.s _ c.args_end.ensures _ c.in-Nothing.is
+pub returns : goal.returns
+returns c = parts_more _ _ c.type_inv.s _ c.args_end.ensures _ c.in_ok-args_end.was c.goals_end.ensures

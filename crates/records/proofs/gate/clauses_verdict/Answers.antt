@@ -1,26 +1,20 @@
-use Rattle.records.specs.Gate.RowsLaws.{ends_at}
+use mathlib.Core.Path.{sym, ap, ◌∙◌}
+use Rattle.std.proofs.lemmas.Result.{err_from_is_err_and}
+use Rattle.records.specs.Gate.OutcomeLaws.{chosen_some, chosen_none}
+use Rattle.std.specs.Prelude.{Err}
 use Rattle.records.specs.Gate.GateEndsLaws.{refuses}
+use Rattle.records.specs.Gate.RowsLaws.{ends_at}
 use Rattle.records.specs.Gate.CountedEndsLaws.{clauses_unread, clauses_judged}
-use mathlib.Core.Path.{sym, ◌∙◌}
 use Rattle.records.proofs.gate.clauses_verdict.Goals as goal
 
-pub opening_of-requires : goal.opening_of-requires
-opening_of-requires c = tt
+pub returns-in_err-opening_of : goal.returns-in_err-opening_of
+returns-in_err-opening_of c = let p = err_from_is_err_and c.from_residual.result c.from_residual.ensures.1 in rw (p.1, p.2) (refuses _ _ _ c.opening_of.ensures c.in_err-opening_of.was)
 
-pub counted_end-requires : goal.counted_end-requires
-counted_end-requires c = tt
+pub returns-in_err-end : goal.returns-in_err-end
+returns-in_err-end c = let p = err_from_is_err_and c.from_residual-in_err-end.result c.from_residual-in_err-end.ensures.1 in rw (p.1, p.2) (ap Err (sym (chosen_none _ c.ok_or.ensures.value c.in_err-end.was).1) ∙ clauses_unread _ c.opening_of.ensures c.in_ok-opening_of.was c.counted_end.ensures (chosen_none _ c.ok_or.ensures.value c.in_err-end.was).0)
 
 pub counted_kept-requires : goal.counted_kept-requires
-counted_kept-requires c = ends_at (sym c.counted_end.ensures ∙ c.in-At.is)
+counted_kept-requires c = ends_at (sym c.counted_end.ensures ∙ (chosen_some _ c.ok_or.ensures.value c.in_ok-end.was))
 
-pub judged-requires : goal.judged-requires
-judged-requires c = tt
-
-pub returns-in-At : goal.returns-in-At
-returns-in-At c = clauses_judged _ c.opening_of.ensures c.in-Open.is c.counted_end.ensures c.in-At.is c.counted_kept.ensures c.judged.ensures
-
-pub returns-in-Nothing : goal.returns-in-Nothing
-returns-in-Nothing c = clauses_unread _ c.opening_of.ensures c.in-Open.is c.counted_end.ensures c.in-Nothing.is
-
-pub returns-in-Refused : goal.returns-in-Refused
-returns-in-Refused c = refuses _ _ _ c.opening_of.ensures c.in-Refused.is
+pub returns : goal.returns
+returns c = clauses_judged _ c.opening_of.ensures c.in_ok-opening_of.was c.counted_end.ensures (chosen_some _ c.ok_or.ensures.value c.in_ok-end.was) c.counted_kept.ensures c.judged.ensures

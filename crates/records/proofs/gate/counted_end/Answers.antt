@@ -1,21 +1,15 @@
-use Rattle.records.specs.Gate.CountedEndsLaws.{row_end, no_row}
-use Rattle.records.specs.declared.heads.Word.TheVariants.{Number}
-use Rattle.records.specs.Ends.HeadRoomLaws.{word_room}
+use Rattle.std.specs.Prelude.{Some}
 use mathlib.Core.Path.{◌∙◌}
 use native.Mathlib.Omega.{arith}
+use Rattle.records.specs.Gate.CountedEndsLaws.{row_end, no_row}
+use Rattle.records.specs.Ends.HeadRoomLaws.{word_room}
 use Rattle.records.proofs.gate.counted_end.Goals as goal
 
-pub word_at-requires : goal.word_at-requires
-word_at-requires c = tt
+pub returns-in_err-n : goal.returns-in_err-n
+returns-in_err-n c = c.from_residual.ensures ∙ no_row _ _ c.word_at.ensures _ c.in_err-n.was
 
 pub overflow_add-at : goal.overflow_add-at
-overflow_add-at c = omega (arith, word_room _ _ c.type_inv.s c.word_at.ensures (Number _) c.in-Number.is)
+overflow_add-at c = omega (arith, word_room _ _ c.type_inv.s c.word_at.ensures (Some _) c.in_ok-n.was)
 
-pub items_end-requires : goal.items_end-requires
-items_end-requires c = tt
-
-pub returns-in-Number : goal.returns-in-Number
-returns-in-Number c = c.items_end.ensures ∙ row_end _ _ c.word_at.ensures _ c.in-Number.is
-
-pub returns-in-Short : goal.returns-in-Short
-returns-in-Short c = no_row _ _ c.word_at.ensures _ c.in-Short.is
+pub returns : goal.returns
+returns c = c.items_end.ensures ∙ row_end _ _ c.word_at.ensures _ c.in_ok-n.was

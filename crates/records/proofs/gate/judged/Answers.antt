@@ -9,5 +9,5 @@ returns-then-e-s c = more_bytes _ _ _ (omega arith)
 pub returns-then-kept : goal.returns-then-kept
 returns-then-kept c = last_byte _ _ _ true (omega arith) c.if-kept.true
 
-pub returns : goal.returns
-returns c = last_byte _ _ _ false (omega arith) c.if-kept.false
+pub returns-else-kept : goal.returns-else-kept
+returns-else-kept c = last_byte _ _ _ false (omega arith) c.if-kept.false

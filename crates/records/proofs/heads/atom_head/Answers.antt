@@ -8,5 +8,5 @@ returns-then-s-at-lt3 c = short_atom _ _ (omega arith)
 pub returns-then-k-le-ARITY_LIMIT : goal.returns-then-k-le-ARITY_LIMIT
 returns-then-k-le-ARITY_LIMIT c = atom_at _ _ _ _ (omega arith) (omega arith) (omega arith) (omega arith)
 
-pub returns : goal.returns
-returns c = large_atom _ _ (omega arith) (omega arith)
+pub returns-else-k-le-ARITY_LIMIT : goal.returns-else-k-le-ARITY_LIMIT
+returns-else-k-le-ARITY_LIMIT c = large_atom _ _ (omega arith) (omega arith)

@@ -1,13 +1,14 @@
+use Rattle.std.specs.Prelude.{Some, None}
 use Rattle.records.proofs.HeadBytes.{clause_at}
 use borrow.Author.Tests.{le-leb, lt-leb}
-use Rattle.records.specs.declared.heads.Signature.TheVariants.{Predicate, NoPredicate}
+use mathlib.Core.Path.{◌∙◌}
 use Rattle.records.proofs.heads.clause_head.Goals as goal
 
-pub returns-then-v-le64 : goal.returns-then-v-le64
-returns-then-v-le64 c = let w : _ = clause_at _ _ c.definition_head.ensures (Predicate _ _ _) c.in-Predicate.is in rw (le-leb _ 64 c.if-v-le64.true) at w
+pub returns-in_err-signature : goal.returns-in_err-signature
+returns-in_err-signature c = c.from_residual.ensures ∙ clause_at _ _ c.definition_head.ensures None c.in_err-signature.was
 
-pub returns-else-v-le64 : goal.returns-else-v-le64
-returns-else-v-le64 c = let w : _ = clause_at _ _ c.definition_head.ensures (Predicate _ _ _) c.in-Predicate.is in rw (lt-leb _ 64 c.if-v-le64.false) at w
+pub returns-then-signature-le-VARIABLE_LIMIT : goal.returns-then-signature-le-VARIABLE_LIMIT
+returns-then-signature-le-VARIABLE_LIMIT c = let w : _ = clause_at _ _ c.definition_head.ensures (Some _) c.in_ok-signature.was in rw (le-leb _ 64 c.if-signature-le-VARIABLE_LIMIT.true) at w
 
-pub returns-in-NoPredicate : goal.returns-in-NoPredicate
-returns-in-NoPredicate c = clause_at _ _ c.definition_head.ensures NoPredicate c.in-NoPredicate.is
+pub returns-else-signature-le-VARIABLE_LIMIT : goal.returns-else-signature-le-VARIABLE_LIMIT
+returns-else-signature-le-VARIABLE_LIMIT c = let w : _ = clause_at _ _ c.definition_head.ensures (Some _) c.in_ok-signature.was in rw (lt-leb _ 64 c.if-signature-le-VARIABLE_LIMIT.false) at w

@@ -5,8 +5,8 @@ use Rattle.records.proofs.heads.definition_head.Goals as goal
 pub returns-then-room-lt4 : goal.returns-then-room-lt4
 returns-then-room-lt4 c = short_definition _ _ (omega arith)
 
-pub returns-then-k-le-ARITY_LIMIT : goal.returns-then-k-le-ARITY_LIMIT
-returns-then-k-le-ARITY_LIMIT c = definition_at _ _ _ _ _ (omega arith) (omega arith) (omega arith) (omega arith) (omega arith)
+pub returns-then-signature-le-ARITY_LIMIT : goal.returns-then-signature-le-ARITY_LIMIT
+returns-then-signature-le-ARITY_LIMIT c = definition_at _ _ _ _ _ (omega arith) (omega arith) (omega arith) (omega arith) (omega arith)
 
-pub returns : goal.returns
-returns c = large_definition _ _ (omega arith) (omega arith)
+pub returns-else-signature-le-ARITY_LIMIT : goal.returns-else-signature-le-ARITY_LIMIT
+returns-else-signature-le-ARITY_LIMIT c = large_definition _ _ (omega arith) (omega arith)

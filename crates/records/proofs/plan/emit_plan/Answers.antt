@@ -7,12 +7,11 @@ pub returns-then-out-lt-RECORD_LIMIT : goal.returns-then-out-lt-RECORD_LIMIT
 returns-then-out-lt-RECORD_LIMIT c = emitted_short _ c.if-out-lt-RECORD_LIMIT.true
 
 pub returns-then-n-gt-RECORD_LIMIT : goal.returns-then-n-gt-RECORD_LIMIT
-returns-then-n-gt-RECORD_LIMIT c =
-    emitted_long _ c.if-out-lt-RECORD_LIMIT.false (limited_long c.requires c.measure_plan-n.ensures c.if-n-gt-RECORD_LIMIT.true)
+returns-then-n-gt-RECORD_LIMIT c = emitted_long _ c.if-out-lt-RECORD_LIMIT.false (limited_long c.requires c.measure_plan-n.ensures c.if-n-gt-RECORD_LIMIT.true)
 
 pub returns : goal.returns
 unfolding planned
 returns c =
     let e = limited_whole c.requires c.measure_plan-n.ensures c.if-n-gt-RECORD_LIMIT.false in
-    let put = put_record e c.put_record_head-body_at.ensures c.put_body-end.ensures in
+    let put = put_record e c.put_record_head-body_at.ensures c.put_body.ensures in
     emitted_whole c.if-out-lt-RECORD_LIMIT.false (rw e at c.if-n-gt-RECORD_LIMIT.false) put

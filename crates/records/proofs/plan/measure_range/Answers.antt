@@ -1,11 +1,8 @@
-use native.Mathlib.Omega.{arith}
+use Rattle.std.proofs.Common.{ap, ◌∙◌}
 use Rattle.records.specs.Ends.Range.{size}
+use Rattle.records.specs.Writing.Plan.{limited}
 use Rattle.records.proofs.plan.measure_range.Goals as goal
 
-pub returns-then-range : goal.returns-then-range
+pub returns : goal.returns
 unfolding size
-returns-then-range c = omega arith
-
-pub returns-else-range : goal.returns-else-range
-unfolding size
-returns-else-range c = omega arith
+returns c = c.limit.ensures ∙ ap limited c.saturating_sub.ensures

@@ -5,8 +5,8 @@ use mathlib.Core.Path.{◌≡◌}
 use Prim.Native.Nat.{◌-◌}
 use Rattle.records.proofs.rules.avoids.Given as goal
 
-abbrev pub invariant-loop-x : goal.invariant-loop-x
-invariant-loop-x l = On (traverse_from l.s l.c) × (unmarked l.marks (met (traverse_from l.s l.initial.c)) ≡ unmarked l.marks (met (traverse_from l.s l.c)))
+abbrev pub invariant-loop-step : goal.invariant-loop-step
+invariant-loop-step l = On (traverse_from l.s l.c) × (unmarked l.marks.words (met (traverse_from l.s l.initial.c)) ≡ unmarked l.marks.words (met (traverse_from l.s l.c)))
 
-abbrev pub decreases-loop-x : goal.decreases-loop-x
-decreases-loop-x l = length l.s - l.c.pos
+abbrev pub decreases-loop-step : goal.decreases-loop-step
+decreases-loop-step l = length l.s - l.c.pos

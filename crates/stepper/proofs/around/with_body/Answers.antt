@@ -12,14 +12,14 @@ unfolding size
 put_range-length-requires c = let o = c.requires.in_order in
     let head = c.put_event_head-body_at.ensures in
     let count = c.put_word-atom_at.ensures in
-    let atom = c.put_range-behind_at.ensures in
+    let atom = rw c.whole.ensures at c.put_range-behind_at.ensures in
     record { inside = stacks_inside o; from_in_bounds = omega (arith, c.requires.n_len_bound, c.requires.in_bounds, put_length head, put_length count, put_length atom, length_cut (atom_inside o)) }
 
-pub overflow_add-ends : goal.overflow_add-ends
-overflow_add-ends c = let o = c.requires.in_order in omega (arith, c.requires.n_len_bound)
+pub overflow_add-result : goal.overflow_add-result
+overflow_add-result c = let o = c.requires.in_order in omega (arith, c.requires.n_len_bound)
 
-pub overflow_add-ends-2 : goal.overflow_add-ends-2
-overflow_add-ends-2 c = let o = c.requires.in_order in omega (arith, c.requires.n_len_bound)
+pub overflow_add-result-2 : goal.overflow_add-result-2
+overflow_add-result-2 c = let o = c.requires.in_order in omega (arith, c.requires.n_len_bound)
 
 pub shape_of-out : goal.shape_of-out
 shape_of-out c =
@@ -28,4 +28,4 @@ shape_of-out c =
 pub returns : goal.returns
 unfolding body_front body_back
 returns c =
-    completed c.accepted.ensures c.put_event_head-body_at.ensures (put_then c.put_word-atom_at.ensures (put_then c.put_range-behind_at.ensures c.put_range-length.ensures))
+    completed c.put_event_head-body_at.ensures (put_then c.put_word-atom_at.ensures (put_then (rw c.whole.ensures at c.put_range-behind_at.ensures) c.put_range-length.ensures))

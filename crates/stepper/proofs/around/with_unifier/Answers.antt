@@ -30,7 +30,7 @@ put_range-length-requires c = let o = c.requires.in_order in
     let head = c.put_event_head-goal_at.ensures in
     let ahead = c.put_range-count_at.ensures in
     let top = c.put_unifier_top-unifier_at.ensures in
-    record { inside = behind_inside o; from_in_bounds = omega (arith, c.requires.n_len_bound, c.requires.in_bounds, put_length head, put_length ahead, put_length top, length_cut (ahead_inside o)) }
+    rw c.items.ensures (record { inside = behind_inside o; from_in_bounds = omega (arith, c.requires.n_len_bound, c.requires.in_bounds, put_length head, put_length ahead, put_length top, length_cut (ahead_inside o)) })
 
 pub shape_of-out : goal.shape_of-out
 shape_of-out c =
@@ -39,4 +39,4 @@ shape_of-out c =
 pub returns : goal.returns
 unfolding unifier_front unifier_back
 returns c =
-    completed c.accepted.ensures (put_then c.put_event_head-goal_at.ensures (put_then c.put_range-count_at.ensures c.put_unifier_top-unifier_at.ensures)) c.put_range-length.ensures
+    completed (put_then c.put_event_head-goal_at.ensures (put_then c.put_range-count_at.ensures c.put_unifier_top-unifier_at.ensures)) (rw c.items.ensures at c.put_range-length.ensures)

@@ -10,4 +10,4 @@ pub bounds-log-at-3 : goal.bounds-log-at-3
 bounds-log-at-3 c = simp length-set (omega arith)
 
 pub returns : goal.returns
-returns c = three_set _ _ _ _ _
+returns c = rw c.from.ensures (three_set _ _ _ _ _)

@@ -17,7 +17,7 @@ part_ends-ends-requires c =
 
 pub run_on-r-requires : goal.run_on-r-requires
 run_on-r-requires c = let short = event_short _ c.type_inv.event c.requires.both_passed.reads in
-    record { run_stands = standing_put c.args.order c.args.log.now c.type_inv.event c.requires.both_passed (omega arith) c.put_part-length.ensures c.part_ends-ends.ensures c.started-first.ensures; taken_le_steps = rw c.started-first.ensures (omega arith); in_bounds = search rules; in_bounds_2 = search rules }
+    record { run_stands = standing_put c.args.order c.args.log.now c.type_inv.event c.requires.both_passed (omega arith) c.put_part-length.ensures c.part_ends-ends.ensures c.started-first.ensures; taken_le_steps = rw c.started-first.ensures (omega arith); in_bounds = search rules }
 
 pub slice_bounds-here-end : goal.slice_bounds-here-end
 slice_bounds-here-end c =

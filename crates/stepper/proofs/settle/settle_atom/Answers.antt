@@ -1,55 +1,60 @@
 use native.Mathlib.Omega.{arith}
+use Rattle.std.specs.Prelude.{◌≡◌, Some, None, Ok}
+use Rattle.std.proofs.Common.{◌∙◌, ap}
+use Rattle.std.proofs.lemmas.Result.{err_from_is_err_and}
 use Rattle.terms.specs.Standing.AcceptedLaws.{accepted_program}
+use Rattle.terms.specs.Body.BodyBytes.{as_refusal}
 use Rattle.stepper.specs.Step.CompletedLaws.{lent_kept, handed_room}
-use Rattle.stepper.specs.Step.AtomStepLaws.{goal_atom, undefined_within, atom_order, atom_beyond, atom_missing, body_room, atom_defined, atom_long, body_told_as}
+use Rattle.stepper.specs.Step.AtomStepLaws.{goal_atom, undefined_within, atom_order, atom_missing, body_room, atom_defined, atom_refused, body_told_as}
 use Rattle.stepper.proofs.settle.settle_atom.Goals as goal
 
-pub gap-part-requires : goal.gap-part-requires
-gap-part-requires c = let o = atom_order c.type_inv.event c.requires.atom_viewed in omega arith
+pub gap-from-requires : goal.gap-from-requires
+gap-from-requires c = let o = atom_order c.type_inv.event c.requires.atom_viewed in omega arith
 
-pub atom_body-answer-requires : goal.atom_body-answer-requires
-atom_body-answer-requires c = let d = c.requires.program_read in
+pub atom_body-requires : goal.atom_body-requires
+atom_body-requires c =
+    let d = c.requires.program_read in
     record { program_at = accepted_program _ c.type_inv.program d.definitions d.reads; atom_at = rw c.goal_frame.ensures (goal_atom c.type_inv.event c.requires.atom_viewed) }
 
+pub returns-in_err-body : goal.returns-in_err-body
+returns-in_err-body c =
+    λ d w p q up dp.
+    let g = c.gap-from.ensures in
+    let l = c.requires.in_bounds in
+    let h = body_told_as ((rw c.goal_frame.ensures at c.atom_body.ensures) (accepted_program _ c.type_inv.program d.definitions d.reads) (goal_atom c.type_inv.event w)) c.in_err-body.was in
+    let r = err_from_is_err_and c.from_residual.result c.from_residual.ensures.1 in
+    let same : r.0 ≡ as_refusal c.in_err-body.field-0.0 = r.2 in
+    rw (r.1, same) (atom_refused c.type_inv.event w p q up dp d.definitions g _ l _ h (λ e. lent_kept g _ l e))
+
 pub emit_event-requires : goal.emit_event-requires
-emit_event-requires c = let d = c.requires.program_read in
+emit_event-requires c =
+    let d = c.requires.program_read in
     let w = c.requires.atom_viewed in
     let l = c.requires.in_bounds in
-    let h = body_told_as ((rw c.goal_frame.ensures at c.atom_body-answer.ensures) (accepted_program _ c.type_inv.program d.definitions d.reads) (goal_atom c.type_inv.event w)) c.in-Undefined.is in
-    record { plan_inside = rw c.kept.ensures (undefined_within c.type_inv.event w _); in_bounds = rw (lent_kept c.gap-part.ensures _ l h.1) l }
+    let e : c.atom_body.result ≡ Ok None = c.in_ok-body.was ∙ ap Ok c.in-None.is in
+    let h = body_told_as ((rw c.goal_frame.ensures at c.atom_body.ensures) (accepted_program _ c.type_inv.program d.definitions d.reads) (goal_atom c.type_inv.event w)) e in
+    record { plan_inside = rw c.kept.ensures (undefined_within c.type_inv.event w _); in_bounds = rw (lent_kept c.gap-from.ensures _ l h.1) l }
 
 pub with_body-requires : goal.with_body-requires
-with_body-requires c = let d = c.requires.program_read in
+with_body-requires c =
+    let d = c.requires.program_read in
     let w = c.requires.atom_viewed in
     let l = c.requires.in_bounds in
-    let g = c.gap-part.ensures in
-    let h = (body_told_as ((rw c.goal_frame.ensures at c.atom_body-answer.ensures) (accepted_program _ c.type_inv.program d.definitions d.reads) (goal_atom c.type_inv.event w)) c.in-Defined.is) in
+    let g = c.gap-from.ensures in
+    let e : c.atom_body.result ≡ Ok (Some c.in-Some.n) = c.in_ok-body.was ∙ ap Ok c.in-Some.is in
+    let h = body_told_as ((rw c.goal_frame.ensures at c.atom_body.ensures) (accepted_program _ c.type_inv.program d.definitions d.reads) (goal_atom c.type_inv.event w)) e in
     record { in_order = atom_order c.type_inv.event w; n_len_bound = body_room g _ l h; in_bounds = handed_room g _ l h.put }
 
-pub returns-in-TooMany : goal.returns-in-TooMany
-returns-in-TooMany c =
-    λ d w p q up dp.
-    let h = (body_told_as ((rw c.goal_frame.ensures at c.atom_body-answer.ensures) (accepted_program _ c.type_inv.program d.definitions d.reads) (goal_atom c.type_inv.event w)) c.in-TooMany.is) in
-    rw (c.refusal.ensures, c.body_refusal.ensures, c.in-TooMany.is)
-    (atom_beyond c.type_inv.event w p q up dp d.definitions h.0 (lent_kept c.gap-part.ensures _ c.requires.in_bounds h.1))
-
-pub returns-in-Undefined : goal.returns-in-Undefined
-returns-in-Undefined c =
+pub returns-in-None : goal.returns-in-None
+returns-in-None c =
     λ d w p q up dp.
     let l = c.requires.in_bounds in
-    let h = (body_told_as ((rw c.goal_frame.ensures at c.atom_body-answer.ensures) (accepted_program _ c.type_inv.program d.definitions d.reads) (goal_atom c.type_inv.event w)) c.in-Undefined.is) in
-    atom_missing c.type_inv.event w p q up dp d.definitions h.0 (lent_kept c.gap-part.ensures _ l h.1) (rw c.kept.ensures at c.emit_event.ensures)
+    let e : c.atom_body.result ≡ Ok None = c.in_ok-body.was ∙ ap Ok c.in-None.is in
+    let h = body_told_as ((rw c.goal_frame.ensures at c.atom_body.ensures) (accepted_program _ c.type_inv.program d.definitions d.reads) (goal_atom c.type_inv.event w)) e in
+    atom_missing c.type_inv.event w p q up dp d.definitions h.0 (lent_kept c.gap-from.ensures _ l h.1) (rw c.kept.ensures at c.emit_event.ensures)
 
-pub returns-in-Defined : goal.returns-in-Defined
-returns-in-Defined c =
+pub returns-in-Some : goal.returns-in-Some
+returns-in-Some c =
     λ d w p q up dp.
-    atom_defined c.type_inv.event w p q up dp d.definitions c.gap-part.ensures _ c.requires.in_bounds (body_told_as ((rw c.goal_frame.ensures at c.atom_body-answer.ensures) (accepted_program _ c.type_inv.program d.definitions d.reads) (goal_atom c.type_inv.event w)) c.in-Defined.is) c.with_body.ensures
-
-pub returns-in-TooLong : goal.returns-in-TooLong
-returns-in-TooLong c =
-    λ d w p q up dp.
-    let l = c.requires.in_bounds in
-    let g = c.gap-part.ensures in
-    let h = (body_told_as ((rw c.goal_frame.ensures at c.atom_body-answer.ensures) (accepted_program _ c.type_inv.program d.definitions d.reads) (goal_atom c.type_inv.event w)) c.in-TooLong.is) in
-    rw (c.refusal-in-TooLong.ensures, c.body_refusal-in-TooLong.ensures, c.in-TooLong.is)
-    (atom_long c.type_inv.event w p q up dp d.definitions g _ l h.0 (lent_kept g _ l h.1))
+    let e : c.atom_body.result ≡ Ok (Some c.in-Some.n) = c.in_ok-body.was ∙ ap Ok c.in-Some.is in
+    atom_defined c.type_inv.event w p q up dp d.definitions c.gap-from.ensures _ c.requires.in_bounds (body_told_as ((rw c.goal_frame.ensures at c.atom_body.ensures) (accepted_program _ c.type_inv.program d.definitions d.reads) (goal_atom c.type_inv.event w)) e) c.with_body.ensures

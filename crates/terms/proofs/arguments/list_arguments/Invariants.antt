@@ -1,6 +1,5 @@
 -- `list_arguments`: the entries so far, with the places of the arguments to come, are the places of all.
 use mathlib.Core.Path.{◌≡◌}
-use Prim.Native.Nat.{◌-◌}
 use lib.ListN.{length}
 use Rattle.terms.specs.Body.Arguments.{ArgumentsAt, term_places}
 use Rattle.terms.specs.Body.ArgumentLaws.{ArgumentsListing}
@@ -8,6 +7,3 @@ use Rattle.terms.proofs.arguments.list_arguments.Given as goal
 
 abbrev pub invariant-loop-i : goal.invariant-loop-i
 invariant-loop-i l = ((a : ArgumentsAt l.event (record { at = l.initial.pos; arity = l.k })) → ArgumentsListing l.event (term_places l.initial.pos a.terms) l.k l.table l.pos l.i) × (length l.table ≡ length l.initial.table)
-
-abbrev pub decreases-loop-i : goal.decreases-loop-i
-decreases-loop-i l = l.k - l.i

@@ -3,6 +3,9 @@ use native.Mathlib.Omega.{arith}
 use Rattle.terms.specs.Body.ArgumentLaws.{table_room, argument_ends, numbered_behind}
 use Rattle.terms.proofs.body.numbered_length.Goals as goal
 
+pub overflow_sub-k : goal.overflow_sub-k
+overflow_sub-k c = omega (arith, table_room c.requires)
+
 pub argument-range-requires : goal.argument-range-requires
 argument-range-requires c = omega (arith, table_room c.requires)
 

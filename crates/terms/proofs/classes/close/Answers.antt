@@ -1,17 +1,5 @@
-use mathlib.Core.Path.{sym, ◌∙◌}
-use Rattle.terms.specs.Classes.CloseLaws.{closing_start, closing_end, closing_fine, closing_joined, closing_stuck, fine_less, joined_less}
+use Rattle.terms.specs.Classes.CloseLaws.{closing_end, closing_fine, closing_joined, closing_stuck, fine_less, joined_less}
 use Rattle.terms.proofs.classes.close.Goals as goal
-
-pub loop-i-init : goal.loop-i-init
-loop-i-init c =
-    closing_start _ _ _ _ c.requires.state
-
-pub visit-requires : goal.visit-requires
-visit-requires c = record { table = c.requires.table; state = c.loop-i.invariant.state; i_in_bounds = c.loop-i-test.true }
-
-pub shape_of-rep-in-Stuck : goal.shape_of-rep-in-Stuck
-shape_of-rep-in-Stuck c =
-    c.visit.auto.rep ∙ c.loop-i.invariant.state.partition.long ∙ sym c.requires.state.partition.long
 
 pub returns-in-Stuck : goal.returns-in-Stuck
 returns-in-Stuck c =
@@ -32,10 +20,6 @@ loop-i-smaller c =
 pub loop-i-preserved : goal.loop-i-preserved
 loop-i-preserved c =
     closing_joined _ _ _ _ _ _ _ c.visit.ensures c.in-Joined.is
-
-pub shape_of-rep : goal.shape_of-rep
-shape_of-rep c =
-    c.loop-i.invariant.state.partition.long ∙ sym c.requires.state.partition.long
 
 pub returns : goal.returns
 returns c = closing_end _ _ _ _ _ c.loop-i.invariant c.loop-i-test.false

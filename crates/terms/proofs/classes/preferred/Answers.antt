@@ -1,14 +1,12 @@
 -- `preferred` prefers a symbol, and of variables the lower.
-use native.Mathlib.Omega.{arith}
 use Rattle.terms.specs.Classes.CloseLaws.{preferred_left, preferred_right, preferred_lower}
 use Rattle.terms.proofs.classes.preferred.Goals as goal
 
-pub returns-then-kind-a-ge-SYMBOL_NODE : goal.returns-then-kind-a-ge-SYMBOL_NODE
-returns-then-kind-a-ge-SYMBOL_NODE c = preferred_left _ _ _ c.if-kind-a-ge-SYMBOL_NODE.true
+pub returns-in-Symbol-default : goal.returns-in-Symbol-default
+returns-in-Symbol-default c = preferred_left _ _ _ (_, c.in-Symbol-default.is-0)
 
-pub returns-then-kind-b-ge-SYMBOL_NODE : goal.returns-then-kind-b-ge-SYMBOL_NODE
-returns-then-kind-b-ge-SYMBOL_NODE c = preferred_right _ _ _ c.if-kind-b-ge-SYMBOL_NODE.true
+pub returns-in-Variable-Symbol : goal.returns-in-Variable-Symbol
+returns-in-Variable-Symbol c = preferred_right _ _ _ (_, c.in-Variable-Symbol.is-1)
 
-pub returns : goal.returns
-returns c =
-    preferred_lower _ _ _ (λ h. omega (arith, c.if-kind-a-ge-SYMBOL_NODE.false)) (λ h. omega (arith, c.if-kind-b-ge-SYMBOL_NODE.false))
+pub returns-in-Variable-Variable : goal.returns-in-Variable-Variable
+returns-in-Variable-Variable c = preferred_lower _ _ _ c.in-Variable-Variable.is-0 c.in-Variable-Variable.is-1

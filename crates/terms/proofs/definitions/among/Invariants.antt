@@ -1,10 +1,6 @@
 -- `among`: none of the definitions passed is the one looked for.
 use Rattle.terms.specs.Body.DefinitionLaws.{Searched}
-use Prim.Native.Nat.{◌-◌}
 use Rattle.terms.proofs.definitions.among.Given as goal
 
 abbrev pub invariant-loop-i : goal.invariant-loop-i
 invariant-loop-i l = Searched l.program l.n l.p l.k l.at l.i
-
-abbrev pub decreases-loop-i : goal.decreases-loop-i
-decreases-loop-i l = l.n - l.i

@@ -4,25 +4,16 @@ use Rattle.terms.specs.Values.LinksLaws.{linked_start, linked_fewer, linked_next
 use Rattle.terms.proofs.links.link_pairs.Goals as goal
 
 pub loop-j-init : goal.loop-j-init
-loop-j-init c = (linked_start, omega arith, refl)
-
-pub offset_bounds-places-j : goal.offset_bounds-places-j
-offset_bounds-places-j c = omega (arith, c.requires.0)
-
-pub bounds-places-j : goal.bounds-places-j
-bounds-places-j c = omega (arith, c.requires.0)
-
-pub overflow_cast-j : goal.overflow_cast-j
-overflow_cast-j c = omega (arith, c.requires.1)
+loop-j-init c = (linked_start, refl)
 
 pub loop-j-preserved : goal.loop-j-preserved
 loop-j-preserved c =
     let one = c.link_pair.ensures in
     let u = c.loop-j.invariant in
-    (linked_next u.0 one, omega arith, one.long ∙ u.2)
+    (linked_next u.0 one, one.long ∙ u.1)
 
 pub shape_of-links : goal.shape_of-links
-shape_of-links c = c.loop-j.invariant.2
+shape_of-links c = c.loop-j.invariant.1
 
 pub returns : goal.returns
 returns c = linked_fewer c.loop-j.invariant.0 (omega (arith, c.loop-j-test.false))

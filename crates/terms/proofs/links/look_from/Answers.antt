@@ -3,11 +3,8 @@ use native.Mathlib.Omega.{arith}
 use Rattle.terms.specs.Values.LinksLaws.{look_all, look_linked}
 use Rattle.terms.proofs.links.look_from.Goals as goal
 
-pub returns-then-bound-i : goal.returns-then-bound-i
-returns-then-bound-i c = look_linked (omega (arith, c.if-links-v.false)) c.wide-bound.ensures (omega (arith, c.if-bound-i.true))
+pub returns-in-Some : goal.returns-in-Some
+returns-in-Some c = let here = c.in-Some.ensures.lookup.3 in look_linked here.0 (omega (arith, here.1 0))
 
-pub returns-then-links-v : goal.returns-then-links-v
-returns-then-links-v c = look_all
-
-pub returns-else-bound-i : goal.returns-else-bound-i
-returns-else-bound-i c = look_all
+pub returns-in-None : goal.returns-in-None
+returns-in-None c = look_all

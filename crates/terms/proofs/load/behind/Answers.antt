@@ -1,20 +1,15 @@
 use Rattle.terms.specs.Classes.LinkLaws.{passes_start, passes_in, passes_step, passes_end}
-use native.Mathlib.Omega.{arith}
+use Rattle.std.proofs.Common.{arith}
 use Rattle.terms.proofs.load.behind.Goals as goal
 
-pub loop-k-init : goal.loop-k-init
-loop-k-init c = passes_start _ _ _ (omega arith)
+pub loop-init : goal.loop-init
+loop-init c = passes_start _ _ _ (omega arith) c.in-Symbol.is
 
-pub offset_bounds-next-p : goal.offset_bounds-next-p
-offset_bounds-next-p c =
-    let h = passes_in _ _ _ _ _ c.loop-k.invariant c.requires c.loop-k-test.true in omega arith
+pub bounds-table-p : goal.bounds-table-p
+bounds-table-p c = passes_in _ _ _ _ _ c.loop.invariant c.requires c.loop-test.true
 
-pub bounds-next-p : goal.bounds-next-p
-bounds-next-p c =
-    passes_in _ _ _ _ _ c.loop-k.invariant c.requires c.loop-k-test.true
-
-pub loop-k-preserved : goal.loop-k-preserved
-loop-k-preserved c = passes_step _ _ _ _ _ c.loop-k.invariant c.loop-k-test.true
+pub loop-preserved : goal.loop-preserved
+loop-preserved c = passes_step _ _ _ _ _ c.loop.invariant c.loop-test.true
 
 pub returns : goal.returns
-returns c = passes_end _ _ _ _ _ c.loop-k.invariant (λ h. omega (arith, c.loop-k-test.false))
+returns c = passes_end _ _ _ _ _ c.loop.invariant c.loop-test.false

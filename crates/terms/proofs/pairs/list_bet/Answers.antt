@@ -11,7 +11,7 @@ pub overflow_add-at : goal.overflow_add-at
 overflow_add-at c = let p = c.requires.bet_at in omega (arith, (pairs_of p c.pairs_at-n.ensures (λ z. omega arith)).room)
 
 pub list_pairs-requires : goal.list_pairs-requires
-list_pairs-requires c = let p = c.requires.bet_at in record { pairs_at = (pairs_of p c.pairs_at-n.ensures (λ z. omega arith)).pairs; n_in_bounds = omega arith; firsts_len = omega arith }
+list_pairs-requires c = let p = c.requires.bet_at in record { pairs_at = (pairs_of p c.pairs_at-n.ensures (λ z. omega arith)).pairs; n_in_bounds = omega arith }
 
 pub returns : goal.returns
 returns c = λ p. filled_pairs p c.pairs_at-n.ensures (λ z. omega arith) (c.list_pairs.ensures (pairs_of p c.pairs_at-n.ensures (λ z. omega arith)).pairs)

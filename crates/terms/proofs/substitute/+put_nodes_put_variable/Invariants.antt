@@ -11,9 +11,9 @@ decreases-put_nodes l = 2 * pairs_left l.by + 1
 abbrev pub decreases-put_variable : goal.decreases-put_variable
 decreases-put_variable l = 2 * pairs_left l.by
 
-abbrev pub invariant-put_nodes-loop-v : goal.invariant-put_nodes-loop-v
-invariant-put_nodes-loop-v l =
-    (θ : Substitution) → Replaces l.event l.table l.firsts l.by θ → Fitting θ l.s (traverse_from l.s l.initial.c) l.initial.out l.c l.out l.len
+abbrev pub invariant-put_nodes-loop-step : goal.invariant-put_nodes-loop-step
+invariant-put_nodes-loop-step l =
+    (θ : Substitution) → Replaces l.by θ → Fitting θ l.s (traverse_from l.s l.initial.c) l.initial.out l.c l.out l.len
 
-abbrev pub decreases-put_nodes-loop-v : goal.decreases-put_nodes-loop-v
-decreases-put_nodes-loop-v l = length l.s - l.c.pos
+abbrev pub decreases-put_nodes-loop-step : goal.decreases-put_nodes-loop-step
+decreases-put_nodes-loop-step l = length l.s - l.c.pos

@@ -6,21 +6,24 @@ use Rattle.terms.proofs.substitute.find_pair.Goals as goal
 pub loop-k-init : goal.loop-k-init
 loop-k-init c =
     let from = c.look_from-k.ensures in
-    (from.within, λ firsts p. searching_from p c.requires.pairs_linked from)
+    (from.within, λ p. searching_from p c.requires.pairs_linked from)
 
-pub bounds-places-k : goal.bounds-places-k
-bounds-places-k c = omega (arith, c.loop-k.invariant.0, c.requires.i_in_bounds)
+pub offset_bounds-pairs-k : goal.offset_bounds-pairs-k
+offset_bounds-pairs-k c = omega (arith, c.loop-k.invariant.0, c.requires.i_in_bounds)
+
+pub bounds-pairs-k : goal.bounds-pairs-k
+bounds-pairs-k c = omega (arith, c.loop-k.invariant.0, c.requires.i_in_bounds)
 
 pub returns-in_default : goal.returns-in_default
-returns-in_default c = λ firsts p. absurd (find_number p (c.loop-k.invariant.1 firsts p) (omega arith) c.word_at.ensures c.in_default.is)
+returns-in_default c = λ p. absurd (find_number p (c.loop-k.invariant.1 p) (omega arith) c.word_at.ensures c.in_default.is)
 
 pub returns-then-x-v : goal.returns-then-x-v
 returns-then-x-v c =
-    λ firsts p. find_found p (c.loop-k.invariant.1 firsts p) (omega arith) c.word_at.ensures c.in-Number.is (omega arith)
+    λ p. find_found p (c.loop-k.invariant.1 p) (omega arith) c.word_at.ensures c.in-Some.is (omega arith)
 
 pub loop-k-preserved : goal.loop-k-preserved
 loop-k-preserved c =
-    (omega (arith, c.loop-k.invariant.0), λ firsts p. find_next p (c.loop-k.invariant.1 firsts p) (omega arith) c.word_at.ensures c.in-Number.is (λ e. omega arith))
+    (omega (arith, c.loop-k.invariant.0), λ p. find_next p (c.loop-k.invariant.1 p) (omega arith) c.word_at.ensures c.in-Some.is (λ e. omega arith))
 
 pub returns : goal.returns
-returns c = λ firsts p. find_none p (c.loop-k.invariant.1 firsts p) (omega arith)
+returns c = λ p. find_none p (c.loop-k.invariant.1 p) (omega arith)

@@ -1,11 +1,10 @@
 -- `put_pairs` writes the pairs in order.
 use Rattle.terms.specs.Unifier.GivesLaws.{PairsWriting}
-use Rattle.terms.specs.Classes.Nodes.{nodes}
 use Prim.Native.Nat.{◌-◌}
 use Rattle.terms.proofs.unifier.put_pairs.Given as goal
 
-abbrev pub invariant-loop-at : goal.invariant-loop-at
-invariant-loop-at l = PairsWriting (nodes l.kind l.number l.next) l.rep l.initial.out l.at l.out l.end l.count l.lo
+abbrev pub invariant-loop-i : goal.invariant-loop-i
+invariant-loop-i l = PairsWriting l.classes.table.now l.classes.rep.now l.initial.out l.at l.out l.end l.count l.lo
 
-abbrev pub decreases-loop-at : goal.decreases-loop-at
-decreases-loop-at l = 65536 - l.lo
+abbrev pub decreases-loop-i : goal.decreases-loop-i
+decreases-loop-i l = 65536 - l.lo

@@ -6,4 +6,4 @@ abbrev pub decreases-write_args : goal.decreases-write_args
 decreases-write_args l = 2 * l.left + 1
 
 abbrev pub decreases-write_term : goal.decreases-write_term
-decreases-write_term l = 2 * at l.size.now l.r
+decreases-write_term l = 2 * at l.classes.now.size.now l.r

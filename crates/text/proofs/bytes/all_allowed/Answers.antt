@@ -1,25 +1,10 @@
-use Rattle.text.specs.Tokens.WordsLaws.{passed_none, passed_on, passed_not, passed_all}
-use native.Mathlib.Omega.{arith}
-use mathlib.Core.Path.{sym, ◌∙◌}
+use Rattle.std.proofs.Common.{rules, ◌∙◌}
+use Rattle.std.proofs.lemmas.Iterator.{YieldsList-from_slice}
+use Rattle.std.proofs.lemmas.Iterator.Search.{all_from_yields_List}
+use borrow.Author.Tests.{tests}
+use Rattle.text.specs.Grammar.{text_byte}
+use Rattle.text.specs.Tokens.WordsLaws.{every_all}
 use Rattle.text.proofs.bytes.all_allowed.Goals as goal
 
-pub loop-i-init : goal.loop-i-init
-loop-i-init c = passed_none _ _
-
-pub bounds-s-i : goal.bounds-s-i
-bounds-s-i c = omega arith
-
-pub overflow_add-i : goal.overflow_add-i
-overflow_add-i c = omega arith
-
-pub loop-i-smaller : goal.loop-i-smaller
-loop-i-smaller c = omega arith
-
-pub loop-i-preserved : goal.loop-i-preserved
-loop-i-preserved c = passed_on c.loop-i.invariant (omega arith) (sym c.is_allowed.ensures ∙ c.if-is_allowed.true)
-
-pub returns-else-is_allowed : goal.returns-else-is_allowed
-returns-else-is_allowed c = passed_not c.loop-i.invariant (omega arith) (sym c.is_allowed.ensures ∙ c.if-is_allowed.false)
-
 pub returns : goal.returns
-returns c = passed_all c.loop-i.invariant (omega arith)
+returns c = all_from_yields_List text_byte _ _ _ c.all.ensures.ran (YieldsList-from_slice c.args.s.now c.iter.ensures.rest) (λ x b q k. search (rules, tests)) ∙ every_all text_byte c.args.s.now

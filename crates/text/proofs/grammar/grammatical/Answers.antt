@@ -1,22 +1,14 @@
-use Rattle.text.specs.Parsing.QuestionsLaws.{read_start, read_on, read_less, read_end, accepts_step, accepts_end}
-use native.Mathlib.Omega.{arith}
-use mathlib.Core.Path.{sym, ◌∙◌}
+use Rattle.std.proofs.Common.{sym, ap, ◌∙◌}
+use Rattle.text.specs.Parsing.Table.{end_kind}
+use Rattle.text.specs.Parsing.KindLaws.{not_end}
+use Rattle.text.specs.Parsing.QuestionsLaws.{read_start, read_on, read_end, accepts_step, accepts_end}
 use Rattle.text.proofs.grammar.grammatical.Goals as goal
 
-pub loop-t-init : goal.loop-t-init
-loop-t-init c = rw c.make-state.ensures (read_start _)
+pub loop-kind-init : goal.loop-kind-init
+loop-kind-init c = rw c.start-state.ensures (read_start _)
 
-pub next_token-t-requires : goal.next_token-t-requires
-next_token-t-requires c = c.loop-t.invariant.within
+pub returns-in-End : goal.returns-in-End
+returns-in-End c = c.is_final.ensures ∙ sym (read_end c.loop-kind.invariant c.next_token-t.ensures (ap end_kind c.in-End.is) ∙ accepts_end _)
 
-pub returns-then-is_end : goal.returns-then-is_end
-returns-then-is_end c = c.is_final.ensures ∙ sym (read_end c.loop-t.invariant c.next_token-t.ensures (sym c.is_end.ensures ∙ c.if-is_end.true) ∙ accepts_end _)
-
-pub look-state-requires : goal.look-state-requires
-look-state-requires c = let h = c.loop-t.invariant in (omega arith, omega arith)
-
-pub loop-t-smaller : goal.loop-t-smaller
-loop-t-smaller c = read_less c.loop-t.invariant c.next_token-t.ensures (sym c.is_end.ensures ∙ c.if-is_end.false)
-
-pub loop-t-preserved : goal.loop-t-preserved
-loop-t-preserved c = read_on c.loop-t.invariant c.next_token-t.ensures (λ t ts k. accepts_step _ t ts) (sym c.is_end.ensures ∙ c.if-is_end.false) c.look-state.ensures
+pub loop-kind-preserved : goal.loop-kind-preserved
+loop-kind-preserved c = read_on c.loop-kind.invariant c.next_token-t.ensures (λ t ts k. accepts_step _ t ts) (not_end _ c.in_default.not-End) c.look-state.ensures

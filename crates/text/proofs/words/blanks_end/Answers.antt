@@ -1,25 +1,16 @@
-use Rattle.text.specs.Tokens.WordsLaws.{skipped_none, skipped_on}
-use native.Mathlib.Omega.{arith}
-use mathlib.Core.Path.{sym, ◌∙◌}
+use Rattle.std.proofs.Common.{rules, arith, ◌≡◌, ◌∙◌, refl, true, false, drop}
+use Rattle.std.proofs.lemmas.Iterator.{YieldsList-from_slice, IsFirst-from_position}
+use borrow.Author.Tests.{tests}
+use Rattle.text.specs.Grammar.{blank}
+use Rattle.text.specs.Tokens.WordsLaws.{rest_whole, run_found, run_all, run_blanks}
 use Rattle.text.proofs.words.blanks_end.Goals as goal
 
-pub loop-i-init : goal.loop-i-init
-loop-i-init c = skipped_none _ _ (omega arith)
+pub returns-in-Some : goal.returns-in-Some
+returns-in-Some c =
+    let f = IsFirst-from_position _ _ c.position.result (λ b. blank b ≡ false) (λ b. blank b ≡ true) c.position.ensures.ran (YieldsList-from_slice (drop c.args.at c.args.s.now) (c.iter.ensures.rest ∙ rest_whole c.args.s.now c.args.at)) (λ x q k. search (rules, tests)) (λ x q k. search (rules, tests)) in
+    run_blanks (run_found blank c.args.s.now c.args.at c.in-Some.n c.requires (rw c.in-Some.is at f)) refl
 
-pub bounds-s-i : goal.bounds-s-i
-bounds-s-i c = omega arith
-
-pub overflow_add-i : goal.overflow_add-i
-overflow_add-i c = omega arith
-
-pub loop-i-smaller : goal.loop-i-smaller
-loop-i-smaller c = omega arith
-
-pub loop-i-preserved : goal.loop-i-preserved
-loop-i-preserved c = skipped_on _ _ _ c.loop-i.invariant (omega arith) (sym c.is_blank.ensures ∙ c.if-is_blank.true)
-
-pub returns-else-is_blank : goal.returns-else-is_blank
-returns-else-is_blank c = record { skipped = c.loop-i.invariant; ended = λ h. sym c.is_blank.ensures ∙ c.if-is_blank.false }
-
-pub returns : goal.returns
-returns c = record { skipped = c.loop-i.invariant; ended = λ h. absurd (omega arith) }
+pub returns-in-None : goal.returns-in-None
+returns-in-None c =
+    let f = IsFirst-from_position _ _ c.position.result (λ b. blank b ≡ false) (λ b. blank b ≡ true) c.position.ensures.ran (YieldsList-from_slice (drop c.args.at c.args.s.now) (c.iter.ensures.rest ∙ rest_whole c.args.s.now c.args.at)) (λ x q k. search (rules, tests)) (λ x q k. search (rules, tests)) in
+    run_blanks (run_all blank c.args.s.now c.args.at c.requires (rw c.in-None.is at f)) (omega arith)

@@ -1,25 +1,16 @@
-use Rattle.text.specs.Tokens.WordsLaws.{word_none, word_on}
-use native.Mathlib.Omega.{arith}
-use mathlib.Core.Path.{sym, ◌∙◌}
+use Rattle.std.proofs.Common.{rules, arith, ◌≡◌, ◌∙◌, refl, true, false, drop}
+use Rattle.std.proofs.lemmas.Iterator.{YieldsList-from_slice, IsFirst-from_position}
+use borrow.Author.Tests.{tests}
+use Rattle.text.specs.Grammar.{alphanumeric}
+use Rattle.text.specs.Tokens.WordsLaws.{rest_whole, run_found, run_all, run_word}
 use Rattle.text.proofs.words.word_end.Goals as goal
 
-pub loop-i-init : goal.loop-i-init
-loop-i-init c = word_none _ _ (omega arith)
+pub returns-in-Some : goal.returns-in-Some
+returns-in-Some c =
+    let f = IsFirst-from_position _ _ c.position.result (λ b. alphanumeric b ≡ false) (λ b. alphanumeric b ≡ true) c.position.ensures.ran (YieldsList-from_slice (drop c.args.at c.args.s.now) (c.iter.ensures.rest ∙ rest_whole c.args.s.now c.args.at)) (λ x q k. search (rules, tests)) (λ x q k. search (rules, tests)) in
+    run_word (run_found alphanumeric c.args.s.now c.args.at c.in-Some.n c.requires (rw c.in-Some.is at f)) refl
 
-pub bounds-s-i : goal.bounds-s-i
-bounds-s-i c = omega arith
-
-pub overflow_add-i : goal.overflow_add-i
-overflow_add-i c = omega arith
-
-pub loop-i-smaller : goal.loop-i-smaller
-loop-i-smaller c = omega arith
-
-pub loop-i-preserved : goal.loop-i-preserved
-loop-i-preserved c = word_on _ _ _ c.loop-i.invariant (omega arith) (sym c.is_alphanumeric.ensures ∙ c.if-is_alphanumeric.true)
-
-pub returns-else-is_alphanumeric : goal.returns-else-is_alphanumeric
-returns-else-is_alphanumeric c = record { word = c.loop-i.invariant; ended = λ h. sym c.is_alphanumeric.ensures ∙ c.if-is_alphanumeric.false }
-
-pub returns : goal.returns
-returns c = record { word = c.loop-i.invariant; ended = λ h. absurd (omega arith) }
+pub returns-in-None : goal.returns-in-None
+returns-in-None c =
+    let f = IsFirst-from_position _ _ c.position.result (λ b. alphanumeric b ≡ false) (λ b. alphanumeric b ≡ true) c.position.ensures.ran (YieldsList-from_slice (drop c.args.at c.args.s.now) (c.iter.ensures.rest ∙ rest_whole c.args.s.now c.args.at)) (λ x q k. search (rules, tests)) (λ x q k. search (rules, tests)) in
+    run_word (run_all alphanumeric c.args.s.now c.args.at c.requires (rw c.in-None.is at f)) (omega arith)

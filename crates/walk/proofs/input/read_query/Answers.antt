@@ -1,8 +1,10 @@
+use Rattle.std.proofs.Math.Path.{refl}
+use Rattle.records.specs.Gate.OutcomeLaws.{told_zero, told_refusal, refusal_positive}
 use Rattle.walk.specs.ReadingLaws.{query_unread, query_told}
 use Rattle.walk.proofs.input.read_query.Goals as goal
 
-pub returns-then-program_door-ne-DONE : goal.returns-then-program_door-ne-DONE
-returns-then-program_door-ne-DONE c = query_unread c.program_door.ensures c.if-program_door-ne-DONE.true
+pub returns-in-Ok : goal.returns-in-Ok
+returns-in-Ok c = query_told (told_zero _ c.program_door.ensures c.in-Ok.is) refl c.read_record.ensures
 
-pub returns : goal.returns
-returns c = query_told c.program_door.ensures c.if-program_door-ne-DONE.false c.read_record.ensures
+pub returns-in-Err : goal.returns-in-Err
+returns-in-Err c = query_unread (told_refusal _ c.program_door.ensures c.in-Err.is) (refusal_positive _)

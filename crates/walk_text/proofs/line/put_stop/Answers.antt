@@ -1,8 +1,7 @@
-use native.Mathlib.Omega.{arith}
 use Rattle.records.specs.Writing.PatchedLaws.{put_then}
 use Rattle.walk_text.specs.Line.{stop_bytes}
 use Rattle.walk_text.proofs.line.put_stop.Goals as goal
 
-pub returns : goal.returns
+pub returns-clause-put : goal.returns-clause-put
 unfolding stop_bytes
-returns c = record { put = put_then c.put_part-number_at.ensures (put_then c.put_count-end_at.ensures.put c.put_byte.ensures); within = omega (arith, c.put_part-number_at.ensures.place, c.put_count-end_at.ensures.within, c.put_byte.ensures.place) }
+returns-clause-put c = put_then c.put_part-number_at.ensures (put_then (rw (c.from.ensures, c.outcome_number.ensures) at c.put_count-end_at.ensures.put) c.put_byte.ensures)

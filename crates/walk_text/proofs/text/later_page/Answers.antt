@@ -1,40 +1,25 @@
-use mathlib.Core.Path.{◌≡◌, sym}
-use native.Mathlib.Omega.{arith}
-use lib.ListN.{length}
-use lib.Seq.{length-take-le}
-use borrow.Author.Rules.{rules}
+-- The event's front and the steps made are those that the definitions name.
+use Rattle.std.proofs.Common.{◌≡◌, min, rules}
+use Rattle.std.proofs.Math.Path.{refl}
+use Rattle.std.proofs.lemmas.Result.{err_from_is_err_and}
 use Rattle.records.specs.Gate.DoorLaws.{door_open}
+use Rattle.records.specs.Gate.OutcomeLaws.{told_zero, told_refusal, refusal_positive}
+use Rattle.walk_text.specs.Rest.{steps_made}
 use Rattle.walk_text.specs.RestLaws.{gate_text, gives_later}
 use Rattle.walk_text.proofs.text.later_page.Goals as goal
 
-pub slice_bounds-event-end : goal.slice_bounds-event-end
-slice_bounds-event-end c =
-    let n : length c.args.rest.event ≡ 32768 = search rules in
-    omega (arith, n, c.least-len.ensures)
+pub returns-in_err-door : goal.returns-in_err-door
+returns-in_err-door c = λ query.
+    let p = err_from_is_err_and c.from_residual.result c.from_residual.ensures.1 in
+    let length_is : c.min.result ≡ min c.args.stand.now.length 32768 = search rules in
+    rw (p.1, p.2) (gate_text _ c.args.stand.now (told_refusal _ (rw length_is at c.door.ensures) c.in_err-door.was) (refusal_positive _), refl)
 
-pub slice_bounds-door-end : goal.slice_bounds-door-end
-slice_bounds-door-end c =
-    let n : length c.args.rest.event ≡ 32768 = search rules in
-    sym (length-take-le _ _ (omega (arith, n, c.least-len.ensures)))
-
-pub returns-then-refused-ne-DONE : goal.returns-then-refused-ne-DONE
-returns-then-refused-ne-DONE c = λ query.
-    rw (gate_text _ c.args.rest c.least-len.ensures c.door-refused.ensures c.if-refused-ne-DONE.true) (c.stop_page.ensures _ _ _)
-
-pub slice_bounds-event-end-2 : goal.slice_bounds-event-end-2
-slice_bounds-event-end-2 c =
-    let n : length c.args.rest.event ≡ 32768 = search rules in
-    omega (arith, n, c.least-len.ensures)
-
-pub slice_bounds-walk_page-end : goal.slice_bounds-walk_page-end
-slice_bounds-walk_page-end c =
-    let n : length c.args.rest.event ≡ 32768 = search rules in
-    sym (length-take-le _ _ (omega (arith, n, c.least-len.ensures)))
-
-pub walk_page-requires : goal.walk_page-requires
-walk_page-requires c = record { both_passed = door_open _ _ c.door-refused.ensures c.if-refused-ne-DONE.false; first_le_step_limit = omega (arith, c.least-first.ensures); at_bound = omega arith }
+pub walk_page-requires-clause-both_passed : goal.walk_page-requires-clause-both_passed
+walk_page-requires-clause-both_passed c = door_open _ _ (told_zero _ c.door.ensures c.in_ok-door.was) refl
 
 pub returns : goal.returns
 returns c = λ query.
-    let w = door_open _ _ c.door-refused.ensures c.if-refused-ne-DONE.false in
-    gives_later c.args.rest c.least-len.ensures c.least-first.ensures w (c.walk_page.ensures w query)
+    let length_is : c.min.result ≡ min c.args.stand.now.length 32768 = search rules in
+    let first_is : c.min-2.result ≡ steps_made c.args.stand.now = search rules in
+    let w = door_open _ _ (told_zero _ (rw length_is at c.door.ensures) c.in_ok-door.was) refl in
+    gives_later c.args.stand.now w (rw first_is at (rw length_is at c.walk_page.ensures w query))

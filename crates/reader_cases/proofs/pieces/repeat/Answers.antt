@@ -1,7 +1,0 @@
-use mathlib.Core.Path.{sym}
-use lib.Seq.{length-take-le}
-use borrow.Author.Rules.{rules}
-use Rattle.reader_cases.proofs.pieces.repeat.Goals as goal
-
-pub returns : goal.returns
-returns c = (search rules, sym (length-take-le _ _ (search rules)))

@@ -1,7 +1,0 @@
-use borrow.Author.Rules.{rules}
-use Rattle.records.specs.Gate.Sets.{is_marked}
-use Rattle.records.proofs.sets.is_marked.Goals as goal
-
-pub returns : goal.returns
-unfolding is_marked
-returns c = search rules

@@ -41,7 +41,7 @@
  *  - What is written (`out`, `names`, `named`, `taken`, `written`, `at`, `part`, `greatest`, `counts`) overlaps nothing else that the call is given. What
  *    is only read may overlap.
  *  - Nobody else writes any of it during the call, or reads what the call writes.
- *  - The thread has the stack, of which nothing is proved: the deepest calls we know of need 1,128 KiB, so give 4 MiB. Linux gives a main thread 8.
+ *  - The thread has the stack, of which nothing is proved: the deepest calls we know of need 1,256 KiB, so give 4 MiB. Linux gives a main thread 8.
  *
  * There is no state between calls, no heap and no input or output: calls on different data may run at the same time in any number of threads.
  * Every call ends.

@@ -47,6 +47,12 @@ def has_code(root, crate):
     return False
 
 
+def unshown(root, crate, label):
+    """why no stored case shows an edit, where it says so"""
+    with open(os.path.join(root, 'crates', crate, 'must-fail', f'{label}.edit')) as f:
+        return next((line[2:].strip() for line in f if line.startswith('# no stored case')), '')
+
+
 def changed(text, old, new, code):
     """the text of a file with one replacement, in code one of code alone"""
     if not old or text.count(old) != 1:

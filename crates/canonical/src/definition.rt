@@ -8,7 +8,7 @@ ghost use Rattle.canonical.specs.Sorting.Entries.{ClauseAt, clause_at, clauses_i
 ghost use Rattle.canonical.specs.Writing.Definition.{joined_branches, group_definition, Sums};
 
 use crate::branch::put_branch;
-use crate::entry::Entry;
+use crate::order::place_of;
 use records::ends::clause_end;
 use records::heads::clause_head;
 use records::kinds::DISJ;
@@ -46,14 +46,14 @@ fn clause_size(s: &[u8], place: usize) -> usize
 }
 
 // Record and group stay two arguments: a struct of both, with `GroupAt` for its fact, would be made for this one call.
-pub(crate) fn group_totals(s: &[u8], group: &[Entry]) -> Totals
+pub fn group_totals(s: &[u8], group: &[usize]) -> Totals
     requires { GroupAt s.now group.now }
     ensures { Sums (clauses_in s.now group.now) result }
 {
     let mut locals: usize = 0;
     let mut size: usize = 0;
     for entry in group {
-        let place = entry.place();
+        let place = place_of(*entry);
         locals += clause_variables(s, place);
         size += clause_size(s, place);
     }
@@ -61,7 +61,7 @@ pub(crate) fn group_totals(s: &[u8], group: &[Entry]) -> Totals
 }
 
 // The branches of a group, each but the last behind the byte that joins it to the next one, the variables of each numbered behind those of the one before it.
-fn put_branches(out: &mut [u8], first: usize, s: &[u8], group: &[Entry], arity: usize) -> usize
+fn put_branches(out: &mut [u8], first: usize, s: &[u8], group: &[usize], arity: usize) -> usize
     requires group_at { GroupAt s.now group.now }
     requires group_nonzero { 0 < length group.now }
     requires group_bound { arity + locals_of (clauses_in s.now group.now) ≤ 65536 }
@@ -74,23 +74,23 @@ fn put_branches(out: &mut [u8], first: usize, s: &[u8], group: &[Entry], arity: 
     let mut at = first;
     let mut base = arity;
     for entry in others {
-        let place = entry.place();
+        let place = place_of(*entry);
         let branch_at = put_byte(out, at, DISJ);
         at = put_branch(out, branch_at, s, place, base);
         base += clause_variables(s, place);
     }
-    put_branch(out, at, s, last.place(), base)
+    put_branch(out, at, s, place_of(*last), base)
 }
 
 // The definition that a group makes, whose locals pass question 9.
-pub(crate) fn put_definition(out: &mut [u8], at: usize, s: &[u8], group: &[Entry]) -> usize
+pub fn put_definition(out: &mut [u8], at: usize, s: &[u8], group: &[usize]) -> usize
     requires group_at { GroupAt s.now group.now }
     requires group_nonzero { 0 < length group.now }
     requires group_bound { locals_of (clauses_in s.now group.now) ≤ 255 }
     requires group_in_bounds { at + length (definition_bytes (group_definition (clauses_in s.now group.now))) ≤ length out.old }
     ensures { Put out.old at (definition_bytes (group_definition (clauses_in s.now group.now))) out.new result }
 {
-    let place = group[0].place();
+    let place = place_of(group[0]);
     let Some(signature) = clause_head(s, place) else {
         return at;
     };

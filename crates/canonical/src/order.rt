@@ -1,16 +1,34 @@
-// Entries of clauses: listed, and sorted.
-ghost use Rattle.std.specs.Prelude.{◌≡◌, ◌<◌, length, eqb, All};
-ghost use Rattle.std.specs.List.Sorted.{IsPermutation, IsNonDecreasing};
-ghost use Rattle.std.specs.List.{IsDistinct};
-ghost use Rattle.canonical.specs.Sorting.Picking.{picked, entry_limit};
-ghost use Rattle.canonical.specs.Sorting.Entries.{ClausesAt, clause_entries};
+// Entries of clauses: listed, and sorted. Each is one number, which rises with predicate, arity and place.
+ghost use Rattle.std.specs.Prelude.{◌≡◌, length, eqb};
+ghost use Rattle.std.specs.List.Sorted.{IsNonDecreasing};
+ghost use Rattle.canonical.specs.Sorting.Picking.{picked};
+ghost use Rattle.canonical.specs.Sorting.Entries.{ClausesAt, clause_entries, entry_key, entry_place};
 
-use crate::entry::Entry;
 use records::ends::clause_end;
 use records::heads::clause_head;
 
+// An entry is (predicate * ARITIES + arity) * PLACES + place of its clause; all are below ENTRY_LIMIT. No struct: the public functions take any number.
+const ARITIES: usize = 256;
+
+pub const PLACES: usize = 65536;
+
+const ENTRY_LIMIT: usize = 1099511627776;
+
+// The place of an entry's clause.
+pub(crate) fn place_of(entry: usize) -> usize
+    ensures { result ≡ entry_place entry }
+{
+    entry % PLACES
+}
+
+pub(crate) fn same_predicate(x: usize, y: usize) -> bool
+    ensures { result ≡ eqb (entry_key x) (entry_key y) }
+{
+    x / PLACES == y / PLACES
+}
+
 // The entries of the clauses of a record, as they stand.
-pub(crate) fn list_clauses(s: &[u8], table: &mut [Entry])
+pub fn list_clauses(s: &[u8], table: &mut [usize])
     requires { ClausesAt s.now (length table.old) }
     ensures { (a : ClausesAt s.now (length table.old)) → table.new ≡ clause_entries 5 a.clauses }
 {
@@ -22,16 +40,38 @@ pub(crate) fn list_clauses(s: &[u8], table: &mut [Entry])
         let Some(end) = clause_end(s, pos) else {
             return;
         };
-        *entry = Entry::new(signature.predicate, signature.arity, pos);
+        *entry = (signature.predicate * ARITIES + signature.arity) * PLACES + pos;
         pos = end;
     }
 }
 
-// The entries in their order; of such as differ it is what picking gives, one least entry after the other.
-pub(crate) fn sort(table: &mut [Entry])
-    ensures permutation { IsPermutation table.old table.new }
-    ensures rises { IsNonDecreasing table.new }
-    ensures picked { IsDistinct eqb table.old → All (λ e. e < entry_limit) table.old → table.new ≡ picked (length table.old) 0 table.old }
+// Of numbers that rise, those below the limit, each once; the limit fills what is left.
+fn pick_rising(sorted: &mut [usize])
+    requires { IsNonDecreasing sorted.old }
+    ensures { sorted.new ≡ picked (length sorted.old) 0 sorted.old }
 {
-    table.sort_unstable();
+    let mut low: usize = 0;
+    let mut kept: usize = 0;
+    for i in 0..sorted.len() {
+        let entry = sorted[i];
+        if entry < low || ENTRY_LIMIT <= entry {
+            continue;
+        }
+        sorted[kept] = entry;
+        kept += 1;
+        low = entry + 1;
+    }
+    sorted[kept..].fill(ENTRY_LIMIT);
+}
+
+// The entries in their order, one least entry after the other. No `copy_from_slice`: it needs memmove, and the archive needs memcpy and memset alone.
+pub fn sort(table: &[usize], sorted: &mut [usize])
+    requires { length sorted.old ≡ length table.now }
+    ensures { sorted.new ≡ picked (length table.now) 0 table.now }
+{
+    for (i, entry) in table.iter().enumerate() {
+        sorted[i] = *entry;
+    }
+    sorted.sort_unstable();
+    pick_rising(sorted);
 }

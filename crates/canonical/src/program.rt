@@ -9,7 +9,7 @@ ghost use Rattle.canonical.specs.Sorting.Remaining.{Remaining, program_of};
 ghost use Rattle.canonical.specs.Writing.Program.{surveyed};
 
 use crate::definition::{group_totals, put_definition};
-use crate::entry::Entry;
+use crate::order::same_predicate;
 use records::kinds::RECORD_LIMIT;
 use records::put::{put_record_head, put_word};
 use records::questions::Refusal;
@@ -26,13 +26,13 @@ const LOCALS_LIMIT: usize = 255;
 
 // What the definitions of the sorted entries come to; none where question 9 says no.
 // Record and entries stay two arguments: a struct of both, with `Remaining` for its fact, would be made for this one call.
-pub(crate) fn measure_program(s: &[u8], sorted: &[Entry]) -> Option<Survey>
+pub fn measure_program(s: &[u8], sorted: &[usize]) -> Option<Survey>
     requires { Remaining s.now sorted.now 0 (program_of s.now) }
     ensures { result ≡ surveyed (program_of s.now) }
 {
     let mut count: usize = 0;
     let mut size: usize = 0;
-    for group in sorted.chunk_by(|x, y| x.same_predicate(*y)) {
+    for group in sorted.chunk_by(|x, y| same_predicate(*x, *y)) {
         let totals = group_totals(s, group);
         if LOCALS_LIMIT < totals.locals {
             return None;
@@ -43,21 +43,21 @@ pub(crate) fn measure_program(s: &[u8], sorted: &[Entry]) -> Option<Survey>
     Some(Survey { count, size })
 }
 
-fn put_definitions(out: &mut [u8], first: usize, s: &[u8], sorted: &[Entry]) -> usize
+fn put_definitions(out: &mut [u8], first: usize, s: &[u8], sorted: &[usize]) -> usize
     requires remaining { Remaining s.now sorted.now 0 (program_of s.now) }
     requires s_value { every locals_fit (program_of s.now) ≡ true }
     requires s_in_bounds { first + length (each definition_bytes (program_of s.now)) ≤ length out.old }
     ensures { Put out.old first (each definition_bytes (program_of s.now)) out.new result }
 {
     let mut at = first;
-    for group in sorted.chunk_by(|x, y| x.same_predicate(*y)) {
+    for group in sorted.chunk_by(|x, y| same_predicate(*x, *y)) {
         at = put_definition(out, at, s, group);
     }
     at
 }
 
 // The record of the definitions, which were surveyed.
-fn put_record(s: &[u8], sorted: &[Entry], survey: Survey, out: &mut [u8]) -> usize
+fn put_record(s: &[u8], sorted: &[usize], survey: Survey, out: &mut [u8]) -> usize
     requires remaining { Remaining s.now sorted.now 0 (program_of s.now) }
     requires survey_value { Some survey ≡ surveyed (program_of s.now) }
     requires size_bound { survey.size ≤ 32763 }
@@ -73,7 +73,7 @@ fn put_record(s: &[u8], sorted: &[Entry], survey: Survey, out: &mut [u8]) -> usi
 const FITTING_SIZE: usize = RECORD_LIMIT - 5;
 
 // Questions 9 and 10 (SPECIFICATION 7.6, 8.9), and then the record.
-pub(crate) fn put_program(s: &[u8], sorted: &[Entry], out: &mut [u8]) -> Result<(), Refusal>
+pub fn put_program(s: &[u8], sorted: &[usize], out: &mut [u8]) -> Result<(), Refusal>
     requires remaining { Remaining s.now sorted.now 0 (program_of s.now) }
     requires in_bounds { 32768 ≤ length out.old }
     ensures { Replied (program_reply out.old (program_of s.now)) (outcome_number result) out.new }

@@ -68,12 +68,7 @@ fn emit_cell(
 }
 
 // The cells that the tables hold, from the last to the first.
-pub(crate) fn emit_cells(
-    out: &mut [u8],
-    roles: &[Role],
-    names: &[u16],
-    variables: &[u8],
-) -> Emission
+pub fn emit_cells(out: &mut [u8], roles: &[Role], names: &[u16], variables: &[u8]) -> Emission
     requires count_bound { length roles.now ≤ 65535 }
     requires count_in_bounds { (length roles.now ≤ length names.now) × (length roles.now ≤ length variables.now) }
     ensures { EmittedCells (length out.old) out.new result (emitted (table_cells roles.now names.now variables.now 0 (length roles.now))) }

@@ -238,7 +238,7 @@ pub fn disjunction(out: &mut [u8], e: Emission) -> Emission
 }
 
 // What stands behind a closing bracket around a goal is kept until its opening one.
-pub(crate) fn close_bracket(brackets: &mut [Behind], e: Emission) -> Emission
+pub fn close_bracket(brackets: &mut [Behind], e: Emission) -> Emission
     requires { e.goals < length brackets.old }
     ensures { (a x : ℕ) (out counts : List ℕ) → Turns out counts brackets.old e out counts brackets.new result (emit_cell (cell roles.Close a x)) }
 {
@@ -269,7 +269,7 @@ fn reopened(brackets: &[Behind], e: Emission) -> Emission
     }
 }
 
-pub(crate) fn open_bracket(out: &mut [u8], brackets: &[Behind], e: Emission) -> Emission
+pub fn open_bracket(out: &mut [u8], brackets: &[Behind], e: Emission) -> Emission
     requires at_in_bounds { e.at ≤ length out.old }
     requires goals_in_bounds { e.goals ≤ length brackets.now }
     ensures { (a x : ℕ) (counts : List ℕ) → Turns out.old counts brackets.now e out.new counts brackets.now result (emit_cell (cell roles.Open a x)) }

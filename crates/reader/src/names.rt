@@ -68,7 +68,7 @@ fn enter_item(
 }
 
 // All items, by the table of their roles, behind the names that the trie and the list hold. Gives the bytes of the list there are then.
-pub(crate) fn number_names(
+pub fn number_names(
     s: &[u8],
     roles: &[Role],
     numbers: &mut [u16],

@@ -21,7 +21,7 @@ fn equals_behind(s: &[u8], at: usize, kind: Kind) -> bool
 }
 
 // The role of each token, and how many there are.
-pub(crate) fn sort(s: &[u8], start: State, roles: &mut [Role]) -> usize
+pub fn sort(s: &[u8], start: State, roles: &mut [Role]) -> usize
     requires s_len_bound { (length s.now ≤ 65535) × (65535 ≤ length roles.old) }
     requires goals_bound { start.terms + start.goals ≤ 0 }
     ensures { Sorted s.now start roles.old roles.new result }

@@ -33,12 +33,12 @@ pub struct Trie {
     pub nodes: [TrieNode; NODES],
     pub used: usize,
     pub names: usize,
-    ghost filled: { Filled (links nodes) used },
+    pub ghost filled: { Filled (links nodes) used },
 }
 
 impl Trie {
     // The root alone.
-    pub(crate) fn start() -> Self
+    pub fn start() -> Self
         ensures { (result.nodes ≡ replicate 65536 TrieNode.EMPTY) × (result.used ≡ 1) × (result.names ≡ 0) }
     {
         Trie {
@@ -103,7 +103,7 @@ impl Trie {
     }
 
     // The number of a name: its place among the names so far, at whose end it stands from now on if it is new. The empty word is no name.
-    pub(crate) fn name_number(&mut self, word: &[u8]) -> usize
+    pub fn name_number(&mut self, word: &[u8]) -> usize
         requires { (self.old.used + length word.now ≤ 65536) × (self.old.names + 1 ≤ 65535) }
         ensures { NameGiven (links self.old.nodes) (marks self.old.nodes) self.old.used self.old.names word.now (links self.new.nodes) (marks self.new.nodes) self.new.used self.new.names result }
     {

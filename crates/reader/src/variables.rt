@@ -1,8 +1,8 @@
 // The variables of each clause, numbered by first appearance: a table of numbers, by the token's place.
-ghost use Rattle.std.specs.Prelude.{◌≡◌, ◌≤◌, length, take};
+ghost use Rattle.std.specs.Prelude.{◌≡◌, ◌≤◌, length};
 ghost use Rattle.records.specs.Ends.Range.{cut, Inside};
 ghost use Rattle.reader.specs.Form.Meaning.{lone, place, number_in};
-ghost use Rattle.reader.specs.Items.Variables.{range_words, RangesInside, NumberedItem, NumberedItems};
+ghost use Rattle.reader.specs.Items.Variables.{range_words, RangesInside, first_ranges, NumberedItem, NumberedItems};
 
 use crate::roles::Role;
 use records::compare::same_range;
@@ -60,7 +60,7 @@ fn variable_number(s: &[u8], w: Range, met: &[Range]) -> usize
 fn number_item(s: &[u8], role: Role, w: Range, ranges: &mut [Range], n: usize) -> Numbered
     requires inside { Inside w s.now }
     requires n_bound { (n ≤ 64) × (64 ≤ length ranges.old) }
-    requires ranges_inside { RangesInside s.now (take n ranges.old) }
+    requires ranges_inside { RangesInside s.now (first_ranges ranges.old n) }
     ensures { NumberedItem s.now role w ranges.old n ranges.new result }
 {
     if role.is_variable() {
@@ -92,7 +92,7 @@ fn number_item(s: &[u8], role: Role, w: Range, ranges: &mut [Range], n: usize) -
 }
 
 // The number of each variable and the count of each clause, by the roles of the tokens; whether a clause has a 65th.
-pub(crate) fn number_variables(s: &[u8], roles: &[Role], variables: &mut [u8]) -> bool
+pub fn number_variables(s: &[u8], roles: &[Role], variables: &mut [u8]) -> bool
     requires { length roles.now ≤ length variables.old }
     ensures { NumberedItems s.now roles.now (length roles.now) variables.old variables.new result }
 {

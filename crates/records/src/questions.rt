@@ -1,6 +1,7 @@
 // The questions that refuse (SPECIFICATION 7.2 to 7.7, 13.5), and their numbers.
-ghost use Rattle.std.specs.Prelude.{◌≡◌, ◌<◌};
-ghost use Rattle.records.specs.Gate.Question.{fault_number, refusal_number};
+ghost use Rattle.std.specs.Prelude.{◌≡◌, ◌<◌, Err};
+ghost use Rattle.records.specs.Gate.Gate.{program_number, event_number};
+ghost use Rattle.records.specs.Gate.Question.{refusal_number};
 ghost use Rattle.records.specs.Gate.Reply.{outcome_number};
 
 // Questions 1 to 4, put to every record.
@@ -30,8 +31,9 @@ pub enum Refusal {
 }
 
 impl Fault {
-    fn number(self) -> u8
-        ensures { (result ≡ fault_number self) × (result < 5) }
+    // Its number for a program or a clause record.
+    fn program_number(self) -> u8
+        ensures { (result ≡ program_number (Err self)) × (result < 5) }
     {
         match self {
             Fault::Framing => 1,
@@ -39,6 +41,13 @@ impl Fault {
             Fault::Grammar => 3,
             Fault::Rules => 4,
         }
+    }
+
+    // Its number for a query or an event.
+    fn event_number(self) -> u8
+        ensures { result ≡ event_number (Err self) }
+    {
+        10 + self.program_number()
     }
 }
 
@@ -48,8 +57,8 @@ impl Refusal {
         ensures { result ≡ refusal_number self }
     {
         match self {
-            Refusal::Program(fault) => fault.number(),
-            Refusal::Event(fault) => 10 + fault.number(),
+            Refusal::Program(fault) => fault.program_number(),
+            Refusal::Event(fault) => fault.event_number(),
             Refusal::Output => 5,
             Refusal::Possible => 6,
             Refusal::Matches => 7,

@@ -86,7 +86,7 @@ pub fn back_rule(v: View) -> Option<Rule>
 }
 
 // The plan of the rule, read back; fail of an equality and of an atom goes to call.
-pub(crate) fn back_plan(v: View, rule: Option<Rule>) -> Plan
+pub fn back_plan(v: View, rule: Option<Rule>) -> Plan
     ensures { result ≡ back_plan v rule }
 {
     match rule {

@@ -86,7 +86,7 @@ pub fn forward_rule(v: View) -> Option<Rule>
 }
 
 // The plan of the rule; an equality and an atom fail by that of call.
-pub(crate) fn forward_plan(v: View, rule: Option<Rule>) -> Plan
+pub fn forward_plan(v: View, rule: Option<Rule>) -> Plan
     ensures { result ≡ forward_plan v rule }
 {
     match rule {

@@ -3,12 +3,13 @@
 ghost use Rattle.std.specs.Prelude.{◌≡◌, ℕ, ◌+◌, ◌-◌, ◌<◌, ◌≤◌, ◌^◌, min, length};
 ghost use Rattle.records.specs.Format.Syntax.{arity};
 ghost use Rattle.records.specs.Format.Encode.{term_bytes, goal_bytes};
+ghost use Rattle.records.specs.Gate.Question.{refusal_number};
 ghost use Rattle.terms.specs.Body.Arguments.{TermsOf};
 ghost use Rattle.terms.specs.Body.Body.{numbered, defined, locals_beyond, body, next_variable};
 ghost use Rattle.terms.specs.Standing.Frames.{GoalAt};
 ghost use Rattle.terms.specs.Body.Definitions.{ProgramAt};
 ghost use Rattle.terms.specs.Values.Replacing.{ArgumentsOf};
-ghost use Rattle.terms.specs.Body.BodyBytes.{AtomAt, as_refusal, numbered_goal, body_with, BodyAnswered};
+ghost use Rattle.terms.specs.Body.BodyBytes.{AtomAt, as_refusal, body_refusal, numbered_goal, body_with, BodyAnswered};
 
 use crate::arguments::{Arguments, argument, list_arguments};
 use crate::definitions::{Place, find_definition};
@@ -31,7 +32,7 @@ pub enum BodyRefusal {
 pub type BodyAnswer = Result<Option<usize>, BodyRefusal>;
 
 impl From<BodyRefusal> for Refusal {
-    ghost from_gives = { λ b r. r ≡ as_refusal b };
+    ghost from_gives = { λ b r. (r ≡ as_refusal b) × (refusal_number r ≡ body_refusal b) };
 
     fn from(refusal: BodyRefusal) -> Refusal {
         match refusal {

@@ -4,9 +4,10 @@ ghost use Rattle.records.specs.Format.Syntax.{Bet};
 ghost use Rattle.terms.specs.Values.Applied.{TermAt};
 ghost use Rattle.terms.specs.Values.Entries.{PairsListed};
 ghost use Rattle.std.proofs.Math.Option.{some};
+ghost use Rattle.records.specs.Gate.Question.{refusal_number};
 ghost use Rattle.terms.specs.Theory.Outcome.{value_under, outcome_of};
 ghost use Rattle.terms.specs.Unifier.UnifierAnswer.{Unifiable};
-ghost use Rattle.terms.specs.Unifier.Equality.{as_refusal, OneValue, UnifierAnswered, ValuesAnswered, EqualityUnder, UnifierUnder};
+ghost use Rattle.terms.specs.Unifier.Equality.{as_refusal, unifier_refusal, OneValue, UnifierAnswered, ValuesAnswered, EqualityUnder, UnifierUnder};
 
 use crate::apply::listed_value;
 use crate::nodes::{Classes, Node};
@@ -31,7 +32,7 @@ pub enum UnifierRefusal {
 pub type UnifierAnswer = Result<Option<usize>, UnifierRefusal>;
 
 impl From<UnifierRefusal> for Refusal {
-    ghost from_gives = { λ u r. r ≡ as_refusal u };
+    ghost from_gives = { λ u r. (r ≡ as_refusal u) × (refusal_number r ≡ unifier_refusal u) };
 
     fn from(refusal: UnifierRefusal) -> Refusal {
         match refusal {

@@ -221,10 +221,10 @@ page_starts {program} {query} P reads b put g = record {
 }
 
 -- the page of the stop line, where the records are refused
-pub page_stops : {program query whole before between after : List ℕ} {most used : ℕ} {r : Result Page Refusal} {e : Refusal}
-    → PageOrRefusal program query whole most before r between → r ≡ Err e → Put between 0 (stop_bytes (refusal_number e)) after used → used ≤ length after
-    → PageOf program query whole most before 0 (record { used = used; rest = Done }) after
-page_stops {most = most} g is put inside = let told = rw is at g in rw (told.0, ← told.1) (gives_last most put inside)
+pub page_stops : {program query whole before between after : List ℕ} {most : ℕ} {r : Result Page Refusal} {e : Refusal} {page : Page}
+    → PageOrRefusal program query whole most before r between → r ≡ Err e → PageOf program query (stop_bytes (refusal_number e)) most between 0 page after
+    → PageOf program query whole most before 0 page after
+page_stops g is stop = let told = rw is at g in rw (told.0, ← told.1) stop
 
 -- what is left, by the case
 module _ {program query before after : List ℕ} {page : Page} where

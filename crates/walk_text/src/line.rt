@@ -1,11 +1,9 @@
 // The text of a walk: numbers in decimal, the line of an event, the stop line. Each writer puts its bytes at a place of an output.
 ghost use Rattle.std.specs.Prelude.{[], ◌∷◌, ◌++◌, ◌+◌, ◌*◌, ◌≤◌, ◌<◌, length};
-ghost use Rattle.records.specs.Gate.Reply.{outcome_number};
 ghost use Rattle.records.specs.Writing.Patched.{Put};
 ghost use Rattle.walk_text.specs.Line.{decimal, field, line_feed, byte_word, number_line, log_lines, stop_bytes};
 
 use records::put::{put_byte, put_part};
-use records::questions::{Refusal, outcome_number};
 
 // A number in decimal; one of 64 bits has 20 digits at most.
 fn put_number(out: &mut [u8], at: usize, n: usize) -> usize
@@ -88,13 +86,13 @@ pub fn put_lines(out: &mut [u8], at: usize, first: usize, log: &[usize]) -> usiz
     used
 }
 
-// The stop line, with 0 or the number of the question that stopped the walk.
-pub fn put_stop(out: &mut [u8], at: usize, outcome: Result<(), Refusal>) -> usize
+// The stop line.
+pub fn put_stop(out: &mut [u8], at: usize, number: u8) -> usize
     requires { at + 26 ≤ length out.old }
-    ensures put { Put out.old at (stop_bytes (outcome_number outcome)) out.new result }
+    ensures put { Put out.old at (stop_bytes number) out.new result }
     ensures within { result ≤ at + 26 }
 {
     let number_at = put_part(out, at, b"stop");
-    let end_at = put_count(out, number_at, usize::from(outcome_number(&outcome)));
+    let end_at = put_count(out, number_at, usize::from(number));
     put_byte(out, end_at, b'\n')
 }

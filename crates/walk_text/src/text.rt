@@ -13,7 +13,7 @@ use crate::line::{put_lines, put_stop};
 use records::door::{door, program_door};
 use records::kinds::RECORD_LIMIT;
 use records::put::put_part;
-use records::questions::Refusal;
+use records::questions::{Refusal, outcome_number};
 use stepper::first::first_event;
 use stepper::run::{RunOrder, RunStop, run_from};
 
@@ -58,6 +58,16 @@ pub struct Page {
     pub rest: Rest,
 }
 
+// The page that has the stop line alone.
+fn stop_page(number: u8, page: &mut [u8; PAGE]) -> Page
+    ensures { (program query : List ℕ) (most : ℕ) → PageOf program query (stop_bytes number) most page.old 0 result page.new }
+{
+    Page {
+        used: put_stop(page, 0, number),
+        rest: Rest::Done,
+    }
+}
+
 // Forward, with no aim, and a log.
 fn walk_order() -> RunOrder
     ensures { result ≡ walk_order }
@@ -93,18 +103,21 @@ fn walk_page(program: &[u8], from: &[u8], first: usize, at: usize, page: &mut [u
             }),
         },
         _ => Page {
-            used: put_stop(page, used, end.outcome()),
+            used: put_stop(page, used, outcome_number(&end.outcome())),
             rest: Rest::Done,
         },
     }
 }
 
-// The first page of two records and a first event that nothing refuses: the line of the first event, which is the same for every query, and what follows
-// it.
+// The first page: the stop line of a refused program, whatever the query is; of two records and a first event that nothing refuses, the line of the first
+// event, which is the same for every query, and what follows it.
 fn first_page(program: &[u8], query: &[u8], page: &mut [u8; PAGE]) -> Result<Page, Refusal>
     ensures { PageOrRefusal program.now query.now (text program.now query.now) (suc step_limit) page.old result page.new }
 {
-    program_door(program)?;
+    if let Err(refusal) = program_door(program) {
+        let number = refusal.number();
+        return Ok(stop_page(number, page));
+    }
     let mut event = [0; RECORD_LIMIT];
     let length = first_event(query, &mut event)?;
     let used = put_part(page, 0, b"0 call 0 0\n");
@@ -126,10 +139,7 @@ fn page_or_stop(filled: Result<Page, Refusal>, page: &mut [u8; PAGE]) -> Page
 {
     match filled {
         Ok(next) => next,
-        Err(refusal) => Page {
-            used: put_stop(page, 0, Err(refusal)),
-            rest: Rest::Done,
-        },
+        Err(refusal) => stop_page(refusal.number(), page),
     }
 }
 

@@ -6,7 +6,6 @@ use mathlib.Core.List.{List, [], ◌∷◌, ◌++◌, append_assoc, append-nil}
 use Rattle.std.proofs.Math.ListN.{get_or-append, length, take, length-set}
 use Rattle.std.specs.List.{IsLastAndRest}
 use Rattle.std.proofs.Math.Seq.{take-suc-set, get_or-append_seam}
-use Rattle.std.proofs.lemmas.List.{get_or_default}
 use Rattle.records.specs.Format.Never.{never}
 use Rattle.records.specs.Format.Syntax.{Clause, arity}
 use Rattle.records.specs.Format.Syntax.Clause.{clause}
@@ -188,16 +187,13 @@ all_at Φ (x ∷ l) (suc i) h k = all_at Φ l i h.1 (omega arith)
 pub group_clause : {s group : List ℕ} {i : ℕ} → GroupAt s group → i < length group → ClauseAt s (entry_place (get_or group i 0))
 group_clause {s} {group} {i} r h = all_at (λ e. ClauseAt s (entry_place e)) group i r.entries h
 
--- for code that read the place of the i-th entry
-pub place_read : (group : List ℕ) (i e : ℕ) {p : ℕ} → e ≡ get_or group i e → i < length group → p ≡ entry_place e → p ≡ entry_place (get_or group i 0)
-place_read group i e is h q = q ∙ ap entry_place (is ∙ get_or_default group i e 0 h)
-
--- and for code that took the last entry off
-pub other_read : (group others : List ℕ) (last i e : ℕ) {p : ℕ} → IsLastAndRest group last others → e ≡ get_or others i e → i < length others → p ≡ entry_place e
+-- for code that took the last entry off, and read the place of the i-th of the others
+pub other_read : (group others : List ℕ) (last i : ℕ) {p : ℕ} → IsLastAndRest group last others → i < length others → p ≡ entry_place (get_or others i 0)
     → p ≡ entry_place (get_or group i 0)
-other_read group others last i e split is h q =
-    q ∙ ap entry_place (is ∙ get_or_default others i e 0 h ∙ sym (ap (λ (l : List ℕ). get_or l i 0) split.0 ∙ get_or-append others (last ∷ []) 0 i h))
+other_read group others last i split h q =
+    q ∙ ap entry_place (sym (ap (λ (l : List ℕ). get_or l i 0) split.0 ∙ get_or-append others (last ∷ []) 0 i h))
 
+-- or of the last one
 pub last_read : (group others : List ℕ) (last i : ℕ) {p : ℕ} → IsLastAndRest group last others → i ≡ length others → p ≡ entry_place last → p ≡ entry_place (get_or group i 0)
 last_read group others last i split at q = q ∙ ap entry_place (sym (ap (λ (l : List ℕ). get_or l i 0) split.0 ∙ rw at (get_or-append_seam others last [] 0)))
 

@@ -45,7 +45,7 @@ next_refused out (refused q) e z = e
 next_refused out (gives c) e z = absurd (z e)
 
 -- the order for as many ancestors as the event has
-order_told : {p : Places} (e : Event) → p ≡ event_places e → call_order p.ancestors.count ≡ call_order (length (ancestors_of e))
+pub order_told : {p : Places} (e : Event) → p ≡ event_places e → call_order p.ancestors.count ≡ call_order (length (ancestors_of e))
 unfolding event_places
 order_told (event p g u s) h = rw h refl
 

@@ -1,5 +1,5 @@
 -- The table of variables: what numbering the items of a text leaves, and what code keeps meanwhile. The variables met in a clause are ranges of the text.
-use Rattle.std.specs.Prelude.{◌≡◌, Bool, false, cond, not, List, [], ℕ, ◌≤◌, leb, length, take, drop, map}
+use Rattle.std.specs.Prelude.{◌≡◌, Bool, false, cond, not, List, [], ◌++◌, ℕ, ◌≤◌, leb, length, take, drop, map, replicate}
 use Rattle.std.specs.List.{All}
 use Rattle.records.specs.Ends.Range.{cut, Inside}
 use Rattle.records.specs.declared.put.Range.{Range}
@@ -19,6 +19,10 @@ range_words s ranges = map (cut s) ranges
 unfoldable pub RangesInside : List ℕ → List Range → Type 0
 RangesInside s ranges = All (λ r. Inside r s) ranges
 
+-- the first n ranges of a table; behind its end they are empty
+abbrev pub first_ranges : List Range → ℕ → List Range
+first_ranges ranges n = take n (ranges ++ replicate n (record { from = 0; to = 0 }))
+
 -- the number of an item behind the variables vs, and the variables met behind it, by its role
 abbrev pub role_number : Role → List (List ℕ) → List ℕ → ℕ
 role_number o vs w = cond (variable_role o) (number_in vs w) (cond (end_role o) (length vs) 0)
@@ -28,10 +32,10 @@ role_met o vs w = cond (variable_role o) (met vs w) (cond (end_role o) [] vs)
 
 -- one item numbered; the range of a 65th variable is not stored, and nothing is said of the ranges then
 pub record NumberedItem (s : List ℕ) (o : Role) (w : Range) (ranges : List Range) (n : ℕ) (after : List Range) (r : Numbered) : Type 0 where
-  pub number : r.number ≡ role_number o (range_words s (take n ranges)) (cut s w)
-  pub count : r.met ≡ length (role_met o (range_words s (take n ranges)) (cut s w))
-  pub words : r.met ≤ 64 → range_words s (take r.met after) ≡ role_met o (range_words s (take n ranges)) (cut s w)
-  pub inside : r.met ≤ 64 → RangesInside s (take r.met after)
+  pub number : r.number ≡ role_number o (range_words s (first_ranges ranges n)) (cut s w)
+  pub count : r.met ≡ length (role_met o (range_words s (first_ranges ranges n)) (cut s w))
+  pub words : r.met ≤ 64 → range_words s (first_ranges after r.met) ≡ role_met o (range_words s (first_ranges ranges n)) (cut s w)
+  pub inside : r.met ≤ 64 → RangesInside s (first_ranges after r.met)
   pub kept : length after ≡ length ranges
 
 -- whether a clause has a 65th variable, and else the table

@@ -1,5 +1,5 @@
 -- Laws of numbering: what the search for a variable finds, one item more, and the whole table.
-use Rattle.std.specs.Prelude.{◌≡◌, refl, Bool, true, false, cond, ◌||◌, ℕ, zero, suc, ◌+◌, ◌≤◌, ◌<◌, max, get_or, set}
+use Rattle.std.specs.Prelude.{◌≡◌, refl, Bool, true, false, cond, ◌||◌, ℕ, zero, suc, ◌+◌, ◌≤◌, ◌<◌, max, get_or, set, replicate}
 use Rattle.std.proofs.Math.Path.{sym, ap}
 use Rattle.std.proofs.Common.{◌∙◌, arith, length-set, length-append, drop_of_length-le, drop-cons}
 use Rattle.std.proofs.Math.Bool.{not}
@@ -8,8 +8,8 @@ use Rattle.std.proofs.Math.Numerals.{add-one}
 use Rattle.std.proofs.Math.Dec.{leb}
 use borrow.Author.Tests.{le-leb, lt-leb, leb-true, leb-false}
 use Rattle.std.proofs.Math.ListN.{length, take, drop}
-use Rattle.std.proofs.Math.Seq.{drop-length, take-suc-set}
-use Rattle.std.proofs.lemmas.List.{map-append, length-map, length-take, length-take-le, get_or-take, take-set-le}
+use Rattle.std.proofs.Math.Seq.{drop-length}
+use Rattle.std.proofs.lemmas.List.{map-append, length-map, length-replicate, length-take-le, get_or-take, take-append-le, take-set-le, take_more_set}
 use Rattle.std.proofs.lemmas.List.Elements.{All-append}
 use Rattle.records.specs.Ends.Range.{cut, Inside}
 use Rattle.records.specs.Ends.Same.{same_bytes}
@@ -28,7 +28,7 @@ use Rattle.reader.specs.Items.Sorted.{text_items, Sorted}
 use Rattle.reader.specs.Items.SortedLaws.{items_words}
 use Rattle.reader.specs.Items.TableLaws.{agrees_none, agrees_more, drop_head, drop_rest, drop_roles}
 use Rattle.reader.specs.Items.Tabled.{Tabled}
-use Rattle.reader.specs.Items.Variables.{range_words, RangesInside, role_number, role_met, NumberedItem, Numbering}
+use Rattle.reader.specs.Items.Variables.{range_words, RangesInside, first_ranges, role_number, role_met, NumberedItem, Numbering}
 use Rattle.reader.specs.Names.PlaceLaws.{place_within, place_listed, place_unlisted}
 use Rattle.reader.specs.Emit.Cells.{variable_number, met_behind}
 use Rattle.reader.specs.declared.roles.Role.{Role}
@@ -86,31 +86,45 @@ range_word_at s (r ∷ ranges) zero d h = refl
 range_word_at s (r ∷ ranges) (suc j) d h = range_word_at s ranges j d (omega arith)
 range_word_at s [] j d h = absurd (omega arith)
 
+-- There are always so many first ranges, and they are the front of a table that has as many.
+first_length : (ranges : List Range) (n : ℕ) → length (first_ranges ranges n) ≡ n
+first_length ranges n =
+    let none : Range = record { from = 0; to = 0 } in
+    length-take-le n (ranges ++ replicate n none) (omega (arith, length-append ranges (replicate n none), length-replicate n none))
+
+pub first_taken : (ranges : List Range) (n : ℕ) → n ≤ length ranges → first_ranges ranges n ≡ take n ranges
+first_taken ranges n h = take-append-le n ranges _ h
+
+first_words : (s : List ℕ) (ranges : List Range) (n : ℕ) → length (range_words s (first_ranges ranges n)) ≡ n
+first_words s ranges n = length_words s (first_ranges ranges n) ∙ first_length ranges n
+
 -- a range stored behind those that are counted
+first_more : (ranges : List Range) (n : ℕ) (w : Range) → n < length ranges → first_ranges (set ranges n w) (n + 1) ≡ first_ranges ranges n ++ (w ∷ [])
+first_more ranges n w h =
+    first_taken (set ranges n w) (n + 1) (omega (arith, length-set ranges n w))
+    ∙ (take_more_set ranges n w h ∙ ap (λ (l : List Range). l ++ (w ∷ [])) (sym (first_taken ranges n (omega arith))))
+
 words_before : (s : List ℕ) (ranges : List Range) (m : ℕ) (w : Range) (n : ℕ) → n ≤ m → range_words s (take n (set ranges m w)) ≡ range_words s (take n ranges)
 words_before s ranges m w n h = ap (range_words s) (take-set-le n ranges m w h)
 
-words_more : (s : List ℕ) (ranges : List Range) (n : ℕ) (w : Range) → n < length ranges → range_words s (take (n + 1) (set ranges n w)) ≡ range_words s (take n ranges) ++ (cut s w ∷ [])
+words_more : (s : List ℕ) (ranges : List Range) (n : ℕ) (w : Range) → n < length ranges → range_words s (first_ranges (set ranges n w) (n + 1)) ≡ range_words s (first_ranges ranges n) ++ (cut s w ∷ [])
 unfolding range_words
-words_more s ranges n w h = rw (add-one n, take-suc-set ranges n w h) (map-append (cut s) (take n ranges) (w ∷ []))
+words_more s ranges n w h = ap (range_words s) (first_more ranges n w h) ∙ map-append (cut s) (first_ranges ranges n) (w ∷ [])
 
 pub inside_none : (s : List ℕ) → RangesInside s []
 unfolding RangesInside
 inside_none s k d h = absurd (omega arith)
 
-inside_more : (s : List ℕ) (ranges : List Range) (n : ℕ) (w : Range) → n < length ranges → RangesInside s (take n ranges) → Inside w s → RangesInside s (take (n + 1) (set ranges n w))
+inside_more : (s : List ℕ) (ranges : List Range) (n : ℕ) (w : Range) → n < length ranges → RangesInside s (first_ranges ranges n) → Inside w s → RangesInside s (first_ranges (set ranges n w) (n + 1))
 unfolding RangesInside
-inside_more s ranges n w h all i = rw (add-one n, take-suc-set ranges n w h) (All-append (λ r. Inside r s) (take n ranges) (w ∷ []) all (λ k d l. let z : k ≡ 0 = omega arith in rw z i))
+inside_more s ranges n w h all i = rw (first_more ranges n w h) (All-append (λ r. Inside r s) (first_ranges ranges n) (w ∷ []) all (λ k d l. let z : k ≡ 0 = omega arith in rw z i))
 
 -- One item. A variable that was met before, a new one, a 65th, the end of a clause, anything else.
-front_words : (s : List ℕ) (ranges : List Range) (n : ℕ) → n ≤ length ranges → length (range_words s (take n ranges)) ≡ n
-front_words s ranges n h = length_words s (take n ranges) ∙ omega (arith, length-take n ranges)
-
-module _ {s : List ℕ} {o : Role} {w : Range} {ranges : List Range} {n : ℕ} (within : n ≤ length ranges) (inside : RangesInside s (take n ranges)) where
-  pub numbered_known : (x : ℕ) → variable_role o ≡ true → x ≡ number_in (range_words s (take n ranges)) (cut s w) → x < n → NumberedItem s o w ranges n ranges (record { number = x; met = n })
+module _ {s : List ℕ} {o : Role} {w : Range} {ranges : List Range} {n : ℕ} (inside : RangesInside s (first_ranges ranges n)) where
+  pub numbered_known : (x : ℕ) → variable_role o ≡ true → x ≡ number_in (range_words s (first_ranges ranges n)) (cut s w) → x < n → NumberedItem s o w ranges n ranges (record { number = x; met = n })
   numbered_known x v e h =
-      let before = range_words s (take n ranges) in
-      let long = front_words s ranges n within in
+      let before = range_words s (first_ranges ranges n) in
+      let long = first_words s ranges n in
       let known = met_known before (cut s w) (omega (arith, long)) in
       record {
         number = rw v e;
@@ -120,11 +134,11 @@ module _ {s : List ℕ} {o : Role} {w : Range} {ranges : List Range} {n : ℕ} (
         kept = refl;
       }
 
-  pub numbered_new : (x : ℕ) → variable_role o ≡ true → x ≡ number_in (range_words s (take n ranges)) (cut s w) → n ≤ x → n < length ranges → Inside w s
+  pub numbered_new : (x : ℕ) → variable_role o ≡ true → x ≡ number_in (range_words s (first_ranges ranges n)) (cut s w) → n ≤ x → n < length ranges → Inside w s
       → NumberedItem s o w ranges n (set ranges n w) (record { number = n; met = n + 1 })
   numbered_new x v e h f i =
-      let before = range_words s (take n ranges) in
-      let long = front_words s ranges n within in
+      let before = range_words s (first_ranges ranges n) in
+      let long = first_words s ranges n in
       let new = new_one o before (cut s w) x v e (omega (arith, long)) in
       record {
         number = sym long ∙ new.0;
@@ -134,10 +148,10 @@ module _ {s : List ℕ} {o : Role} {w : Range} {ranges : List Range} {n : ℕ} (
         kept = length-set ranges n w;
       }
 
-  pub numbered_over : (x : ℕ) → variable_role o ≡ true → x ≡ number_in (range_words s (take n ranges)) (cut s w) → n ≤ x → 64 ≤ n → NumberedItem s o w ranges n ranges (record { number = n; met = n + 1 })
+  pub numbered_over : (x : ℕ) → variable_role o ≡ true → x ≡ number_in (range_words s (first_ranges ranges n)) (cut s w) → n ≤ x → 64 ≤ n → NumberedItem s o w ranges n ranges (record { number = n; met = n + 1 })
   numbered_over x v e h f =
-      let before = range_words s (take n ranges) in
-      let long = front_words s ranges n within in
+      let before = range_words s (first_ranges ranges n) in
+      let long = first_words s ranges n in
       let new = new_one o before (cut s w) x v e (omega (arith, long)) in
       record {
         number = sym long ∙ new.0;
@@ -150,7 +164,7 @@ module _ {s : List ℕ} {o : Role} {w : Range} {ranges : List Range} {n : ℕ} (
   pub numbered_end : variable_role o ≡ false → end_role o ≡ true → NumberedItem s o w ranges n ranges (record { number = n; met = 0 })
   unfolding range_words
   numbered_end v e = record {
-    number = rw (v, e) (sym (front_words s ranges n within));
+    number = rw (v, e) (sym (first_words s ranges n));
     count = rw (v, e) refl;
     words = λ l. rw (v, e) refl;
     inside = λ l. inside_none s;
@@ -160,7 +174,7 @@ module _ {s : List ℕ} {o : Role} {w : Range} {ranges : List Range} {n : ℕ} (
   pub numbered_other : variable_role o ≡ false → end_role o ≡ false → NumberedItem s o w ranges n ranges (record { number = 0; met = n })
   numbered_other v e = record {
     number = rw (v, e) refl;
-    count = rw (v, e) (sym (front_words s ranges n within));
+    count = rw (v, e) (sym (first_words s ranges n));
     words = λ l. rw (v, e) refl;
     inside = λ l. inside;
     kept = refl;
@@ -204,15 +218,15 @@ tabled_front {roles = roles} {count} h t =
     record { counted = e ∙ t.counted; coded = λ j i. let k : j < count = omega (arith, e) in get_or-take count roles j Variable k ∙ t.coded j k; worded = t.worded }
 
 module _ {s : List ℕ} {roles : List Role} {count : ℕ} {is : List Item} (tabled : Tabled s roles count is) where
-  pub numbering_start : (variables : List ℕ) (ranges : List Range) → Numbering s is variables 0 0 (range_words s (take 0 ranges))
+  pub numbering_start : (variables : List ℕ) (ranges : List Range) → Numbering s is variables 0 0 (range_words s (first_ranges ranges 0))
   unfolding tokens_of tokens_from range_words
   numbering_start variables ranges = record { words = tabled.worded; left = refl; most = refl; table = agrees_none _ variables (variable_numbers [] is) }
 
   module _ {variables : List ℕ} {ranges after : List Range} {at k n : ℕ} {t : Lexeme} {r : Numbered}
-      (g : Numbering s is variables at k (range_words s (take n ranges))) (next : NextToken s at t) (more : k < count)
+      (g : Numbering s is variables at k (range_words s (first_ranges ranges n))) (next : NextToken s at t) (more : k < count)
       (numbered : NumberedItem s (get_or roles k Variable) t.word ranges n after r) where
     abbrev vs : List (List ℕ)
-    vs = range_words s (take n ranges)
+    vs = range_words s (first_ranges ranges n)
 
     -- the item at k, told by its role and word
     by_this : (A : Type 0) → ((o : Role) (w : List ℕ) → drop k is ≡ item o w ∷ drop (suc k) is → r.number ≡ variable_number vs (item o w)
@@ -227,9 +241,9 @@ module _ {s : List ℕ} {roles : List Role} {count : ℕ} {is : List Item} (tabl
             let word = next.word_is ∙ sym both.0 in
             f o w e (numbered.number ∙ rw (role, word) (sym (by_role o (number_in vs w) (length vs) 0))) (rw (role, word) (sym (by_role o (met vs w) [] vs))) (both.1 ∙ sym (ap token_words next.rest_is))
 
-    pub numbering_more : k < length variables → r.met ≤ 64 → Numbering s is (set variables k r.number) t.next (k + 1) (range_words s (take r.met after))
+    pub numbering_more : k < length variables → r.met ≤ 64 → Numbering s is (set variables k r.number) t.next (k + 1) (range_words s (first_ranges after r.met))
     unfolding variable_numbers most_met
-    numbering_more h few = by_this (Numbering s is (set variables k r.number) t.next (k + 1) (range_words s (take r.met after))) (λ o w e x m b. record {
+    numbering_more h few = by_this (Numbering s is (set variables k r.number) t.next (k + 1) (range_words s (first_ranges after r.met))) (λ o w e x m b. record {
       words = rw (add-one k) b;
       left = drop_rest (variable_numbers [] is) k (variable_number vs (item o w)) (variable_numbers (met_behind vs (item o w)) (drop (suc k) is)) (g.left ∙ ap (variable_numbers vs) e)
           ∙ rw (numbered.words few, m, add-one k) refl;

@@ -366,11 +366,19 @@ module _ {program s here log log' : List ℕ} (byte : Known program) (known : Kn
         log_is = h.log_is;
       }
 
-  -- or it is left where it is, and there is no log
-  pub ran_held : {before : List ℕ} → log ≡ [] → length here ≡ length before → RanHere (run (machine layers w.definitions) (asked order []) steps w.event) r before here
-  ran_held {before} empty same =
-      subst (λ o. RanHere (run (machine layers w.definitions) o steps w.event) r before here) (ap (asked order) empty)
+  -- or it is left where it is, and the log asks for what no log does
+  ran_alike : {before : List ℕ} → asked order log ≡ asked order [] → length here ≡ length before
+      → RanHere (run (machine layers w.definitions) (asked order []) steps w.event) r before here
+  ran_alike {before} alike same =
+      subst (λ o. RanHere (run (machine layers w.definitions) o steps w.event) r before here) alike
       (record { tells = h.tells; front = h.front; reads = rw h.front end_reads; inside = h.inside; same_length = same })
+
+  -- so it is with a log of one number, which is no mark, and with none
+  pub ran_held : {before : List ℕ} → length log ≡ 1 → length here ≡ length before → RanHere (run (machine layers w.definitions) (asked order []) steps w.event) r before here
+  ran_held short = ran_alike (asked_alike order log short)
+
+  pub ran_unlogged : {before : List ℕ} → log ≡ [] → length here ≡ length before → RanHere (run (machine layers w.definitions) (asked order []) steps w.event) r before here
+  ran_unlogged empty = ran_alike (ap (asked order) empty)
 
 -- what an answer tells of a run that met its aim, and of one that did not
 pub tells_met : {end : RunEnd} {r : RunAnswer} → Tells end r → met_case r.stop ≡ true → end.why ≡ met

@@ -94,7 +94,7 @@ module _ {s : List ℕ} {v : View} (known : Known s) (w : EqualityViewed s v) (p
   its_answer = settled_equality p q w.left w.right w.ancestors w.bets
 
   module _ {before after : List ℕ} where
-    equality_large : its_unifier ≡ too_large → after ≡ before → Stepped its_answer before (Err Values) after
+    pub equality_large : its_unifier ≡ too_large → after ≡ before → Stepped its_answer before (Err Values) after
     unfolding settled_equality limited_by by_unifier question_number
     equality_large h k = rw (h, k) (stepped_refused values refl)
 
@@ -118,7 +118,7 @@ module _ {s : List ℕ} {v : View} (known : Known s) (w : EqualityViewed s v) (p
         (rw (w.same, ← fp) (unifier_place e q σ m)) m (rw (w.same, ← fp) (unifier_record e q σ m)) (rw w.same (unifier_ends_are e q σ))
         (lent_put gap before l (unifier_bytes σ) (omega arith) h.room h.put) c)
 
-    equality_long : {after : List ℕ} → UnifierLong its_unifier (length (lent_part before r)) → after ≡ before → Stepped its_answer before (Err Fits) after
+    pub equality_long : {after : List ℕ} → UnifierLong its_unifier (length (lent_part before r)) → after ≡ before → Stepped its_answer before (Err Fits) after
     unfolding settled_equality limited_by by_unifier
     equality_long h k =
         let e = unifier_record_length equality_parts q h.bindings refl in

@@ -36,11 +36,13 @@ pub record NodeOf (n : Nodes) (i : ℕ) (t : Term) : Type 0 where
   pub kind_is : kind n i ≡ term_kind t
   pub number_is : node_number n i ≡ term_number t
 
--- t's nodes are written from `start` on, those before are as they were
+-- t's nodes are written from `start` on; those before and behind are as they were, and the table is as long as it was
 pub record NodesPut (start : ℕ) (old new : Nodes) (end : ℕ) (t : Term) : Type 0 where
   pub place : end ≡ start + node_count t
   pub written : (i : ℕ) → i < node_count t → NodeOf new (start + i) (term_at (cons t nil) i)
   pub before : (i : ℕ) → i < start → node new i ≡ node old i
+  pub behind : (i : ℕ) → end ≤ i → node new i ≡ node old i
+  pub long : count new ≡ count old
 
 -- whatever term the bytes are
 pub record Loads (b : List ℕ) (start : ℕ) (old new : Nodes) (end : ℕ) : Type 0 where

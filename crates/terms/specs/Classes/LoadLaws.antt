@@ -35,6 +35,8 @@ pub record Loading (b : List ℕ) (start : ℕ) (old new : Nodes) (i p : ℕ) (t
   pub sum : many + nodes_count left ≡ node_count t
   pub written : (k : ℕ) → k < many → NodeOf new (start + k) (term_at (cons t nil) k)
   pub before : (k : ℕ) → k < start → node new k ≡ node old k
+  pub behind : (k : ℕ) → i ≤ k → node new k ≡ node old k
+  pub long : count new ≡ count old
 
 -- a node by its head; where its subtree ends is not known yet
 abbrev pub head_node : NodeHead → Node
@@ -52,6 +54,8 @@ module _ (b : List ℕ) (start : ℕ) (old : Nodes) where
     sum = omega arith;
     written = λ k h. absurd (omega arith);
     before = λ k h. refl;
+    behind = λ k h. refl;
+    long = refl;
   }
     where
       whole : Stands b 0 (term_bytes t ++ []) (length b)
@@ -90,6 +94,8 @@ module _ (b : List ℕ) (start : ℕ) (old : Nodes) where
                     (get_or-set_other new i (start + k) (head_node h) blank (λ v. omega (arith, l.place))) (l.written k y))
                     (here inside (ap (λ g. g.kind) z ∙ a ∙ sym (ap (λ v. term_kind (forest_first v)) r)) (ap (λ g. g.number) z ∙ c ∙ sym (ap (λ v. term_number (forest_first v)) r)));
                 before = λ k y. get_or-set_other new i k (head_node h) blank (λ v. omega (arith, l.place)) ∙ l.before k y;
+                behind = λ k y. get_or-set_other new i k (head_node h) blank (λ v. omega arith) ∙ l.behind k (omega arith);
+                long = length-set new i (head_node h) ∙ l.long;
               };
             }
           where
@@ -114,7 +120,7 @@ module _ (b : List ℕ) (start : ℕ) (old : Nodes) where
     loading_end l le = go l.left l.stands l.sum
       where
         go : (left : Terms) → Stands b p (terms_bytes left) (length b) → l.many + nodes_count left ≡ node_count t → NodesPut start old new i t
-        go nil w d = record { place = omega (arith, l.place); written = λ k h. l.written k (omega arith); before = l.before }
+        go nil w d = record { place = omega (arith, l.place); written = λ k h. l.written k (omega arith); before = l.before; behind = l.behind; long = l.long }
         go (cons u ts) w d =
             let z = count_bytes u in
             let y = count_positive u in

@@ -28,7 +28,7 @@ use Rattle.terms.specs.Theory.SubstitutionLaws.{term_length_least}
 use Rattle.terms.specs.Theory.Outcome.{value}
 use Rattle.terms.specs.Standing.AcceptedLaws.{accepted_bets}
 use Rattle.terms.specs.Standing.BetRow.{RuledBets}
-use Rattle.terms.specs.Values.Answered.{Answered}
+use Rattle.terms.specs.Values.Answered.{Answered, value_refusal}
 use Rattle.terms.specs.Values.AnsweredLaws.{answered_fits, answered_large}
 use Rattle.terms.specs.Values.ValueService.{within_limit, value_into, value_answer, bets_of}
 use Rattle.terms.specs.Values.Sized.{Sized}
@@ -49,9 +49,9 @@ value_no_room {before} o h = receipted_refused term_bytes before (room_short _ h
 module _ {bets : List Bet} {v : ℕ} {a : List ℕ} {r : Sized} (w : Answered bets (var v) a r) where
   -- a value that is too large
   pub value_large : {before : List ℕ} → 32768 ≤ length before → r ≡ None
-      → Receipted term_bytes (value_into (length before) (value bets v)) before (record { number = 8; length = 0 }) before
+      → Receipted term_bytes (value_into (length before) (value bets v)) before (record { number = value_refusal r; length = 0 }) before
   unfolding value_into question_number
-  value_large {before} h e = receipted_refused term_bytes before (room_enough _ h ∙ ap within_limit (answered_large w e)) refl
+  value_large {before} h e = receipted_refused term_bytes before (room_enough _ h ∙ ap within_limit (answered_large w e)) (ap value_refusal e)
 
   module _ {m : ℕ} (e : r ≡ Some m) where
     value_within : (0 < m) × (m ≤ length a)
@@ -65,11 +65,12 @@ module _ {bets : List Bet} {v : ℕ} {a : List ℕ} {r : Sized} (w : Answered be
 
     -- a value copied to the output
     pub value_copied : {before after : List ℕ} {k : ℕ} → 32768 ≤ length before → Put before 0 (cut a (record { from = 0; to = m })) after k
-        → Receipted term_bytes (value_into (length before) (value bets v)) before (record { number = 0; length = k }) after
+        → Receipted term_bytes (value_into (length before) (value bets v)) before (record { number = value_refusal r; length = k }) after
     unfolding value_into
     value_copied {before} h p =
-        receipted_given term_bytes before (room_enough _ h ∙ ap within_limit (answered_fits w e).0) (rw (stands_cut (answered_fits w e).1) at p)
-        (omega (arith, (answered_fits w e).2, (answered_fits w e).1.end))
+        let q = receipted_given term_bytes before (room_enough _ h ∙ ap within_limit (answered_fits w e).0) (rw (stands_cut (answered_fits w e).1) at p)
+        (omega (arith, (answered_fits w e).2, (answered_fits w e).1.end)) in
+        rw e q
 
 -- the bets of an event stand where its places say
 pub record BetsOf (s : List ℕ) (e : Event) (places : Places) : Type 0 where

@@ -1,21 +1,20 @@
 use native.Mathlib.Omega.{arith}
-use Rattle.canonical.specs.Sorting.EntryLaws.{place_read}
 use Rattle.canonical.specs.Writing.DefinitionLaws.{summing_next, summing_locals, summing_size, summing_end}
 use Rattle.canonical.proofs.definition.group_totals.Goals as goal
 
 pub overflow_add-locals : goal.overflow_add-locals
 overflow_add-locals c =
-    let place = place_read c.args.group.now c.loop-entry.entry-index c.entry-item.result c.entry-item.is (omega arith) c.place-place.ensures in
+    let place = c.place_of-place.ensures in
     omega (arith, summing_locals c.loop-entry.invariant (omega arith) (rw place at c.clause_variables-locals.ensures) c.requires)
 
 pub overflow_add-size : goal.overflow_add-size
 overflow_add-size c =
-    let place = place_read c.args.group.now c.loop-entry.entry-index c.entry-item.result c.entry-item.is (omega arith) c.place-place.ensures in
+    let place = c.place_of-place.ensures in
     omega (arith, summing_size c.loop-entry.invariant (omega arith) (rw place at c.clause_size-size.ensures) c.requires)
 
 pub loop-entry-preserved : goal.loop-entry-preserved
 loop-entry-preserved c =
-    let place = place_read c.args.group.now c.loop-entry.entry-index c.entry-item.result c.entry-item.is (omega arith) c.place-place.ensures in
+    let place = c.place_of-place.ensures in
     summing_next c.loop-entry.invariant (omega arith) (rw place at c.clause_variables-locals.ensures) (rw place at c.clause_size-size.ensures)
 
 pub returns : goal.returns

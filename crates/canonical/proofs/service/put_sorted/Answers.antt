@@ -6,4 +6,4 @@ pub list_clauses-requires : goal.list_clauses-requires
 list_clauses-requires c = clauses_stand _ c.type_inv.s c.requires.accepted _ c.requires.table_len
 
 pub put_program-requires-clause-remaining : goal.put_program-requires-clause-remaining
-put_program-requires-clause-remaining c = ordered_remaining c.type_inv.s c.requires.accepted (c.list_clauses.ensures (clauses_stand _ c.type_inv.s c.requires.accepted _ c.requires.table_len)) c.sort.ensures.picked
+put_program-requires-clause-remaining c = ordered_remaining c.type_inv.s c.requires.accepted (c.list_clauses.ensures (clauses_stand _ c.type_inv.s c.requires.accepted _ c.requires.table_len)) (λ d b. c.sort.ensures)

@@ -1,7 +1,7 @@
-use Rattle.std.proofs.Common.{◌≡◌, ◌≤◌, length, take, List}
+use Rattle.std.proofs.Common.{◌≡◌, ◌≤◌, length, List}
 use Rattle.reader.specs.Items.Items.{Item}
 use Rattle.reader.specs.Items.Tabled.{Tabled}
-use Rattle.reader.specs.Items.Variables.{range_words, RangesInside, Numbering}
+use Rattle.reader.specs.Items.Variables.{range_words, RangesInside, first_ranges, Numbering}
 use Rattle.reader.proofs.variables.number_variables.Given as goal
 
 abbrev pub invariant-loop-k : goal.invariant-loop-k
@@ -10,6 +10,6 @@ invariant-loop-k l = record {
   few : l.met ≤ 64;
   kept : length l.variables ≡ length l.initial.variables;
   room : length l.ranges ≡ 64;
-  inside : RangesInside l.s (take l.met l.ranges);
-  numbering : (is : List Item) → Tabled l.s l.roles (length l.roles) is → Numbering l.s is l.variables l.at l.k (range_words l.s (take l.met l.ranges));
+  inside : RangesInside l.s (first_ranges l.ranges l.met);
+  numbering : (is : List Item) → Tabled l.s l.roles (length l.roles) is → Numbering l.s is l.variables l.at l.k (range_words l.s (first_ranges l.ranges l.met));
 }

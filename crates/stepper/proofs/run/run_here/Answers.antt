@@ -1,7 +1,7 @@
 use mathlib.Core.Path.{refl}
 use native.Mathlib.Omega.{arith}
 use Rattle.records.specs.Format.HeadLaws.{front_known}
-use Rattle.stepper.specs.Run.RunLoopLaws.{standing_first, ran_held}
+use Rattle.stepper.specs.Run.RunLoopLaws.{standing_first, ran_unlogged}
 use borrow.Author.Rules.{rules}
 use Rattle.stepper.proofs.run.run_here.Goals as goal
 
@@ -12,4 +12,4 @@ run_on-requires c = let known = front_known c.args.len c.args.here.now (search r
 pub returns : goal.returns
 returns c =
     let known = front_known c.args.len c.args.here.now (search rules) in
-    λ w. ran_held c.type_inv.program known w c.args.order c.args.steps (c.run_on.ensures (standing_first c.args.order _ known w c.requires.len_in_bounds.0 refl c.requires.ends_of c.started.ensures)) refl (search rules)
+    λ w. ran_unlogged c.type_inv.program known w c.args.order c.args.steps (c.run_on.ensures (standing_first c.args.order _ known w c.requires.len_in_bounds.0 refl c.requires.ends_of c.started.ensures)) refl (search rules)

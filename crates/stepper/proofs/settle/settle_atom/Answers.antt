@@ -23,7 +23,7 @@ returns-in_err-body c =
     let l = c.requires.in_bounds in
     let h = body_told_as ((rw c.goal_frame.ensures at c.atom_body.ensures) (accepted_program _ c.type_inv.program d.definitions d.reads) (goal_atom c.type_inv.event w)) c.in_err-body.was in
     let r = err_from_is_err_and c.from_residual.result c.from_residual.ensures.1 in
-    let same : r.0 ≡ as_refusal c.in_err-body.field-0.0 = r.2 in
+    let same : r.0 ≡ as_refusal c.in_err-body.field-0.0 = r.2.0 in
     rw (r.1, same) (atom_refused c.type_inv.event w p q up dp d.definitions g _ l _ h (λ e. lent_kept g _ l e))
 
 pub emit_event-requires : goal.emit_event-requires

@@ -29,7 +29,7 @@ returns-in_err-unifier c =
     let l = c.requires.in_bounds in
     let h = told_as ((rw (c.first.ensures, c.second.ensures) at c.unifier_under.ensures) (equality_bets c.type_inv.event w) (equality_left c.type_inv.event w) (equality_right c.type_inv.event w)) c.in_err-unifier.was in
     let r = err_from_is_err_and c.from_residual.result c.from_residual.ensures.1 in
-    let same : r.0 ≡ as_refusal c.in_err-unifier.field-0.0 = r.2 in
+    let same : r.0 ≡ as_refusal c.in_err-unifier.field-0.0 = r.2.0 in
     rw (r.1, same) (equality_refused c.type_inv.event w p q cp fp g _ l _ h (λ e. lent_kept g _ l e))
 
 pub emit_event-requires : goal.emit_event-requires

@@ -46,7 +46,7 @@ returns-in_err-atom_goal c =
     let d = program_open (read_program c.args.program.now) (told_zero _ c.program_door.ensures c.in_ok-program_door.was) refl in
     let t = event_open (read_event c.args.event.now) (told_zero _ c.event_door.ensures c.in_ok-event_door.was) refl in
     let q = atom_found c.args.event.now c.type_inv.event t.0 t.1 (sym c.goal_head.ensures ∙ c.in-Some.is ∙ ap Some c.in-Atom.is) in
-    rw (p.1, p.2) (body_replied q d.0 d.1 (c.atom_goal.ensures (accepted_program _ c.type_inv.program d.0 d.1) q) (ap body_told c.in_err-atom_goal.was))
+    rw (p.1, p.2.0) (body_replied q d.0 d.1 (c.atom_goal.ensures (accepted_program _ c.type_inv.program d.0 d.1) q) (ap body_told c.in_err-atom_goal.was))
 
 pub returns : goal.returns
 returns c =

@@ -21,7 +21,7 @@ returns-in_err-unifier_under c =
     let i = c.event_places-places.ensures (equality_event c.requires) c.requires.read in
     let m = sym c.term_end.ensures ∙ c.in-Some.is in
     let p = err_from_is_err_and c.from_residual.result c.from_residual.ensures.1 in
-    rw (p.1, p.2) (unifier_replied c.requires (c.unifier_under.ensures (bets_there c.type_inv.event c.requires i) (left_there c.type_inv.event c.requires i m) (right_there c.type_inv.event c.requires i m)) (ap unifier_told c.in_err-unifier_under.was))
+    rw (p.1, p.2.0) (unifier_replied c.requires (c.unifier_under.ensures (bets_there c.type_inv.event c.requires i) (left_there c.type_inv.event c.requires i m) (right_there c.type_inv.event c.requires i m)) (ap unifier_told c.in_err-unifier_under.was))
 
 pub returns : goal.returns
 returns c =

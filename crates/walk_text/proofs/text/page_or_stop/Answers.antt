@@ -1,5 +1,3 @@
-use Rattle.std.proofs.Common.{arith}
-use Rattle.records.specs.Writing.PatchedLaws.{put_length}
 use Rattle.walk_text.specs.RestLaws.{page_stops}
 use Rattle.walk_text.proofs.text.page_or_stop.Goals as goal
 
@@ -7,6 +5,4 @@ pub returns-in-Ok : goal.returns-in-Ok
 returns-in-Ok c = λ program query whole before most filled. rw c.in-Ok.is at filled
 
 pub returns-in-Err : goal.returns-in-Err
-returns-in-Err c = λ program query whole before most filled.
-    let stop = c.put_stop.ensures in
-    page_stops filled c.in-Err.is stop.put (omega (arith, put_length stop.put, stop.within))
+returns-in-Err c = λ program query whole before most filled. page_stops filled c.in-Err.is (rw c.number.ensures at c.stop_page.ensures program query most)

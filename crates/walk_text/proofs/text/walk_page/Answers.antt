@@ -30,7 +30,7 @@ pub returns-in_default : goal.returns-in_default
 returns-in_default c =
     let n : length c.args.page.now ≡ 65536 = search rules in
     let put = c.put_lines-used.ensures in
-    let stop = rw c.outcome.ensures at c.put_stop.ensures in
+    let stop = rw (c.outcome_number.ensures, c.outcome.ensures) at c.put_stop.ensures in
     let fit = lines_fit c.requires.both_passed c.args.first c.requires.first_le_step_limit (search rules) (rw c.walk_order.ensures at (c.run_from-end.ensures c.requires.both_passed)) n c.requires.at_bound put.put put.within in
     λ w query.
     page_ends w c.args.first c.requires.first_le_step_limit (search rules) (rw c.walk_order.ensures at (c.run_from-end.ensures w)) (not_full _ c.in_default.not-Full) put.put stop.put (omega (arith, fit, put_length stop.put, stop.within))

@@ -3,10 +3,11 @@ ghost use Rattle.std.specs.Prelude.{◌≡◌};
 ghost use Rattle.records.specs.Gate.RecordRules.{every};
 ghost use Rattle.text.specs.Grammar.{alphanumeric, blank, mark, text_byte};
 
+// By `|`: most bytes of a text are letters, and of these it costs one test. With `||` a letter passes three.
 pub fn is_alphanumeric(b: u8) -> bool
     ensures { result ≡ alphanumeric b }
 {
-    b.is_ascii_lowercase() || b.is_ascii_uppercase() || b.is_ascii_digit() || b == b'_'
+    b.is_ascii_lowercase() | (b.is_ascii_uppercase() | (b.is_ascii_digit() | (b == b'_')))
 }
 
 pub fn is_blank(b: u8) -> bool

@@ -1,15 +1,15 @@
 -- What the code that looks for ends returns, from what a head or a callee said.
-use Rattle.std.specs.Prelude.{Option, Some, None}
+use Rattle.std.specs.Prelude.{Option, Some, None, IfSome}
 use Prim.Native.Nat.{ℕ, ◌+◌, ◌-◌, ◌≤◌}
 use native.Mathlib.Nat.{add-zero}
 use native.Mathlib.Omega.{arith}
-use mathlib.Core.Path.{◌≡◌, sym, ◌∙◌}
+use mathlib.Core.Path.{◌≡◌, refl, sym, ◌∙◌}
 use mathlib.Core.List.{List}
 use lib.ListN.{length}
 use Rattle.records.specs.Format.Heads.{term_head_at, goal_head_at}
 use Rattle.records.specs.Format.HeadLaws.{Known}
 use Rattle.records.specs.Ends.Traversal.{end_at}
-use Rattle.records.specs.Ends.EndLaws.{end_step, end_by_heads, end_then, end_never, end_bound}
+use Rattle.records.specs.Ends.EndLaws.{onward, end_step, end_by_heads, end_then, end_never, end_bound}
 use Rattle.records.specs.declared.heads.TermHead.{TermHead}
 use Rattle.records.specs.declared.heads.TermHead.TheVariants.{Variable, Symbol}
 
@@ -44,6 +44,27 @@ module _ (s : List ℕ) (at : ℕ) (known : Known s) {f : Option ℕ} (is : f �
 
   pub args_bound : {e : ℕ} → f ≡ Some e → (at + 3 ≤ e) × (e ≤ length s + (at - length s))
   args_bound {e} q = let w = end_bound s at known 1 0 e (sym is ∙ q) in (omega arith, w.1)
+
+  -- the others go on from there, if the first one ends
+  pub args_on : (k : ℕ) → (k ≡ 0 → ⊥) → end_at s at k 0 ≡ onward f (λ e. end_at s e (k - 1) 0)
+  args_on k nz = go f refl
+    where
+      go : (o : Option ℕ) → f ≡ o → end_at s at k 0 ≡ onward o (λ e. end_at s e (k - 1) 0)
+      go None q = sym (args_stop k q nz)
+      go (Some e) q = sym (args_more k q nz refl)
+
+  -- and never before a place that the first one starts behind
+  pub args_ahead : {a : ℕ} → a ≤ at → IfSome f (λ e. a ≤ e)
+  args_ahead {a} l = go f refl
+    where
+      go : (o : Option ℕ) → f ≡ o → IfSome o (λ e. a ≤ e)
+      go None q = tt
+      go (Some e) q = omega (arith, (args_bound q).0)
+
+-- where no more terms follow
+pub args_done : (s : List ℕ) (k : ℕ) (o : Option ℕ) → k ≡ 0 → onward o (λ e. end_at s e k 0) ≡ o
+args_done s k None e = refl
+args_done s k (Some at) e = sym (no_args s at k e)
 
 -- f is where k terms end that g goals follow
 module _ (s : List ℕ) (at : ℕ) (known : Known s) {f : Option ℕ} (k : ℕ) (is : f ≡ end_at s at k 0) where

@@ -1,4 +1,5 @@
 // Where what stands at a position ends. Terms and argument lists call each other over fewer and fewer bytes; all else is gone through without recursion.
+// Whoever reads a row names its kind: what a row is gone through by is inlined there, so that no turn of the loop asks for the kind.
 ghost use Rattle.std.specs.Prelude.{◌≡◌, ◌≤◌};
 ghost use Rattle.records.specs.Format.Items.{many, read_ancestor, read_binding, read_bet, read_definition, read_clause};
 ghost use Rattle.records.specs.Ends.Traversal.{position, end_at, end_of};
@@ -17,26 +18,29 @@ pub fn position(found: Option<usize>) -> usize
     found.unwrap_or(0)
 }
 
-// A term.
+// A term. A constant makes no call.
 #[cycle(args_end_term_end)]
 pub fn term_end(s: &[u8], at: usize) -> Option<usize>
     ensures { result ≡ end_at s.now at 1 0 }
 {
     match term_head(s, at)? {
         TermHead::Variable(_) => Some(at + 3),
+        TermHead::Symbol(_, 0) => Some(at + 4),
         TermHead::Symbol(_, k) => args_end(s, at + 4, k),
     }
 }
 
-// An argument list of k terms.
+// An argument list of k terms. The end so far goes from turn to turn as it was told: with a place in its stead, each level of nested terms would take half
+// as much stack again.
 #[cycle(args_end_term_end)]
 pub fn args_end(s: &[u8], at: usize, k: usize) -> Option<usize>
     ensures { result ≡ end_at s.now at k 0 }
 {
-    if k == 0 {
-        return Some(at);
+    let mut end = Some(at);
+    for _ in 0..k {
+        end = term_end(s, end?);
     }
-    args_end(s, term_end(s, at)?, k - 1)
+    end
 }
 
 // What follows a goal's own head and terms: from where on, and how many goals the head announced.
@@ -93,6 +97,7 @@ pub fn parts_end(s: &[u8], at: usize, k: usize, g: usize) -> Option<usize>
     goals_end(s, args_end(s, at, k)?, g)
 }
 
+#[inline(always)]
 pub fn ancestor_end(s: &[u8], at: usize) -> Option<usize>
     ensures { result ≡ end_of read_ancestor s.now at }
 {
@@ -120,6 +125,7 @@ pub fn bindings_end(s: &[u8], at: usize, n: usize) -> Option<usize>
     Some(pos)
 }
 
+#[inline(always)]
 pub fn bet_end(s: &[u8], at: usize) -> Option<usize>
     ensures { result ≡ end_of read_bet s.now at }
 {
@@ -153,6 +159,7 @@ pub enum Item {
     Clause,
 }
 
+#[inline(always)]
 pub fn item_end(s: &[u8], at: usize, item: Item) -> Option<usize>
     ensures { result ≡ item_end item s.now at }
 {
@@ -165,6 +172,7 @@ pub fn item_end(s: &[u8], at: usize, item: Item) -> Option<usize>
 }
 
 // A row of n items of one kind.
+#[inline(always)]
 pub fn items_end(s: &[u8], at: usize, item: Item, n: usize) -> Option<usize>
     ensures { result ≡ items_end item n s.now at }
 {

@@ -55,6 +55,7 @@ fn counted_end(s: &[u8], at: usize, item: Item) -> Option<usize>
     items_end(s, at + 2, item, n)
 }
 
+#[inline(always)]
 fn counted_kept(s: &[u8], at: usize, item: Item) -> bool
     requires { Ends (counted_end item s.now at) }
     ensures { result ≡ counted_kept item s.now at }

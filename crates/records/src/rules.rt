@@ -206,6 +206,7 @@ fn bet_kept(s: &[u8], at: usize) -> bool
     }
 }
 
+#[inline(always)]
 fn item_kept(s: &[u8], at: usize, item: Item) -> bool
     requires { Ends (item_end item s.now at) }
     ensures { result ≡ item_kept item s.now at }
@@ -219,6 +220,7 @@ fn item_kept(s: &[u8], at: usize, item: Item) -> bool
 }
 
 // The rules of each of n items of one kind.
+#[inline(always)]
 pub fn items_kept(s: &[u8], at: usize, item: Item, n: usize) -> bool
     requires { Ends (items_end item n s.now at) }
     ensures { result ≡ items_kept item n s.now at }

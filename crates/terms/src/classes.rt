@@ -1,10 +1,12 @@
 // Classes of nodes: rep[i] is the representative of node i's class. Representatives and sizes are tables of their own beside the nodes, since they are
 // changed while the nodes are only read.
 ghost use Rattle.std.specs.Prelude.{◌≡◌, ◌<◌, length};
-ghost use Rattle.terms.specs.Classes.Nodes.{Table};
+ghost use Rattle.terms.specs.Classes.Nodes.{IsSymbol, Table};
 ghost use Rattle.terms.specs.Classes.ClassState.{
   State,
   Relabelled,
+  NoneBelow,
+  KeptBelow,
   Preferred,
   Unitable,
   United,
@@ -25,10 +27,11 @@ pub enum Comparison {
     Differ(usize, usize),
 }
 
+// Where two classes have become one, no node before the one that is told has ceased to agree with its representative.
 #[derive(Clone, Copy)]
 pub enum Turn {
     Fine,
-    Joined,
+    Joined(usize),
     Stuck,
 }
 
@@ -41,6 +44,32 @@ fn relabel(rep: &mut [usize], a: usize, b: usize)
             *r = a;
         }
     }
+}
+
+// The first node of class b if a symbol represents it: nodes of variables have nothing to agree in.
+fn first_of_class(table: &[Node], rep: &[usize], b: usize) -> usize
+    requires { b < length table.now }
+    ensures { IsSymbol table.now b → NoneBelow rep.now b result }
+{
+    let NodeKind::Symbol(_) = table[b].kind else {
+        return rep.len();
+    };
+    for (i, r) in rep.iter().enumerate() {
+        if *r == b {
+            return i;
+        }
+    }
+    rep.len()
+}
+
+// Put class b into class a, and tell the first node that was in b.
+fn put_class(table: &[Node], rep: &mut [usize], a: usize, b: usize) -> usize
+    requires { b < length table.now }
+    ensures { Relabelled a b rep.old rep.new × KeptBelow table.now result rep.old rep.new }
+{
+    let first = first_of_class(table, rep, b);
+    relabel(rep, a, b);
+    first
 }
 
 // Whether a is to represent the class of both: a symbol before a variable, and of variables the lower.
@@ -56,16 +85,16 @@ fn preferred(table: &[Node], a: usize, b: usize) -> bool
 }
 
 // Make one class of the classes of p and q.
-fn unite(table: &[Node], rep: &mut [usize], p: usize, q: usize)
+fn unite(table: &[Node], rep: &mut [usize], p: usize, q: usize) -> usize
     requires { Unitable table.now rep.old p q }
-    ensures { United table.now p q rep.old rep.new }
+    ensures { United table.now p q rep.old rep.new × KeptBelow table.now result rep.old rep.new }
 {
     let a = rep[p];
     let b = rep[q];
     if preferred(table, a, b) {
-        relabel(rep, a, b);
+        put_class(table, rep, a, b)
     } else {
-        relabel(rep, b, a);
+        put_class(table, rep, b, a)
     }
 }
 
@@ -97,7 +126,8 @@ fn compare(table: &[Node], rep: &[usize], i: usize, r: usize) -> Comparison
     Comparison::Same
 }
 
-// One turn at node i. The terms at s and t are to be made equal.
+// One turn at node i. The terms at s and t are to be made equal. Of two symbols the representative's child goes on representing, so that mostly no node
+// before i has to be looked at again.
 fn visit(table: &[Node], rep: &mut [usize], i: usize, s: usize, t: usize) -> Turn
     requires table { Table table.now }
     requires state { State table.now s t rep.old }
@@ -111,14 +141,11 @@ fn visit(table: &[Node], rep: &mut [usize], i: usize, s: usize, t: usize) -> Tur
     match compare(table, rep, i, r) {
         Comparison::Clash => Turn::Stuck,
         Comparison::Same => Turn::Fine,
-        Comparison::Differ(p, q) => {
-            unite(table, rep, p, q);
-            Turn::Joined
-        }
+        Comparison::Differ(p, q) => Turn::Joined(unite(table, rep, q, p)),
     }
 }
 
-// Close the classes: false where no substitution makes the terms at s and t equal. No `for`: a join begins again at the first node.
+// Close the classes: false where no substitution makes the terms at s and t equal. No `for`: a join goes back to the first node that it touches.
 pub fn close(table: &[Node], rep: &mut [usize], s: usize, t: usize) -> bool
     requires table { Table table.now }
     requires state { State table.now s t rep.old }
@@ -129,7 +156,7 @@ pub fn close(table: &[Node], rep: &mut [usize], s: usize, t: usize) -> bool
         match visit(table, rep, i, s, t) {
             Turn::Stuck => return false,
             Turn::Fine => i += 1,
-            Turn::Joined => i = 0,
+            Turn::Joined(first) => i = i.min(first),
         }
     }
     true
@@ -144,7 +171,7 @@ fn first(table: &[Node], i: usize) -> usize
         return i;
     };
     for (j, node) in table[..i].iter().enumerate() {
-        if node.kind == NodeKind::Variable && node.number == table[i].number {
+        if node.number == table[i].number && node.kind == NodeKind::Variable {
             return j;
         }
     }

@@ -52,6 +52,14 @@ pub record Relabelled (a b : ℕ) (old new : List ℕ) : Type 0 where
   pub long : length new ≡ length old
   pub each : (i : ℕ) → i < length old → at new i ≡ merged a b (at old i)
 
+-- no node below m is in class b
+abbrev pub NoneBelow : List ℕ → ℕ → ℕ → Type 0
+NoneBelow rep b m = (k : ℕ) → k < m → at rep k ≡ b → ⊥
+
+-- the nodes below m that a symbol represents keep their representatives
+abbrev pub KeptBelow : Nodes → ℕ → List ℕ → List ℕ → Type 0
+KeptBelow n m old new = (k : ℕ) → k < m → k < length old → IsSymbol n (at old k) → at new k ≡ at old k
+
 -- which of a and b is to represent both
 unfoldable pub Preferred : Nodes → ℕ → ℕ → Bool → Type 0
 Preferred n a b true = Better n a b
@@ -94,15 +102,20 @@ NodesCompared n rep i r (Differ p q) =
 abbrev pub AgreesWithRepresentative : Nodes → List ℕ → ℕ → Type 0
 AgreesWithRepresentative n rep i = IsSymbol n i → NodesCompared n rep i (at rep i) Same
 
+-- the nodes below m that agreed with their representatives still do
+abbrev pub StillAgree : Nodes → ℕ → List ℕ → List ℕ → Type 0
+StillAgree n m old new = (k : ℕ) → k < m → In n k → AgreesWithRepresentative n old k → AgreesWithRepresentative n new k
+
 -- how many nodes from k on represent themselves
 abbrev pub roots : ℕ → List ℕ → ℕ
 roots k [] = 0
 roots k (x ∷ l) = ite (ℕ_discrete x k) 1 0 + roots (suc k) l
 
--- one turn at node i: it agrees with its representative, or two classes have become one, or there is no unifier
+-- one turn at node i: it agrees with its representative, or two classes have become one and no node below m has ceased to agree, or there is no
+-- unifier
 unfoldable pub Visited : Nodes → ℕ → ℕ → ℕ → List ℕ → List ℕ → Turn → Type 0
 Visited n s t i old new Fine = (new ≡ old) × AgreesWithRepresentative n old i
-Visited n s t i old new Joined = State n s t new × (roots 0 new < roots 0 old)
+Visited n s t i old new (Joined m) = State n s t new × (roots 0 new < roots 0 old) × StillAgree n m old new
 Visited n s t i old new Stuck = Apart n s t
 
 -- every node agrees with its representative

@@ -1,6 +1,6 @@
 -- Closing the classes: what comparing a node with its representative tells, uniting two classes, and the loop over all nodes.
-use Rattle.std.specs.Prelude.{◌≡◌, refl, ◌⊎◌, Bool, true, false, ℕ, suc, ◌+◌, ◌-◌, ◌*◌, ◌≤◌, ◌<◌, leb}
-use Rattle.std.proofs.Common.{sym, ◌∙◌, mul-le-mul_right, arith, below_more, leb-true, leb-false}
+use Rattle.std.specs.Prelude.{◌≡◌, refl, ◌⊎◌, [], ◌∷◌, map, Bool, true, false, ℕ, suc, ◌+◌, ◌-◌, ◌*◌, ◌≤◌, ◌<◌, min, leb}
+use Rattle.std.proofs.Common.{sym, ◌∙◌, ap, mul-le-mul_right, arith, below_more, leb-true, leb-false}
 use Rattle.std.proofs.Math.Path.{subst}
 use Rattle.std.proofs.Math.Logic.{inl, inr}
 use mathlib.Core.List.{List}
@@ -12,7 +12,7 @@ use Rattle.terms.specs.declared.classes.Turn.{Turn}
 use Rattle.terms.specs.declared.classes.Turn.TheVariants.{Fine, Joined, Stuck}
 use Rattle.terms.specs.Theory.Substitution.{Substitution, substitute_all}
 use Rattle.terms.specs.Theory.Mgu.{Unifies}
-use Rattle.terms.specs.Classes.Nodes.{at, Nodes, count, In, node_number, IsVariable, IsSymbol, Children, Table, terms_at, Graph}
+use Rattle.terms.specs.Classes.Nodes.{at, Nodes, count, In, node_number, node_next, IsVariable, IsSymbol, Path, Children, Table, terms_at, Graph}
 use Rattle.terms.specs.Classes.NodesLaws.{not_both}
 use Rattle.terms.specs.Classes.Classes.{Respects}
 use Rattle.terms.specs.Classes.ClassesLaws.{same_children, paired_equal, same_class}
@@ -22,18 +22,22 @@ use Rattle.terms.specs.Classes.ClassState.{
   Better,
   Partition,
   State,
+  merged,
   Relabelled,
+  NoneBelow,
+  KeptBelow,
   Preferred,
   Unitable,
   United,
   Comparable,
   NodesCompared,
   AgreesWithRepresentative,
+  StillAgree,
   roots,
   Visited,
   Ended,
 }
-use Rattle.terms.specs.Classes.RelabelLaws.{relabelled_fewer, relabelled_one, relabelled_joined, relabelled_partition}
+use Rattle.terms.specs.Classes.RelabelLaws.{merged_other, relabelled_fewer, relabelled_one, relabelled_joined, relabelled_partition}
 
 -- of two variables the one with the lower number is preferred
 pub preferred_lower : (n : Nodes) (a b : ℕ) → IsVariable n a → IsVariable n b → Preferred n a b (leb (node_number n a) (node_number n b))
@@ -69,6 +73,19 @@ module _ (n : Nodes) (p q : ℕ) (old new : List ℕ) (r : Bool) (k : Preferred 
   united_right e l =
       let b : Better n (at old q) (at old p) = rw e at k in
       record { kept = at old q; gone = at old p; which = inr (refl, refl); better = b; labels = l }
+
+-- the order of the two is one
+pub united_other : {n : Nodes} {p q : ℕ} {old new : List ℕ} → United n p q old new → United n q p old new
+united_other u = record {
+  kept = u.kept;
+  gone = u.gone;
+  which = elim u.which [ inl e ↦ inr e | inr e ↦ inl e ];
+  better = u.better;
+  labels = u.labels;
+}
+
+pub unitable_other : {n : Nodes} {p q : ℕ} {rep : List ℕ} → Unitable n rep p q → Unitable n rep q p
+unitable_other u = record { p_in = u.q_in; q_in = u.p_in; p_rep = u.q_rep; q_rep = u.p_rep }
 
 -- what uniting the classes of p and q gives: where s and t were in one class they still are, p and q are, and there are fewer classes
 pub record Unites (n : Nodes) (s t p q : ℕ) (old new : List ℕ) : Type 0 where
@@ -106,6 +123,34 @@ module _ (n : Nodes) (s t : ℕ) (old new : List ℕ) (part : Partition n s t ol
           let z = unites_into q p lq lp (λ z. other (sym z)) (λ children term g θ k. sym (whole children term g θ k))
           (rw (e.0, e.1) at x) (rw (e.0, e.1) at r) in
           record { partition = z.partition; still = z.still; one = sym z.one; fewer = z.fewer }
+
+-- where class b is put into another and no node below m is in it, the nodes below m keep theirs
+pub kept_below : (n : Nodes) (old new : List ℕ) (a b m : ℕ) → Relabelled a b old new → (IsSymbol n b → NoneBelow old b m) → KeptBelow n m old new
+kept_below n old new a b m r below k l i h = r.each k i ∙ merged_other a b (at old k) (λ e. below (subst (IsSymbol n) e h) k l e)
+
+-- what a function makes of old labels it makes of a row of them
+path_labels : (n : Nodes) (old new : ℕ → ℕ) (f : ℕ → ℕ) (p e : ℕ) (cs : List ℕ) → ((c : ℕ) → c < e → new c ≡ f (old c)) → Path n p e cs
+    → map new cs ≡ map f (map old cs)
+path_labels n old new f p e [] h k = refl
+path_labels n old new f p e (c ∷ cs) h k =
+    let x : new c ≡ f (old c) = h c (omega (arith, k.0, k.1)) in
+    let y : map new cs ≡ map f (map old cs) = path_labels n old new f (node_next n p) e cs h k.2 in
+    cc
+
+-- a node that keeps its representative agrees with it as before
+module _ (n : Nodes) (s t : ℕ) (table : Table n) (old new : List ℕ) (part : Partition n s t old) (m : ℕ) (kept : KeptBelow n m old new) where
+  module _ (p q : ℕ) (u : United n p q old new) where
+    labels : (i : ℕ) → In n i → (cs : List ℕ) → Children n i cs → map (at new) cs ≡ map (merged u.kept u.gone) (map (at old) cs)
+    labels i l cs h =
+        let z = table.within i l in
+        path_labels n (at old) (at new) (merged u.kept u.gone) (i + 1) (node_next n i) cs (λ c k. u.labels.each c (omega (arith, part.long))) h
+
+    pub still_agree : StillAgree n m old new
+    unfolding NodesCompared
+    still_agree k l i agrees h =
+        let was : NodesCompared n old k (at old k) Same = agrees h in
+        rw (kept k l (omega (arith, part.long)) ((part.better k i).symbols h))
+        (was.0, λ cs ds x y. labels k i cs x ∙ ap (map (merged u.kept u.gone)) (was.1 cs ds x y) ∙ sym (labels (at old k) (part.inside k i) ds y))
 
 -- two nodes of a partition may be united
 pub unitable : (n : Nodes) (s t : ℕ) (rep : List ℕ) → Partition n s t rep → (p q : ℕ) → In n p → In n q
@@ -187,11 +232,11 @@ module _ (n : Nodes) (s t : ℕ) (rep : List ℕ) (st : State n s t rep) where
         pub differ_unitable : Unitable n rep p q
         differ_unitable = unitable n s t rep st.partition p q pair.0.0 pair.0.1
 
-        pub turned_joined : (new : List ℕ) → United n p q rep new → Visited n s t i rep new Joined
+        pub turned_joined : (new : List ℕ) → United n p q rep new → (m : ℕ) → StillAgree n m rep new → Visited n s t i rep new (Joined m)
         unfolding Visited
-        turned_joined new u =
+        turned_joined new u m still =
             let z = united_unites n s t rep new st.partition p q pair.0.0 pair.0.1 pair.1.0 pair.1.1 u in
-            (record { partition = z.partition; joined = z.still st.joined }, z.fewer)
+            (record { partition = z.partition; joined = z.still st.joined }, z.fewer, still)
 
 -- a variable's node has nothing to agree in
 pub turned_variable : (n : Nodes) (s t i : ℕ) (rep : List ℕ) → IsVariable n i → Visited n s t i rep rep Fine
@@ -220,16 +265,24 @@ module _ (n : Nodes) (s t i : ℕ) (rep new : List ℕ) (o : Turn) (h : Visited 
   unfolding Visited
   fine e = subst (Visited n s t i rep new) e h
 
-  joined : o ≡ Joined → State n s t new × (roots 0 new < roots 0 rep)
+  joined : (m : ℕ) → o ≡ Joined m → State n s t new × (roots 0 new < roots 0 rep) × StillAgree n m rep new
   unfolding Visited
-  joined e = subst (Visited n s t i rep new) e h
+  joined m e = subst (Visited n s t i rep new) e h
 
   pub closing_fine : o ≡ Fine → Closing n s t rep i → In n i → Closing n s t new (i + 1)
   closing_fine e c l =
       rw (fine e).0 (record { state = c.state; bound = omega arith; settled = below_more _ _ c.settled (fine e).1 })
 
-  pub closing_joined : o ≡ Joined → Closing n s t new 0
-  closing_joined e = closing_start n s t new (joined e).0
+  pub closing_joined : (m : ℕ) → o ≡ Joined m → Closing n s t new 0
+  closing_joined m e = closing_start n s t new (joined m e).0
+
+  -- the nodes below m agree as they did
+  pub closing_back : (m : ℕ) → o ≡ Joined m → Closing n s t rep i → (j : ℕ) → j ≤ min i m → Closing n s t new j
+  closing_back m e c j x = record {
+    state = (closing_joined m e).state;
+    bound = omega (arith, c.bound, x);
+    settled = λ k l. (joined m e).2 k (omega (arith, x)) (omega (arith, c.bound, x)) (c.settled k (omega (arith, x)));
+  }
 
   pub closing_stuck : o ≡ Stuck → (rest : List ℕ) → Ended n s t rest false
   unfolding Visited Ended
@@ -238,7 +291,7 @@ module _ (n : Nodes) (s t i : ℕ) (rep new : List ℕ) (o : Turn) (h : Visited 
   pub fine_less : o ≡ Fine → In n i → closing_left new (count n) (i + 1) < closing_left rep (count n) i
   fine_less e l = rw (fine e).0 (omega arith)
 
-  pub joined_less : o ≡ Joined → closing_left new (count n) 0 < closing_left rep (count n) i
-  joined_less e =
-      let m : suc (roots 0 new) * suc (count n) ≤ roots 0 rep * suc (count n) = mul-le-mul_right (suc (count n)) (joined e).1 in
+  pub joined_less : (m : ℕ) → o ≡ Joined m → (j : ℕ) → closing_left new (count n) j < closing_left rep (count n) i
+  joined_less m e j =
+      let z : suc (roots 0 new) * suc (count n) ≤ roots 0 rep * suc (count n) = mul-le-mul_right (suc (count n)) (joined m e).1 in
       omega arith

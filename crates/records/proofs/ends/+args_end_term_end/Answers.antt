@@ -1,22 +1,16 @@
 use Rattle.std.specs.Prelude.{Some}
-use mathlib.Core.Path.{ap, ◌∙◌}
+use mathlib.Core.Path.{refl, ap, sym, ◌∙◌}
 use native.Mathlib.Omega.{arith}
 use Rattle.records.specs.Ends.HeadRoomLaws.{term_room}
 use Rattle.records.specs.declared.heads.TermHead.TheVariants.{Variable, Symbol}
-use Rattle.records.proofs.EndSteps.{variable_end, symbol_end, no_end, no_args, args_more, args_stop, args_bound}
+use Rattle.records.proofs.EndSteps.{variable_end, symbol_end, no_end, no_args, args_on, args_ahead, args_done, one_less, no_less}
 use Rattle.records.proofs.ends.+args_end_term_end.Goals as goal
 
-pub args_end-returns-then-k-eq0 : goal.args_end-returns-then-k-eq0
-args_end-returns-then-k-eq0 t c = no_args _ _ _ c.if-k-eq0.true
+pub args_end-loop-init : goal.args_end-loop-init
+args_end-loop-init t c = (rw no_less refl, omega arith)
 
-pub args_end-returns-in_err-term_end : goal.args_end-returns-in_err-term_end
-args_end-returns-in_err-term_end t c = c.from_residual.ensures ∙ args_stop _ _ c.type_inv.s c.term_end.ensures _ c.in_err-term_end.was (omega arith)
-
-pub args_end-args_end-requires : goal.args_end-args_end-requires
-args_end-args_end-requires t c = (omega (arith, args_bound _ _ c.type_inv.s c.term_end.ensures c.in_ok-term_end.was), tt)
-
-pub args_end-returns : goal.args_end-returns
-args_end-returns t c = args_more _ _ c.type_inv.s c.term_end.ensures _ c.in_ok-term_end.was (omega arith) c.args_end.ensures
+pub args_end-term_end-end-requires : goal.args_end-term_end-end-requires
+args_end-term_end-end-requires t c = let l = rw c.in_ok-end.was at c.loop.invariant.1 in (omega (arith, l), tt)
 
 pub term_end-returns-in_err-term_head : goal.term_end-returns-in_err-term_head
 term_end-returns-in_err-term_head t c = c.from_residual.ensures ∙ no_end _ _ c.term_head.ensures c.in_err-term_head.was
@@ -35,3 +29,17 @@ term_end-returns-in-Variable t c = variable_end _ _ c.term_head.ensures (c.in_ok
 
 pub term_end-returns-in-Symbol : goal.term_end-returns-in-Symbol
 term_end-returns-in-Symbol t c = symbol_end _ _ c.term_head.ensures (c.in_ok-term_head.was ∙ ap Some c.in-Symbol.is) c.args_end.ensures
+
+pub term_end-overflow_add-result-in-Symbol-default-eq0 : goal.term_end-overflow_add-result-in-Symbol-default-eq0
+term_end-overflow_add-result-in-Symbol-default-eq0 t c = omega (arith, term_room _ _ c.type_inv.s c.term_head.ensures (Some (Symbol _ _)) (c.in_ok-term_head.was ∙ ap Some c.in-Symbol-default-eq0.is))
+
+pub term_end-returns-in-Symbol-default-eq0 : goal.term_end-returns-in-Symbol-default-eq0
+term_end-returns-in-Symbol-default-eq0 t c = symbol_end _ _ c.term_head.ensures (c.in_ok-term_head.was ∙ ap Some c.in-Symbol-default-eq0.is) (no_args _ _ _ (omega arith))
+
+pub args_end-loop-preserved : goal.args_end-loop-preserved
+args_end-loop-preserved t c =
+    let h = rw c.in_ok-end.was at c.loop.invariant in
+    (rw one_less (h.0 ∙ args_on _ _ c.type_inv.s c.term_end-end.ensures _ (omega arith)), args_ahead _ _ c.type_inv.s c.term_end-end.ensures h.1)
+
+pub args_end-returns : goal.args_end-returns
+args_end-returns t c = sym (c.loop.invariant.0 ∙ args_done _ _ _ (omega arith))

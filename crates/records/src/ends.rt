@@ -1,5 +1,5 @@
 // Where what stands at a position ends. Terms and argument lists call each other over fewer and fewer bytes; all else is gone through without recursion.
-// Whoever reads a row names its kind: what a row is gone through by is inlined there, so that no turn of the loop asks for the kind.
+// What a row is gone through by is inlined where the kind of its items is known, so that no turn of the loop asks for it.
 ghost use Rattle.std.specs.Prelude.{◌≡◌, ◌≤◌};
 ghost use Rattle.records.specs.Format.Items.{many, read_ancestor, read_binding, read_bet, read_definition, read_clause};
 ghost use Rattle.records.specs.Ends.Traversal.{position, end_at, end_of};
@@ -18,7 +18,7 @@ pub fn position(found: Option<usize>) -> usize
     found.unwrap_or(0)
 }
 
-// A term. A constant makes no call.
+// A term. Of a constant no argument list is looked for.
 #[cycle(args_end_term_end)]
 pub fn term_end(s: &[u8], at: usize) -> Option<usize>
     ensures { result ≡ end_at s.now at 1 0 }

@@ -46,7 +46,7 @@ fn relabel(rep: &mut [usize], a: usize, b: usize)
     }
 }
 
-// The first node of class b if a symbol represents it: nodes of variables have nothing to agree in.
+// The first node of class b if a symbol represents it, else the end of the table: nodes of variables have nothing to agree in.
 fn first_of_class(table: &[Node], rep: &[usize], b: usize) -> usize
     requires { b < length table.now }
     ensures { IsSymbol table.now b → NoneBelow rep.now b result }
@@ -62,7 +62,7 @@ fn first_of_class(table: &[Node], rep: &[usize], b: usize) -> usize
     rep.len()
 }
 
-// Put class b into class a, and tell the first node that was in b.
+// Put class b into class a, and tell the first symbol that may have another representative for it, or any node before that.
 fn put_class(table: &[Node], rep: &mut [usize], a: usize, b: usize) -> usize
     requires { b < length table.now }
     ensures { Relabelled a b rep.old rep.new × KeptBelow table.now result rep.old rep.new }
@@ -84,7 +84,7 @@ fn preferred(table: &[Node], a: usize, b: usize) -> bool
     }
 }
 
-// Make one class of the classes of p and q.
+// Make one class of the classes of p and q, and tell where symbols with another representative begin.
 fn unite(table: &[Node], rep: &mut [usize], p: usize, q: usize) -> usize
     requires { Unitable table.now rep.old p q }
     ensures { United table.now p q rep.old rep.new × KeptBelow table.now result rep.old rep.new }
@@ -126,8 +126,7 @@ fn compare(table: &[Node], rep: &[usize], i: usize, r: usize) -> Comparison
     Comparison::Same
 }
 
-// One turn at node i. The terms at s and t are to be made equal. Of two symbols the representative's child goes on representing, so that mostly no node
-// before i has to be looked at again.
+// One turn at node i. The terms at s and t are to be made equal.
 fn visit(table: &[Node], rep: &mut [usize], i: usize, s: usize, t: usize) -> Turn
     requires table { Table table.now }
     requires state { State table.now s t rep.old }
@@ -141,11 +140,12 @@ fn visit(table: &[Node], rep: &mut [usize], i: usize, s: usize, t: usize) -> Tur
     match compare(table, rep, i, r) {
         Comparison::Clash => Turn::Stuck,
         Comparison::Same => Turn::Fine,
-        Comparison::Differ(p, q) => Turn::Joined(unite(table, rep, q, p)),
+        Comparison::Differ(p, q) => Turn::Joined(unite(table, rep, p, q)),
     }
 }
 
-// Close the classes: false where no substitution makes the terms at s and t equal. No `for`: a join goes back to the first node that it touches.
+// Close the classes: false where no substitution makes the terms at s and t equal. No `for`: a join may go back, to the first symbol
+// that may have another representative.
 pub fn close(table: &[Node], rep: &mut [usize], s: usize, t: usize) -> bool
     requires table { Table table.now }
     requires state { State table.now s t rep.old }

@@ -24,7 +24,6 @@ use Rattle.terms.specs.Classes.ClassState.{
   State,
   merged,
   Relabelled,
-  NoneBelow,
   KeptBelow,
   Preferred,
   Unitable,
@@ -37,7 +36,7 @@ use Rattle.terms.specs.Classes.ClassState.{
   Visited,
   Ended,
 }
-use Rattle.terms.specs.Classes.RelabelLaws.{merged_other, relabelled_fewer, relabelled_one, relabelled_joined, relabelled_partition}
+use Rattle.terms.specs.Classes.RelabelLaws.{relabelled_fewer, relabelled_one, relabelled_joined, relabelled_partition}
 
 -- of two variables the one with the lower number is preferred
 pub preferred_lower : (n : Nodes) (a b : ℕ) → IsVariable n a → IsVariable n b → Preferred n a b (leb (node_number n a) (node_number n b))
@@ -73,19 +72,6 @@ module _ (n : Nodes) (p q : ℕ) (old new : List ℕ) (r : Bool) (k : Preferred 
   united_right e l =
       let b : Better n (at old q) (at old p) = rw e at k in
       record { kept = at old q; gone = at old p; which = inr (refl, refl); better = b; labels = l }
-
--- the order of the two is one
-pub united_other : {n : Nodes} {p q : ℕ} {old new : List ℕ} → United n p q old new → United n q p old new
-united_other u = record {
-  kept = u.kept;
-  gone = u.gone;
-  which = elim u.which [ inl e ↦ inr e | inr e ↦ inl e ];
-  better = u.better;
-  labels = u.labels;
-}
-
-pub unitable_other : {n : Nodes} {p q : ℕ} {rep : List ℕ} → Unitable n rep p q → Unitable n rep q p
-unitable_other u = record { p_in = u.q_in; q_in = u.p_in; p_rep = u.q_rep; q_rep = u.p_rep }
 
 -- what uniting the classes of p and q gives: where s and t were in one class they still are, p and q are, and there are fewer classes
 pub record Unites (n : Nodes) (s t p q : ℕ) (old new : List ℕ) : Type 0 where
@@ -123,10 +109,6 @@ module _ (n : Nodes) (s t : ℕ) (old new : List ℕ) (part : Partition n s t ol
           let z = unites_into q p lq lp (λ z. other (sym z)) (λ children term g θ k. sym (whole children term g θ k))
           (rw (e.0, e.1) at x) (rw (e.0, e.1) at r) in
           record { partition = z.partition; still = z.still; one = sym z.one; fewer = z.fewer }
-
--- where class b is put into another and no node below m is in it, the nodes below m keep theirs
-pub kept_below : (n : Nodes) (old new : List ℕ) (a b m : ℕ) → Relabelled a b old new → (IsSymbol n b → NoneBelow old b m) → KeptBelow n m old new
-kept_below n old new a b m r below k l i h = r.each k i ∙ merged_other a b (at old k) (λ e. below (subst (IsSymbol n) e h) k l e)
 
 -- what a function makes of old labels it makes of a row of them
 path_labels : (n : Nodes) (old new : ℕ → ℕ) (f : ℕ → ℕ) (p e : ℕ) (cs : List ℕ) → ((c : ℕ) → c < e → new c ≡ f (old c)) → Path n p e cs

@@ -1,16 +1,10 @@
 use Rattle.std.specs.Prelude.{Some}
-use mathlib.Core.Path.{refl, ap, sym, ◌∙◌}
+use mathlib.Core.Path.{ap, sym, ◌∙◌}
 use native.Mathlib.Omega.{arith}
 use Rattle.records.specs.Ends.HeadRoomLaws.{term_room}
 use Rattle.records.specs.declared.heads.TermHead.TheVariants.{Variable, Symbol}
-use Rattle.records.proofs.EndSteps.{variable_end, symbol_end, no_end, no_args, args_on, args_ahead, args_done, one_less, no_less}
+use Rattle.records.proofs.EndSteps.{variable_end, symbol_end, no_end, no_args, args_on, args_ahead, args_done, one_less}
 use Rattle.records.proofs.ends.+args_end_term_end.Goals as goal
-
-pub args_end-loop-init : goal.args_end-loop-init
-args_end-loop-init t c = (rw no_less refl, omega arith)
-
-pub args_end-term_end-end-requires : goal.args_end-term_end-end-requires
-args_end-term_end-end-requires t c = let l = rw c.in_ok-end.was at c.loop.invariant.1 in (omega (arith, l), tt)
 
 pub term_end-returns-in_err-term_head : goal.term_end-returns-in_err-term_head
 term_end-returns-in_err-term_head t c = c.from_residual.ensures ∙ no_end _ _ c.term_head.ensures c.in_err-term_head.was

@@ -3,7 +3,7 @@ use native.Mathlib.Omega.{arith}
 use lib.ListN.{length}
 use mathlib.Core.Path.{◌≡◌}
 use lib.Seq.{take-length}
-use Rattle.records.specs.Writing.PatchedLaws.{put_none, put_turn, put_length}
+use Rattle.records.specs.Writing.PatchedLaws.{put_none, put_turn}
 use Rattle.records.proofs.put.put_part.Goals as goal
 
 pub loop-j-init : goal.loop-j-init

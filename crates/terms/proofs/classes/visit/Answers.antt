@@ -1,5 +1,5 @@
 -- `visit` compares a symbol with its representative, and unites the classes of the first children that differ.
-use Rattle.terms.specs.Classes.CloseLaws.{turned_variable, turned_stuck, turned_fine, differ_unitable, turned_joined, united_other, unitable_other, still_agree}
+use Rattle.terms.specs.Classes.CloseLaws.{turned_variable, turned_stuck, turned_fine, differ_unitable, turned_joined, still_agree}
 use Rattle.terms.proofs.classes.visit.Goals as goal
 
 pub returns-in_default : goal.returns-in_default
@@ -7,7 +7,7 @@ returns-in_default c = turned_variable _ _ _ _ _ c.in_default.is
 
 pub unite-requires : goal.unite-requires
 unite-requires c =
-    unitable_other (differ_unitable _ _ _ _ c.requires.state _ c.requires.i_in_bounds (_, c.in-Symbol.is) _ c.compare.ensures _ _ c.in-Differ.is)
+    differ_unitable _ _ _ _ c.requires.state _ c.requires.i_in_bounds (_, c.in-Symbol.is) _ c.compare.ensures _ _ c.in-Differ.is
 
 pub returns-in-Clash : goal.returns-in-Clash
 returns-in-Clash c =
@@ -22,5 +22,5 @@ returns-in-Same c =
 pub returns-in-Differ : goal.returns-in-Differ
 returns-in-Differ c =
     turned_joined _ _ _ _ c.requires.state _ c.requires.i_in_bounds (_, c.in-Symbol.is) _ c.compare.ensures _ _ c.in-Differ.is _
-    (united_other c.unite.ensures.0) _
+    c.unite.ensures.0 _
     (still_agree _ _ _ c.requires.table _ _ c.requires.state.partition _ c.unite.ensures.1 _ _ c.unite.ensures.0)
